@@ -4,8 +4,8 @@ use Rattle.std.specs.Borrow.{Bor}
 use Rattle.std.specs.Prelude.{MatchOption, IsSomeAnd}
 use Rattle.std.specs.HashMap.{get}
 use Rattle.cbdc_model.specs.Records.{Batch, Record, Row, journal, record_of, kind_of, is_of, stamp_of, last_stamp, same_batch}
-use Rattle.history.specs.Rows.{journal_in, record_at}
-use Rattle.history.proofs.Rows.{at, away, at_node, head_at, head_away}
+use Rattle.audit.specs.Rows.{journal_in, record_at}
+use Rattle.audit.proofs.Rows.{at, away, at_node, head_at, head_away}
 use Rattle.audit.specs.declared.known.Known.{Known}
 use Rattle.audit.specs.Knowing.{Knows, index_of, same_key}
 

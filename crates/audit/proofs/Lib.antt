@@ -1,3 +1,7 @@
+pub mod Rows
+pub mod MergeSteps
+pub mod Places
+pub mod Journals
 pub mod Aside
 pub mod Finding
 pub mod Deciding
@@ -13,3 +17,7 @@ pub mod Spendings
 pub mod Sound
 pub mod Single
 pub mod Ordered
+pub mod Begun
+pub mod Twice
+pub mod AtRest
+pub mod Accounts

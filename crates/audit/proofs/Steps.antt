@@ -14,8 +14,8 @@ use Rattle.audit.specs.Spending.{IsFirstWrong}
 use Rattle.audit.specs.Verdicts.{Passes, IsFault, IsFirstFault, IsVerdict}
 use Rattle.audit.specs.Keeping.{HasSpent}
 use Rattle.cbdc_model.specs.Causes.{IsCaused}
-use Rattle.history.specs.declared.place.Place.{Place}
-use Rattle.history.specs.Rows.{row_at, rows_at, record_at, newest_first}
+use Rattle.audit.specs.declared.place.Place.{Place}
+use Rattle.audit.specs.Rows.{row_at, rows_at, record_at, newest_first}
 use Rattle.audit.specs.declared.known.Known.{Known}
 use Rattle.audit.specs.Knowing.{Knows}
 use Rattle.audit.specs.Walks.{IsCausedBy, AllCaused, IsFirstUncaused, IsDone, AllDone, IsFirstOpen}

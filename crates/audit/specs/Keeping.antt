@@ -7,8 +7,8 @@ use Rattle.cbdc_model.specs.Records.{Digest, same_digest, Shape, Compact, Record
 use Rattle.cbdc_model.specs.Coins.{OutPoint, Output, FullTx, tx_id, compact}
 use Rattle.cbdc_model.specs.Book.{Book, key, value}
 use Rattle.cbdc_model.specs.History.{committed}
-use Rattle.history.specs.declared.place.Place.{Place}
-use Rattle.history.specs.Rows.{rows_at, newest_first}
+use Rattle.audit.specs.declared.place.Place.{Place}
+use Rattle.audit.specs.Rows.{rows_at, newest_first}
 use Rattle.audit.specs.declared.book.Book.{Book as Kept}
 use Rattle.audit.specs.declared.handed.ById.{ById}
 use Rattle.audit.specs.declared.folding.Fold.{Fold}

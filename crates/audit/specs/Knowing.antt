@@ -2,7 +2,7 @@
 use Rattle.std.specs.Prelude.{◌≡◌, ◌<◌, ℕ, Bool, ◌&&◌, nat_eq, ◌==◌, List, length, Option, Some, None, option_map, unwrap_or, if◌then◌else◌}
 use Rattle.std.specs.HashMap.{get}
 use Rattle.cbdc_model.specs.Records.{Answered, Batch, Reply, Record, record_of, last_stamp}
-use Rattle.history.specs.Rows.{journal_in, record_at}
+use Rattle.audit.specs.Rows.{journal_in, record_at}
 use Rattle.audit.specs.declared.known.Known.{Known}
 
 -- a node, a kind, a lane and a number

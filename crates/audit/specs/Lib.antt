@@ -1,6 +1,12 @@
+pub mod Rows
+pub mod Merges
+pub mod OrderLaws
 pub mod Knowing
 pub mod Walks
 pub mod Spending
 pub mod Verdicts
 pub mod Keeping
 pub mod Laws
+pub mod Journals
+pub mod Accounts
+pub mod AccountLaws

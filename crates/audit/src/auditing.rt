@@ -5,7 +5,7 @@ ghost use Rattle.cbdc_model.specs.Records.{Compact, Record as ModelRecord};
 ghost use Rattle.cbdc_model.specs.Coins.{Output as ModelOutput};
 ghost use Rattle.cbdc_model.specs.Clean.{value_out};
 ghost use Rattle.cbdc_model.specs.History.{newly_won};
-ghost use Rattle.history.specs.Rows.{read, rows_at, IsPlace};
+ghost use Rattle.audit.specs.Rows.{read, rows_at, IsPlace};
 ghost use Rattle.audit.specs.Knowing.{Knows};
 ghost use Rattle.audit.specs.Walks.{AllDone, IsDone, IsFirstOpen};
 ghost use Rattle.audit.specs.Spending.{IsFirstWrong};
@@ -18,8 +18,8 @@ use crate::folding::Fold;
 use crate::handed::ById;
 use crate::known::Known;
 use crate::verdict::{Totals, Verdict};
+use crate::{Place, record_at};
 use cbdc_types::{CompactTx, FullTx, Output, Record, Shape, UnsoundKind};
-use history::{Place, record_at};
 use std::alloc::{AllocError, Global};
 use std::thread::Threads;
 

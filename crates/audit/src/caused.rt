@@ -5,15 +5,14 @@ ghost use Rattle.cbdc_model.specs.Replies.{entries};
 ghost use Rattle.cbdc_model.specs.Ranges.{home_of, shard_node, part, Concerned};
 ghost use Rattle.cbdc_model.specs.Outcomes.{outcomes};
 ghost use Rattle.cbdc_model.specs.Causes.{greatest, at_shards, AllHave, IsStamped, last_of, IsCaused};
-ghost use Rattle.history.specs.Rows.{read};
+ghost use Rattle.audit.specs.Rows.{read};
 ghost use Rattle.audit.specs.Knowing.{Knows};
 
 use crate::known::Known;
 use crate::outcomes::{are_decided, outcomes_by_locks};
-use batch_parts::{is_concerned, is_part_from};
+use crate::stamp_of;
 use cbdc_types::{Answered, BatchId, CompactTx, Outcome, Record, Shape};
-use history::stamp_of;
-use same_records::are_outcomes;
+use same_records::{are_outcomes, is_concerned, is_part_from};
 use std::alloc::{AllocError, Global};
 
 // The node of a batch's coordinator.

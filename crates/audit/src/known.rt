@@ -1,10 +1,10 @@
 // What is kept of the journals along a walk over a history.
 ghost use Rattle.std.specs.Prelude.{◌≡◌, ◌<◌, ◌∷◌, ◌==◌, ◌&&◌, if◌then◌else◌, [], false, ℕ, None, Some, List as Items, MatchOption, IsSomeAnd, OnOk, length};
 ghost use Rattle.cbdc_model.specs.Records.{Batch, Record as ModelRecord, Row, journal, record_of, last_stamp, stamp_of, is_of, kind_of, same_batch};
-ghost use Rattle.history.specs.Rows.{read, journal_in, record_at};
+ghost use Rattle.audit.specs.Rows.{read, journal_in, record_at};
 
+use crate::stamp_of;
 use cbdc_types::{BatchId, Record};
-use history::stamp_of;
 use std::alloc::{AllocError, Global};
 use std::collections::HashMap;
 

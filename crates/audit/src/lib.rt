@@ -1,6 +1,8 @@
-//! The checks of a ledger's history: each record is caused by those before it, and what it commits can be spent.
+//! The history of a ledger, its checks and their laws: the records of all journals in one order, by stamp and node; that each is caused by those
+//! before it, and what it commits can be spent; what a sound verdict says of the money.
 #![tactic(auto)]
 
+mod account;
 mod auditing;
 mod book;
 mod caused;
@@ -9,11 +11,18 @@ mod folding;
 mod handed;
 mod known;
 mod laws;
+mod merging;
+mod order_laws;
 mod outcomes;
+mod place;
 mod verdict;
 mod walking;
 
+pub use account::{account_law, begun_law, caused_lists_law};
 pub use auditing::audit;
 pub use laws::{caused_law, one_verdict_law, ordered_law, unspent_law};
+pub use merging::{merge, record_at, stamp_of};
+pub use order_laws::rises_law;
+pub use place::{History, Place};
 pub use verdict::{Totals, Verdict};
 pub use walking::causes;

@@ -4,7 +4,7 @@ ghost use Rattle.cbdc_model.specs.Records.{Record as ModelRecord, entries_in, Wo
 ghost use Rattle.cbdc_model.specs.Replies.{entries};
 ghost use Rattle.cbdc_model.specs.Outcomes.{reply_at, outcome_by, outcome, outcomes, won_at, decisions};
 ghost use Rattle.cbdc_model.specs.Causes.{at_shards};
-ghost use Rattle.history.specs.Rows.{read};
+ghost use Rattle.audit.specs.Rows.{read};
 ghost use Rattle.audit.specs.Knowing.{Knows, reply_with};
 
 use crate::known::Known;

@@ -1,12 +1,12 @@
 // The walk over a history.
 ghost use Rattle.std.specs.Prelude.{All, IfOk, MatchOption};
-ghost use Rattle.history.specs.Rows.{read, rows_at, newest_first, IsPlace};
+ghost use Rattle.audit.specs.Rows.{read, rows_at, newest_first, IsPlace};
 ghost use Rattle.audit.specs.Walks.{AllCaused, IsFirstUncaused};
 
 use crate::caused::is_caused;
 use crate::known::Known;
+use crate::{Place, record_at};
 use cbdc_types::{Record, Shape};
-use history::{Place, record_at};
 use std::alloc::{AllocError, Global};
 
 /// The first place of a history, counted from the oldest, whose record is not caused by those before it, or None where each is: its

@@ -10,10 +10,10 @@ use Rattle.input_files.specs.Contents.{mint_of_file, AreRead, IsNotRead, FirstNo
 use Rattle.audit.specs.declared.verdict.Totals.{Totals}
 use Rattle.audit.specs.declared.verdict.Verdict.{Verdict}
 use Rattle.audit.specs.declared.verdict.Verdict.TheVariants.{Sound, Unsound}
-use Rattle.audited_ledgers.specs.Audited.{IsAudited, HistoryHasRoom, HistoryIsHeld, IsAccountedFor}
+use Rattle.rack_ledgers.specs.Audited.{IsAudited, HistoryHasRoom, HistoryIsHeld, IsAccountedFor}
 use Rattle.file_runs.specs.Runs.{joined}
 use Rattle.printed_lines.specs.Reports.{audit_lines}
-use Rattle.rack_nodes.specs.Racked.{AreUnchanged, AreBack}
+use Rattle.rack_ledgers.specs.Racked.{AreUnchanged, AreBack}
 use Rattle.rack_ledgers.specs.Ledgers.{IsUnopenedBy}
 
 -- the files held this mint and these transactions, with which an audit of the history of the ledger that the disks tell has this verdict; each of those

@@ -1,7 +1,7 @@
 // `audit`: the journals against a mint and the transactions that were handed in.
 ghost use Rattle.std.specs.Prelude.{◌≡◌, ◌⊎◌, ◌≤◌, ℕ, IfOk, IfErr};
 ghost use Rattle.outside.specs.Counts.{Rose};
-ghost use Rattle.rack_nodes.specs.Racked.{AreBack};
+ghost use Rattle.rack_ledgers.specs.Racked.{AreBack};
 ghost use Rattle.file_runs.specs.Runs.{joined as all_joined};
 ghost use Rattle.printed_lines.specs.Reports.{audit_lines};
 ghost use Rattle.command_answers.specs.Causes.{IsFault, IsDone, IsTold, IsWell, OnePlace, OneRose, FileRose};
@@ -11,11 +11,11 @@ ghost use Rattle.line_text.specs.Lines.{Text};
 ghost use Rattle.command_answers.specs.Left.{IsBeforeDisks};
 
 use audit::{Totals, Verdict};
-use audited_ledgers::audit_on;
 use cbdc_types::{Answer, FullTx, List};
 use input_files::{all_clients_in, mint_in};
 use line_text::{AuditSummary, write_audit};
 use outside::{Inbox, Rack, Sink};
+use rack_ledgers::audit_on;
 use requests::FileWord;
 use std::alloc::{AllocError, Global};
 use std::thread::Threads;
@@ -96,7 +96,7 @@ fn print<O: Sink>(out: &mut O, totals: &Totals) -> Answer
 /// In full (clause `did` of `process`): the files held the mint and the transactions; there are a shape within its limits and rows in order, in
 /// which the journal of each node of a ledger of this mint is what its disk's content, where told, opens to, and which have no other rows, and each
 /// disk had room for its journal there with what is kept for its open batches; the one verdict of the audit of these rows is Sound, and so the
-/// money of this ledger is accounted for, as `account_law` of `audited_ledgers` says; what is printed are its four numbers; each disk is back and
+/// money of this ledger is accounted for, as `account_law` of `rack_ledgers` says; what is printed are its four numbers; each disk is back and
 /// reads as before, and whatever a crash leaves of one of the ledger that told its content opens to exactly its journal in these rows.
 pub fn audit<W: Threads + Sync, I: Inbox, R: Rack, O: Sink>(
     rt: &W,

@@ -2,10 +2,10 @@
 use Rattle.std.proofs.Common.{ℕ, List, [], refl, sym, ap, ◌∙◌}
 use Rattle.cbdc_model.specs.Records.{Record}
 use Rattle.byte_fields.proofs.Fields.{ok_is}
-use Rattle.record_codec.specs.Bodies.{body_of}
-use Rattle.record_codec.specs.Reading.{body_at}
-use Rattle.record_codec.proofs.Grammar.{fits_record, is_read}
-use Rattle.record_codec.proofs.Records.{body_read}
+use Rattle.record_log.specs.Bodies.{body_of}
+use Rattle.record_log.specs.Reading.{body_at}
+use Rattle.record_log.proofs.Grammar.{fits_record, is_read}
+use Rattle.record_log.proofs.Records.{body_read}
 use Rattle.byte_laws.specs.Bodies.{EachBodyLaw}
 
 pub each_body : EachBodyLaw

@@ -3,7 +3,7 @@ use Rattle.std.specs.Prelude.{◌≡◌, List, ℕ, [], ◌++◌}
 use Rattle.cbdc_types.specs.Limits.{IsWithinLimits}
 use Rattle.cbdc_model.specs.Records.{Header, Record}
 use Rattle.cbdc_model.specs.Grammar.{IsInGrammar}
-use Rattle.record_codec.specs.Bodies.{body_of}
+use Rattle.record_log.specs.Bodies.{body_of}
 
 -- two records have two bodies, and none is the front of another
 abbrev pub EachBodyLaw : Type 0

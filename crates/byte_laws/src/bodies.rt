@@ -1,11 +1,11 @@
 // Bodies of records, whatever headers they stand under.
 ghost use Rattle.std.specs.Prelude.{◌≡◌, IfOk};
-ghost use Rattle.record_codec.specs.Bodies.{body_of};
-ghost use Rattle.record_codec.specs.Exact.{IsFirst, Reads};
+ghost use Rattle.record_log.specs.Bodies.{body_of};
+ghost use Rattle.record_log.specs.Exact.{IsFirst, Reads};
 ghost use Rattle.byte_laws.specs.Bodies.{EachBodyLaw};
 
 use cbdc_types::{Header, Record};
-use record_codec::{RecordFault, read_first, write_record};
+use record_log::{RecordFault, read_first, write_record};
 use std::alloc::{AllocError, Global};
 
 /// Two records have two bodies, and no body is the front of another, whichever headers they stand under.

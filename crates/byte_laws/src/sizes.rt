@@ -2,10 +2,10 @@
 ghost use Rattle.std.specs.Prelude.{◌≡◌, length};
 ghost use Rattle.cbdc_model.specs.Grammar.{IsInGrammar};
 ghost use Rattle.gate_journal.specs.Rows.{row};
-ghost use Rattle.record_codec.specs.Bodies.{body_of};
+ghost use Rattle.record_log.specs.Bodies.{body_of};
 
 use cbdc_types::{Header, Record};
-use record_codec::size_of_record;
+use record_log::size_of_record;
 
 /// How many bytes the row of a record takes that may stand in a journal with this header: its gate, its length and
 /// its body. `size_of_record` answers just that.

@@ -2,7 +2,7 @@
 use Rattle.std.proofs.Common.{ℕ}
 use Rattle.cbdc_types.specs.declared.answer.Answer.{Answer}
 use Rattle.cbdc_types.specs.declared.answer.Answer.TheVariants as answers
-use Rattle.rack_nodes.specs.Refused.{IsNodeRefusal}
+use Rattle.rack_ledgers.specs.Refused.{IsNodeRefusal}
 use Rattle.command_answers.specs.Causes.{IsFault, IsWell}
 use Rattle.command_answers.specs.Left.{IsBeforeDisks}
 

@@ -3,7 +3,7 @@ use Rattle.std.proofs.Common.{◌≡◌, ◌∙◌, List, Option, Some, inl, inr
 use Rattle.clap.specs.Words.{Row, Text, Kinds, all_of, fault_of, first_of, subcommand_of}
 use Rattle.clap.specs.Kinds.{or_else}
 use Rattle.command_line.specs.Asked.{HasMistake, HasNoHashes, HasNoRepeats, HasNoShape, HasNoWorkload, HasWish, IsRefused, Meets, faults_of, help_words, topic_faults}
-use Rattle.command_form.specs.Command.{hamilton}
+use Rattle.command_line.specs.Command.{hamilton}
 use Rattle.requests.specs.declared.WordsFault.{WordsFault}
 use Rattle.requests.specs.declared.WordsFault.TheVariants.{Bad, Memory}
 

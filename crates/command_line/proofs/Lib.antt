@@ -2,3 +2,12 @@ pub mod WordLemmas
 pub mod Rows
 pub mod PlaceLemmas
 pub mod AskedLemmas
+pub mod Entered
+pub mod Known
+pub mod Own
+pub mod Pure
+pub mod Refused
+pub mod Single
+pub mod Steps
+pub mod Taken
+pub mod WordValues

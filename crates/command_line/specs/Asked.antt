@@ -7,7 +7,7 @@ use Rattle.clap.specs.Words.{Text, Row, Kinds, IsAmong, all_of, fault_of, first_
 use Rattle.clap.specs.Kinds.{or_else}
 use Rattle.clap.specs.declared.error.kind.ErrorKind.{ErrorKind}
 use Rattle.clap.specs.declared.error.kind.ErrorKind.TheVariants.{DisplayHelp, DisplayVersion, OutOfMemory}
-use Rattle.command_form.specs.Command.{hamilton}
+use Rattle.command_line.specs.Command.{hamilton}
 use Rattle.command_line.specs.Values.{IsHashText, IsNumber, IsUpTo, IsWhole}
 use Rattle.command_line.specs.Places.{positional_places}
 use Rattle.command_line.specs.Words.{AreFiles, IsFirst, IsGivenBy}

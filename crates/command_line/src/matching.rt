@@ -1,10 +1,10 @@
 // What clap makes of the words.
 ghost use Rattle.std.specs.Prelude.{◌≡◌, map, IfOk};
 ghost use Rattle.clap.specs.Words.{FailsBy, fault_of, subcommand_of, subcommand_rows_of};
-ghost use Rattle.command_form.specs.Command.{hamilton};
+ghost use Rattle.command_line.specs.Command.{hamilton};
 
+use crate::program;
 use clap::{ArgMatches, Error};
-use command_form::program;
 use std::alloc::Global;
 use std::convert::AsStr;
 

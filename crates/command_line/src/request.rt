@@ -3,7 +3,7 @@ ghost use Rattle.std.specs.Prelude.{◌≡◌, ◌≤◌, [], codes, drop, lengt
 ghost use Rattle.hex.specs.Hex.{decode_of};
 ghost use Rattle.clap.specs.Words.{all_of, fault_of, first_of, found_of, kind_of, rows_of, subcommand_of, subcommand_rows_of};
 ghost use Rattle.command_line.specs.Asked.{IsAsked, IsRefused, IsShow, HasMistake, HasWish, HasNumber, HasNoNumber, HasShape, HasNoShape, HasNoHashes, HasRepeats, HasNoRepeats, HasSeed, HasNoSeed, HasNoWorkload, Meets, is_mistake, is_wish, help_words, listed};
-ghost use Rattle.command_form.specs.Command.{hamilton};
+ghost use Rattle.command_line.specs.Command.{hamilton};
 ghost use Rattle.command_line.specs.Places.{positional_places};
 ghost use Rattle.command_line.specs.Words.{AreFiles, IsFirst, IsGivenBy, StandsThere, texts};
 

@@ -14,33 +14,33 @@ use Rattle.requests.specs.declared.Request.TheVariants.{Init, Run, Recover, Stat
 use Rattle.requests.specs.declared.WordsFault.TheVariants.{Bad}
 use Rattle.cbdc_model.specs.Clean.{Clean}
 use Rattle.workload.specs.Generator.{mint_of}
-use Rattle.workload_laws.specs.Files.{all_of}
-use Rattle.word_laws.specs.Refused.{AreWhole, HasHashes}
-use Rattle.word_laws.specs.Single.{AreAlike, names_of}
-use Rattle.word_laws.proofs.Refused.{asked_law}
-use Rattle.word_laws.proofs.Single.{one_request_law}
+use Rattle.submission_laws.specs.Files.{all_of}
+use Rattle.command_line.specs.Refused.{AreWhole, HasHashes}
+use Rattle.command_line.specs.Single.{AreAlike, names_of}
+use Rattle.command_line.proofs.Refused.{asked_law}
+use Rattle.command_line.proofs.Single.{one_request_law}
 use Rattle.input_files.specs.Contents.{mint_of_file, AreRead}
 use Rattle.file_runs.specs.Runs.{joined}
 use Rattle.audit.specs.declared.verdict.Verdict.TheVariants.{Unsound}
-use Rattle.audited_ledgers.specs.Audited.{IsAudited}
-use Rattle.ample_laws.specs.Ample.{Ample}
-use Rattle.caused_ledgers.specs.Caused.{IsUnresumed}
+use Rattle.rack_ledgers.specs.Audited.{IsAudited}
+use Rattle.run_laws.specs.Ample.{Ample}
+use Rattle.rack_ledgers.specs.Caused.{IsUnresumed}
 use Rattle.ledger_runs.specs.Least.{IsLeastOpen}
 use Rattle.rack_runs.specs.Endings.{EndsRun}
 use Rattle.rack_runs.specs.Runs.{NonePrepared, NothingNext, PieceNext, PiecesPrepared}
-use Rattle.sound_laws.specs.SoundTest.{sound_by}
+use Rattle.submissions.specs.SoundTest.{sound_by}
 use Rattle.submissions.specs.Checks.{VerdictsOf}
-use Rattle.verifier_port.specs.Files.{told}
-use Rattle.complete_laws.specs.Making.{CanMake}
-use Rattle.complete_laws.specs.Ready.{IsReady, limit_at}
-use Rattle.complete_laws.proofs.Audited.{audit_sound}
-use Rattle.complete_laws.proofs.Files.{read_once, not_read_none, clients_once, clients_none}
-use Rattle.complete_laws.proofs.Caused.{unsound_none}
+use Rattle.sentinel.specs.Files.{told}
+use Rattle.rack_laws.specs.Making.{CanMake}
+use Rattle.rack_laws.specs.Ready.{IsReady, limit_at}
+use Rattle.rack_laws.proofs.Audited.{audit_sound}
+use Rattle.rack_laws.proofs.Files.{read_once, not_read_none, clients_once, clients_none}
+use Rattle.rack_laws.proofs.Caused.{unsound_none}
 use Rattle.rack_runs.proofs.Lanes.{recovery_none, run_none}
-use Rattle.complete_laws.proofs.Making.{made}
-use Rattle.complete_laws.proofs.Openings.{unopened_none}
-use Rattle.complete_laws.proofs.Rooms.{ample_rooms, idle_rooms}
-use Rattle.complete_laws.proofs.Verdicts.{verdicts_none, verdicts_once}
+use Rattle.rack_laws.proofs.Making.{made}
+use Rattle.rack_laws.proofs.Openings.{unopened_none}
+use Rattle.rack_laws.proofs.KeptRooms.{ample_rooms, idle_rooms}
+use Rattle.rack_laws.proofs.Verdicts.{verdicts_none, verdicts_once}
 use Rattle.audit_command.specs.Audits.{IsUnsoundBy, WasAudited, WhyUnopened, WhyUnaudited, WhyNoAudit}
 use Rattle.command_answers.specs.Causes.{IsTold, IsWell}
 use Rattle.commands.specs.Complete.{CanInit, CanRun, CanAudit, IsUnhindered, none_sound}

@@ -13,17 +13,17 @@ use Rattle.command_line.specs.Asked.{IsAsked}
 use Rattle.requests.specs.declared.FileWord.{FileWord}
 use Rattle.requests.specs.declared.Request.{Request}
 use Rattle.requests.specs.declared.Request.TheVariants.{Init, Run, Recover, Status, Audit, Gen, Show}
-use Rattle.word_laws.specs.Single.{AreAlike}
-use Rattle.word_laws.proofs.Single.{one_request_law}
+use Rattle.command_line.specs.Single.{AreAlike}
+use Rattle.command_line.proofs.Single.{one_request_law}
 use Rattle.input_files.specs.Contents.{mint_of_file}
 use Rattle.audit.specs.declared.verdict.Verdict.{Verdict}
 use Rattle.audit.specs.declared.verdict.Verdict.TheVariants.{Sound, Unsound}
 use Rattle.audit_command.specs.Audits.{IsUnsoundBy, WasAudited}
 use Rattle.rack_ledgers.specs.Ledgers.{IsUnopenedBy, IsMintOf}
-use Rattle.caused_ledgers.specs.Caused.{IsCausedLedger, IsUnresumed}
-use Rattle.caused_ledgers.specs.Laws.{AllTell, EachOpens, AllHaveRoom}
-use Rattle.caused_ledgers.proofs.Refused.{none_refused, tell_told}
-use Rattle.caused_ledgers.proofs.Once.{not_both}
+use Rattle.rack_ledgers.specs.Caused.{IsCausedLedger, IsUnresumed}
+use Rattle.rack_ledgers.specs.RefusalLaws.{AllTell, EachOpens, AllHaveRoom}
+use Rattle.rack_ledgers.proofs.Refused.{none_refused, tell_told}
+use Rattle.rack_ledgers.proofs.CausedOnce.{not_both}
 use Rattle.commands.specs.Exact.{IsOfDisks, HasNoCause, IsUnopenedOf, IsExact, IsEndedLater}
 use Rattle.commands.specs.Outcomes.{Did}
 

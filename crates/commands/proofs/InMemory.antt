@@ -12,10 +12,10 @@ use Rattle.cbdc_model.specs.Coins.{FullTx}
 use Rattle.command_line.specs.Asked.{IsAsked}
 use Rattle.requests.specs.declared.Request.{Request}
 use Rattle.requests.specs.declared.Request.TheVariants.{Init, Run, Recover, Status, Audit, Gen, Show}
-use Rattle.verifier_port.specs.declared.file.VerdictFile.{VerdictFile}
-use Rattle.complete_laws.specs.Files.{HoldsFile, HoldsVerdicts, HoldClients}
-use Rattle.complete_laws.specs.Ready.{IsReady, NoneRises}
-use Rattle.plain_rack.specs.Sinks.{misses_at}
+use Rattle.sentinel.specs.declared.file.VerdictFile.{VerdictFile}
+use Rattle.rack_laws.specs.Files.{HoldsFile, HoldsVerdicts, HoldClients}
+use Rattle.rack_laws.specs.Ready.{IsReady, NoneRises}
+use Rattle.mem_devices.specs.Sinks.{misses_at}
 use Rattle.command_answers.specs.Causes.{IsWell}
 use Rattle.commands.specs.Complete.{IsUnhindered}
 use Rattle.commands.specs.InMemory.{IsFree}

@@ -4,8 +4,8 @@ use Rattle.std.specs.Prelude.{List}
 use Rattle.command_line.specs.Asked.{IsAsked}
 use Rattle.requests.specs.declared.Request.{Request}
 use Rattle.requests.specs.declared.Request.TheVariants.{Init, Run, Recover, Status, Audit, Gen, Show}
-use Rattle.word_laws.specs.Single.{AreAlike}
-use Rattle.word_laws.proofs.Single.{one_request_law}
+use Rattle.command_line.specs.Single.{AreAlike}
+use Rattle.command_line.proofs.Single.{one_request_law}
 use Rattle.commands.specs.Left.{IsOfNoRack, IsOfNoFile}
 
 alike_spared : (r other : Request) → AreAlike r other → IsOfNoRack r → IsOfNoRack other

@@ -21,9 +21,9 @@ use Rattle.requests.specs.declared.Request.TheVariants.{Init, Run, Recover, Stat
 use Rattle.file_runs.specs.Runs.{joined}
 use Rattle.ledger_init.specs.Made.{MayBeMade}
 use Rattle.record_log.specs.Held.{OpensTo}
-use Rattle.opening_laws.proofs.Fronts.{has_first, whole_fronts}
-use Rattle.opening_laws.proofs.Once.{opens_once_law}
-use Rattle.rack_nodes.specs.Racked.{OfTold, AreBack, AreUnchanged}
+use Rattle.rack_ledgers.proofs.Fronts.{has_first, whole_fronts}
+use Rattle.rack_ledgers.proofs.Once.{opens_once_law}
+use Rattle.rack_ledgers.specs.Racked.{OfTold, AreBack, AreUnchanged}
 use Rattle.rack_laws.specs.Shown.{AreLeft, HoldsEach, OpenTo, Shows, node_count}
 use Rattle.rack_runs.specs.Runs.{IsGrown, SurvivesCrashes}
 use Rattle.commands.specs.Left.{IsOfNoRack, Leaves}

@@ -8,19 +8,19 @@ use Rattle.cbdc_model.specs.Due.{used_of}
 use Rattle.cbdc_model.specs.World.{AreIdle}
 use Rattle.requests.specs.declared.Request.{Request}
 use Rattle.requests.specs.declared.Request.TheVariants.{Init, Run, Recover, Status, Audit, Gen, Show}
-use Rattle.verifier_port.specs.Files.{told}
-use Rattle.verifier_port.specs.declared.file.VerdictFile.{VerdictFile}
-use Rattle.sound_laws.specs.SoundTest.{sound_by}
-use Rattle.word_laws.specs.Refused.{AreWhole}
-use Rattle.word_laws.specs.Single.{names_of}
+use Rattle.sentinel.specs.Files.{told}
+use Rattle.sentinel.specs.declared.file.VerdictFile.{VerdictFile}
+use Rattle.submissions.specs.SoundTest.{sound_by}
+use Rattle.command_line.specs.Refused.{AreWhole}
+use Rattle.command_line.specs.Single.{names_of}
 use Rattle.input_files.specs.Contents.{mint_of_file}
 use Rattle.file_runs.specs.Runs.{joined}
 use Rattle.workload.specs.Generator.{mint_of}
-use Rattle.workload_laws.specs.Files.{all_of}
+use Rattle.submission_laws.specs.Files.{all_of}
 use Rattle.rack_laws.specs.Shown.{node_count}
-use Rattle.complete_laws.specs.Files.{HoldsFile, HoldsVerdicts, HoldClients}
-use Rattle.complete_laws.specs.Making.{CanMake}
-use Rattle.complete_laws.specs.Ready.{IsReady, ShowsKept, NoneRises, limit_at}
+use Rattle.rack_laws.specs.Files.{HoldsFile, HoldsVerdicts, HoldClients}
+use Rattle.rack_laws.specs.Making.{CanMake}
+use Rattle.rack_laws.specs.Ready.{IsReady, ShowsKept, NoneRises, limit_at}
 
 -- the file holds a mint of which a ledger can be made (`CanMake`), and no count of faults of its nodes rises
 pub record CanInit {D : Type 0} (files : Text → Option (List ℕ)) (files_before files_now : Text → ℕ) (content : D → Option (List ℕ)) (limit : D → ℕ) (held : ℕ → Option D) (before now : ℕ → ℕ) (shape : Shape) (name : Text) : Type 0 where

@@ -8,12 +8,12 @@ use Rattle.cbdc_model.specs.Records.{Digest, Shape, Record}
 use Rattle.cbdc_model.specs.Coins.{Output, FullTx, genesis_id}
 use Rattle.requests.specs.declared.Request.{Request}
 use Rattle.requests.specs.declared.Request.TheVariants.{Run, Recover, Status, Audit}
-use Rattle.verifier_port.specs.Files.{told}
-use Rattle.verifier_port.specs.declared.file.VerdictFile.{VerdictFile}
+use Rattle.sentinel.specs.Files.{told}
+use Rattle.sentinel.specs.declared.file.VerdictFile.{VerdictFile}
 use Rattle.input_files.specs.Contents.{mint_of_file}
 use Rattle.rack_ledgers.specs.Ledgers.{IsUnopened, IsUnopenedBy}
-use Rattle.caused_ledgers.specs.Caused.{IsUnresumed}
-use Rattle.caused_ledgers.specs.Laws.{AllTell, EachOpens, IsOfBytes}
+use Rattle.rack_ledgers.specs.Caused.{IsUnresumed}
+use Rattle.rack_ledgers.specs.RefusalLaws.{AllTell, EachOpens, IsOfBytes}
 use Rattle.ledger_runs.specs.Least.{IsLeastOpen}
 use Rattle.audit_command.specs.Audits.{IsUnsoundBy, WasAudited}
 use Rattle.rack_runs.specs.Endings.{EndsRun}

@@ -4,7 +4,7 @@ use Rattle.line_text.specs.Lines.{Text}
 use Rattle.cbdc_types.specs.declared.answer.Answer.{Answer}
 use Rattle.requests.specs.declared.Request.{Request}
 use Rattle.requests.specs.declared.Request.TheVariants.{Init, Run, Recover, Status, Audit, Gen, Show}
-use Rattle.rack_nodes.specs.Racked.{AreBack}
+use Rattle.rack_ledgers.specs.Racked.{AreBack}
 use Rattle.ledger_runs.specs.Least.{IsLeastOpen}
 use Rattle.rack_runs.specs.Runs.{NonePrepared, NothingNext}
 use Rattle.init_command.specs.Outcomes.{InitLeaves}

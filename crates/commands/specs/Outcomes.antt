@@ -10,7 +10,7 @@ use Rattle.audit_command.specs.Audits.{DidAudit, WhyNoAudit}
 use Rattle.gen_command.specs.Generated.{PrintsWorkload, WhyNoWorkload}
 use Rattle.status_command.specs.Outcomes.{DidStatus, WhyNoStatus}
 use Rattle.init_command.specs.Outcomes.{DidInit, WhyNoInit}
-use Rattle.recover_command.specs.Outcomes.{DidRecover}
+use Rattle.run_command.specs.RecoverOutcomes.{DidRecover}
 use Rattle.rack_runs.specs.Stops.{WhyNoTurns}
 use Rattle.run_command.specs.Outcomes.{DidRun, WhyNoRun}
 

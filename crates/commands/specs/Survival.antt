@@ -12,7 +12,7 @@ use Rattle.requests.specs.declared.Request.TheVariants.{Run}
 use Rattle.input_files.specs.Contents.{AreRead}
 use Rattle.file_runs.specs.Runs.{joined}
 use Rattle.record_log.specs.Held.{OpensTo}
-use Rattle.rack_nodes.specs.Racked.{OfTold}
+use Rattle.rack_ledgers.specs.Racked.{OfTold}
 use Rattle.rack_laws.specs.Shown.{AreLeft, OfShown, OpenTo, node_count}
 
 -- whatever a crash leaves of the disks opens to kept journals

@@ -8,13 +8,12 @@ ghost use Rattle.requests.specs.declared.Request.{Request as Asked};
 ghost use Rattle.commands.specs.InMemory.{IsFree};
 ghost use Rattle.commands.specs.Outcomes.{Did};
 ghost use Rattle.mem_devices.specs.Named.{file_of};
-ghost use Rattle.plain_rack.specs.Racks.{AllIn, bytes_told, bytes_left, room_of, disk_at};
+ghost use Rattle.mem_devices.specs.PlainRacks.{AllIn, bytes_told, bytes_left, room_of, disk_at};
 
 use crate::top::{Done, process};
 use cbdc_types::Answer;
-use mem_devices::MemInbox;
+use mem_devices::{MemInbox, PlainRack, PlainSink};
 use outside::Gate;
-use plain_rack::{PlainRack, PlainSink};
 use std::alloc::Global;
 use std::sync::Wait;
 use std::thread::Threads;

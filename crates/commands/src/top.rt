@@ -22,19 +22,17 @@ ghost use Rattle.printed_lines.specs.Reports.{Names};
 
 use audit_command::audit;
 use cbdc_types::Answer;
-use command_line::parse;
+use command_line::{parse, see_request};
 use gen_command::generated;
 use init_command::init;
 use line_text::{write_all, write_fault};
 use outside::{Disk, Gate, Inbox, Rack, Sink};
-use recover_command::recover;
 use requests::{FileWord, Request, WordsFault};
-use run_command::run;
+use run_command::{recover, run};
 use status_command::status;
 use std::alloc::Global;
 use std::sync::Wait;
 use std::thread::Threads;
-use word_laws::see_request;
 
 /// The status, and the rack with every disk back in its place.
 pub struct Done<R> {

@@ -1,13 +1,17 @@
-//! What coordinators and shards see of a transaction: its id and the hashes of its coins; and a mint as a transaction, with its id.
+//! Ids of transactions, hashes of coins, and what coordinators and shards see of a transaction; a mint as a transaction, with its id.
 //!
-//! - Tested in `piece_rows` (`hashes.rows`), on hashes computed elsewhere.
+//! - `tx_id`, `uhs_id`, `input_hash`: They take no memory. Witnesses change no id.
+//! - Open: that hashes don't collide is a hypothesis wherever it is needed.
+//! - Tested in `piece_rows` (`hashes.rows`): digests that another program computed.
 #![tactic(auto)]
+
+mod identifiers;
 
 ghost use Rattle.std.specs.Prelude.{◌≡◌, map, IfOk};
 ghost use Rattle.cbdc_model.specs.Coins.{compact, coin_hash, made_coins, genesis_tx, genesis_id, tx_id as spec_id};
 
 use cbdc_types::{CompactTx, FullTx, Hash, Input, List, Output};
-use identifiers::{input_hash, tx_id, uhs_id};
+pub use identifiers::{input_hash, tx_id, uhs_id};
 use std::alloc::{AllocError, Global};
 
 // The hash of the coin that an input claims.

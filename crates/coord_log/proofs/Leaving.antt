@@ -8,7 +8,7 @@ use Rattle.outside.specs.declared.disk.Disk.{Ghosts}
 use Rattle.outside.proofs.Moments.{started, weakened}
 use Rattle.gate_journal.specs.Rows.{Opens, OpensWithOrWithout}
 use Rattle.gate_journal.specs.Shown.{disk_of}
-use Rattle.record_codec.specs.Bodies.{body_of}
+use Rattle.record_log.specs.Bodies.{body_of}
 use Rattle.record_log.specs.declared.log.RecordLog.{RecordLog}
 use Rattle.record_log.specs.Held.{bodies_of, OpensTo, OpensToEither}
 use Rattle.coord_log.specs.Logs.{LogOf, HoldsJournal, OpensToSeen, IsLeftBetween, LeavesBetween}

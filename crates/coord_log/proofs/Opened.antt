@@ -13,7 +13,7 @@ use Rattle.cbdc_model.specs.Sights.{IsBrokenSince}
 use Rattle.record_log.specs.Held.{MayHold, Holds}
 use Rattle.record_log.specs.Logs.{HoldsAll, HasRoom, IsUntouched}
 use Rattle.record_log.specs.declared.log.RecordLog.{RecordLog}
-use Rattle.record_log.proofs.Sizes.{limits_of, grammar_of}
+use Rattle.record_log.proofs.LogSizes.{limits_of, grammar_of}
 use Rattle.coord_core.specs.Lanes.{CoordOf, IsWhole, IsFresh, IsNext, Takes, IsSameButRoom, HasGrown, kept_of, ahead_of}
 use Rattle.coord_core.specs.Stands.{StandsFor}
 use Rattle.coord_log.specs.Inside.{largest, IsSound}

@@ -17,8 +17,8 @@ use Rattle.cbdc_model.specs.After.{After, Follows, IsJournal}
 use Rattle.cbdc_model.specs.Due.{used_of}
 use Rattle.cbdc_model.specs.Room.{size_of, need_of}
 use Rattle.cbdc_model.specs.Sights.{HasRisen, IsBrokenSince}
-use Rattle.record_codec.specs.Bodies.{body_of}
-use Rattle.record_log.proofs.Sizes.{size_is}
+use Rattle.record_log.specs.Bodies.{body_of}
+use Rattle.record_log.proofs.LogSizes.{size_is}
 use Rattle.record_log.specs.Held.{bodies_of, OpensToEither}
 use Rattle.record_log.specs.Logs.{HoldsAll, HasRoom}
 use Rattle.record_log.specs.declared.log.LogFault.{LogFault}

@@ -7,7 +7,7 @@ use Rattle.cbdc_model.specs.Records.{Header, Record, Genesis}
 use Rattle.cbdc_model.specs.After.{After, IsJournal}
 use Rattle.cbdc_model.specs.Room.{size_of, kept_room}
 use Rattle.cbdc_model.specs.Due.{used_of}
-use Rattle.record_codec.specs.Exact.{IsFirst}
+use Rattle.record_log.specs.Exact.{IsFirst}
 use Rattle.record_log.specs.Held.{OpensTo, HasRow, CutsOff, HasNoRecord}
 use Rattle.coord_core.specs.Lanes.{CoordOf, AllRoomed}
 use Rattle.coord_core.specs.Stands.{StandsFor}

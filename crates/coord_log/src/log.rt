@@ -22,8 +22,7 @@ use cbdc_types::{
 };
 use coord_core::{CoordCore, LanePhase};
 use outside::Disk;
-use record_codec::size_of_record;
-use record_log::RecordLog;
+use record_log::{RecordLog, size_of_record};
 use std::alloc::{AllocError, Global};
 use std::marker::Model;
 

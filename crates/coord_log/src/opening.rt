@@ -9,7 +9,7 @@ ghost use Rattle.cbdc_model.specs.After.{IsJournal};
 ghost use Rattle.cbdc_model.specs.Room.{size_of, kept_room};
 ghost use Rattle.cbdc_model.specs.Due.{used_of};
 ghost use Rattle.record_log.specs.Held.{MayHold, OpensTo, CutsOff};
-ghost use Rattle.record_log.specs.Reading.{HoldsBefore, IsNoLog};
+ghost use Rattle.record_log.specs.LogReading.{HoldsBefore, IsNoLog};
 ghost use Rattle.record_log.specs.Logs.{IsUntouched};
 ghost use Rattle.coord_log.specs.Logs.{HoldsJournal};
 ghost use Rattle.coord_log.specs.Inside.{IsSound};
@@ -20,8 +20,7 @@ use crate::writing::LARGEST_COMMIT;
 use cbdc_types::{Header, NodeOpenFault, Record};
 use coord_core::CoordCore;
 use outside::Disk;
-use record_codec::size_of_record;
-use record_log::{NoLog, RecordLog, open_records};
+use record_log::{NoLog, RecordLog, open_records, size_of_record};
 use std::alloc::Global;
 
 // The lanes that a journal's first record begins with. A shard's begins with another.

@@ -1,8 +1,8 @@
 -- The ledger and the lanes of a wave, before it and behind it.
 use Rattle.std.proofs.Common.{◌≡◌, ℕ, Bool, true, false, List, sym, ◌∙◌, subst, Option, Some}
 use Rattle.ledger_runs.specs.Lanes.{LaneOf}
-use Rattle.ledger_nodes.specs.Ledgers.{LedgerOf}
-use Rattle.ledger_nodes.specs.Waving.{IsWave}
+use Rattle.file_runs.specs.Ledgers.{LedgerOf}
+use Rattle.file_runs.specs.Waving.{IsWave}
 use Rattle.file_runs.specs.Feeding.{CanWave, Stands, IsHeld}
 
 module _ {D : Type 0} (count limit : D → ℕ) (content : D → Option (List ℕ)) (images : D → List ℕ → Type 0) (before : LedgerOf D) (lanes : List LaneOf) where

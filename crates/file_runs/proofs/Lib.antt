@@ -1,3 +1,8 @@
+pub mod Steps
+pub mod Turns
+pub mod Ones
+pub mod Waved
+pub mod Opens
 pub mod Filing
 pub mod Joining
 pub mod FileTelling

@@ -6,8 +6,8 @@ use Rattle.std.proofs.lemmas.List.Elements.{All-cons, All-nil}
 use Rattle.cbdc_model.specs.Records.{Shape, Compact}
 use Rattle.cbdc_model.specs.Coins.{FullTx, compact, tx_id}
 use Rattle.cbdc_model.specs.Waves.{share, sent_to}
-use Rattle.sound_laws.specs.SoundTest.{sound_by}
-use Rattle.sound_laws.proofs.Telling.{is_sound_law, one_test_law}
+use Rattle.submissions.specs.SoundTest.{sound_by}
+use Rattle.submissions.proofs.Telling.{is_sound_law, one_test_law}
 use Rattle.submissions.specs.Checks.{VerdictsOf, TellsSound, IsSentFrom}
 use Rattle.submissions.proofs.Placing.{snoc_get}
 use Rattle.ledger_runs.specs.Lanes.{LaneOf}

@@ -3,8 +3,8 @@ use Rattle.std.specs.Prelude.{◌≡◌, ℕ, ◌*◌, Bool, true, false, List, 
 use Rattle.cbdc_model.specs.World.{AreIdle}
 use Rattle.ledger_runs.specs.Lanes.{LaneOf}
 use Rattle.ledger_runs.specs.Waving.{AreWithin}
-use Rattle.ledger_nodes.specs.Ledgers.{LedgerOf, journals, IsChecked}
-use Rattle.ledger_nodes.specs.Waving.{IsWave}
+use Rattle.file_runs.specs.Ledgers.{LedgerOf, journals, IsChecked}
+use Rattle.file_runs.specs.Waving.{IsWave}
 use Rattle.lane_sources.specs.Deals.{no_shape}
 
 -- a lane for each of an idle ledger's whose journals are checked, and what the lanes get is within the limits

@@ -9,8 +9,8 @@ use Rattle.submissions.specs.Checks.{VerdictsOf, TellsSound, AreChecked}
 use Rattle.ledger_runs.specs.Turning.{OfKept, StaysKept}
 use Rattle.ledger_runs.specs.Flying.{Launches}
 use Rattle.ledger_runs.specs.Faults.{IsRunCause, HaveFailed, MayHold, AllRest}
-use Rattle.ledger_nodes.specs.declared.ledger.Ledger.{Ledger}
-use Rattle.ledger_nodes.specs.Ledgers.{journals, flights, faults, opened, capacity, IsChecked, IsQuiet, KeepsLedgerOf}
+use Rattle.file_runs.specs.declared.ledger.Ledger.{Ledger}
+use Rattle.file_runs.specs.Ledgers.{journals, flights, faults, opened, capacity, IsChecked, IsQuiet, KeepsLedgerOf}
 use Rattle.file_runs.specs.declared.waves.Wave.{Wave}
 use Rattle.file_runs.specs.Runs.{HavePreparedFile, IsSentPiece, FliesWith, HaveBegunFile}
 use Rattle.file_runs.specs.Endings.{EndsFile}

@@ -2,22 +2,21 @@
 ghost use Rattle.std.specs.Prelude.{◌≡◌, ◌<◌, ◌^◌, true, List, []};
 ghost use denote.Param.Send.{IsSync, IsSend};
 ghost use Rattle.ledger_runs.specs.Lanes.{LaneOf};
-ghost use Rattle.ledger_nodes.specs.Ledgers.{LedgerOf};
-ghost use Rattle.ledger_nodes.specs.Waving.{IsWave};
+ghost use Rattle.file_runs.specs.Ledgers.{LedgerOf};
+ghost use Rattle.file_runs.specs.Waving.{IsWave};
 ghost use Rattle.file_runs.specs.Feeding.{CanWave, no_ledger};
 
+use crate::{Ledger, run_wave};
 use cbdc_types::{LaneId, Shape};
-use lane_sources::{Ahead, Deals, FileOf, LaneSource, rule_ahead};
-use ledger_nodes::{Ledger, run_wave};
+use lane_sources::{Ahead, Deals, Feeder, FileOf, LaneSource, feed, pipe, rule_ahead};
 use ledger_runs::Work;
 use outside::{Disk, Gate};
-use sentinel_pipe::{Feeder, feed, pipe};
+use sentinel::Verifier;
 use std::alloc::{AllocError, Global};
 use std::marker::{Brand, Model, PhantomData};
 use std::sync::Wait;
 use std::thread::Threads;
 use std::{mem, thread};
-use verifier_port::Verifier;
 
 // From how many submissions of a lane on no feeder checks them.
 const SHARE: usize = 2048;

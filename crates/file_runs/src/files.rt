@@ -10,21 +10,21 @@ ghost use Rattle.submissions.specs.Checks.{TellsSound};
 ghost use Rattle.ledger_runs.specs.Turning.{OfKept, StaysKept};
 ghost use Rattle.ledger_runs.specs.Flying.{Launches};
 ghost use Rattle.ledger_runs.specs.Faults.{IsRunCause, HaveFailed, MayHold, AllRest};
-ghost use Rattle.ledger_nodes.specs.Ledgers.{journals, flights, faults, opened, capacity, IsChecked, IsQuiet, KeepsLedgerOf};
+ghost use Rattle.file_runs.specs.Ledgers.{journals, flights, faults, opened, capacity, IsChecked, IsQuiet, KeepsLedgerOf};
 ghost use Rattle.file_runs.specs.Runs.{joined, IsFilesPiece, FliesWith, HaveBegunFiles};
 ghost use Rattle.file_runs.specs.Endings.{EndsFiles, AreCut};
 ghost use Rattle.file_runs.specs.Telling.{TellFiles};
 
+use crate::Ledger;
 use crate::waves::{FileRun, Wave, run_file};
 use cbdc_types::{FullTx, List};
 use lane_driver::{LaneFault, no_memory};
-use ledger_nodes::Ledger;
 use outside::{Disk, Gate};
 use requests::RunOptions;
+use sentinel::Verifier;
 use std::alloc::Global;
 use std::sync::Wait;
 use std::thread::Threads;
-use verifier_port::Verifier;
 
 /// A ledger behind client files, and what came of them.
 #[derive(Drop)]

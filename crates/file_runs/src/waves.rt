@@ -3,28 +3,27 @@ ghost use Rattle.std.specs.Prelude.{◌≡◌, ◌≤◌, All, IfOk, [], length,
 ghost use Rattle.std.specs.Vec.{vec_capacity};
 ghost use Rattle.cbdc_model.specs.World.{AreIdle};
 ghost use Rattle.input_files.specs.Limits.{IsShort};
-ghost use Rattle.ledger_nodes.specs.Ledgers.{journals, IsChecked};
+ghost use Rattle.file_runs.specs.Ledgers.{journals, IsChecked};
 ghost use Rattle.file_runs.specs.FileRuns.{RanFile};
 ghost use Rattle.ledger_runs.specs.Lanes.{came_of};
 ghost use Rattle.submissions.specs.Checks.{AreChecked};
 ghost use Rattle.lane_sources.specs.Sources.{lanes_of};
 ghost use Rattle.file_runs.specs.Runs.{AreLanesOf};
 
+use crate::Ledger;
 use crate::fed::{Waved, ahead_of, checkers_of, run_fed};
 use cbdc_types::FullTx;
 use lane_driver::{LaneFault, no_memory};
-use lane_sources::{Deals, FileOf, LaneSource, checks_of};
-use ledger_nodes::Ledger;
+use lane_sources::{Deals, Feeder, FileOf, LaneSource, checks_of};
 use ledger_runs::{Lane, Work, first_fault};
 use outside::{Disk, Gate};
 use requests::RunOptions;
-use sentinel_pipe::Feeder;
+use sentinel::Verifier;
 use std::alloc::{AllocError, Global};
 use std::marker::Brand;
 use std::sync::Wait;
 use std::thread::Threads;
 use submissions::Checked;
-use verifier_port::Verifier;
 
 /// A client file that was run: each submission in order, and the lanes with what was decided.
 #[derive(Drop)]

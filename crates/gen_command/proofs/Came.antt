@@ -15,24 +15,24 @@ use Rattle.cbdc_model.specs.Ranges.{home_of}
 use Rattle.cbdc_model.specs.Slots.{slot}
 use Rattle.cbdc_model.specs.World.{KeptJournals, AreIdle}
 use Rattle.mem_devices.specs.declared.plain_disk.PlainDisk.{PlainDisk}
-use Rattle.plain_rack.specs.declared.plain_rack.PlainRack.{PlainRack}
-use Rattle.plain_rack.specs.Places.{faults_at}
-use Rattle.plain_rack.specs.Racks.{AllIn, disk_at, bytes_told, bytes_left, room_of, faults_of}
+use Rattle.mem_devices.specs.declared.plain_rack.PlainRack.{PlainRack}
+use Rattle.mem_devices.specs.Places.{faults_at}
+use Rattle.mem_devices.specs.PlainRacks.{AllIn, disk_at, bytes_told, bytes_left, room_of, faults_of}
 use Rattle.ledger_laws.proofs.Recovery.{idle_law}
 use Rattle.ledger_init.specs.Made.{HoldsFirst, first_of}
-use Rattle.opening_laws.proofs.Once.{opens_once_law}
-use Rattle.sound_laws.specs.SoundTest.{sound_by}
-use Rattle.sound_laws.proofs.Telling.{is_sound_law}
+use Rattle.rack_ledgers.proofs.Once.{opens_once_law}
+use Rattle.submissions.specs.SoundTest.{sound_by}
+use Rattle.submissions.proofs.Telling.{is_sound_law}
 use Rattle.submissions.specs.Checks.{TellsSound}
 use Rattle.input_files.specs.Contents.{all_txs}
 use Rattle.audit.specs.declared.verdict.Totals.{Totals}
 use Rattle.audit.specs.declared.verdict.Verdict.{Verdict}
 use Rattle.audit.specs.declared.verdict.Verdict.TheVariants.{Sound, Unsound}
 use Rattle.audit.specs.Verdicts.{IsVerdict}
-use Rattle.caused_ledgers.specs.Caused.{IsToldHistory, IsUnresumed}
-use Rattle.audited_ledgers.specs.Audited.{IsAudited}
+use Rattle.rack_ledgers.specs.Caused.{IsToldHistory, IsUnresumed}
+use Rattle.rack_ledgers.specs.Audited.{IsAudited}
 use Rattle.rack_laws.specs.Shown.{Shows, HoldsEach, node_count}
-use Rattle.rack_nodes.specs.Racked.{AreBack, SameRoom}
+use Rattle.rack_ledgers.specs.Racked.{AreBack, SameRoom}
 use Rattle.rack_runs.specs.Endings.{EndsRun}
 use Rattle.rack_runs.specs.Runs.{IsLaneFault, PieceNext, PiecesPrepared}
 use Rattle.file_runs.specs.declared.ran.Ran.{Ran}
@@ -45,19 +45,19 @@ use Rattle.printed_lines.specs.Unspent.{IsUnspentCount}
 use Rattle.workload.specs.Generator.{mint_of, minted_of, joined_of, split_of, join_of}
 use Rattle.audit_command.specs.Audits.{IsUnsoundBy}
 use Rattle.command_answers.specs.Causes.{IsDone}
-use Rattle.run_report.specs.Told.{IsCountable, numbers_of}
+use Rattle.run_command.specs.Told.{IsCountable, numbers_of}
 use Rattle.gen_command.specs.Generated.{all_good, files_of, all_of, made_for, IsWorkloadRun, HasVerdictOf, EndsWorkload, batches_for, IsWorkloadText, IsUnsoundWorkload, WhyNoWorkload}
-use Rattle.workload_laws.specs.Files.{first_journals}
+use Rattle.submission_laws.specs.Files.{first_journals}
 use Rattle.gen_command.specs.InMemory.{AreReady, HaveRoom, TellsRunOf, CameTo, IsCheckedSound, IsUnchecked}
 use Rattle.gen_command.proofs.FirstShown.{kept_journal, kept_beyond, first_kept, first_shown}
 use Rattle.gen_command.proofs.Memory.{none_rose, there}
-use Rattle.complete_laws.specs.Ready.{NoneRises, ShowsKept, limit_at}
-use Rattle.complete_laws.proofs.Caused.{unsound_none}
+use Rattle.rack_laws.specs.Ready.{NoneRises, ShowsKept, limit_at}
+use Rattle.rack_laws.proofs.Caused.{unsound_none}
 use Rattle.rack_runs.proofs.Lanes.{run_none}
-use Rattle.complete_laws.proofs.Openings.{unopened_none}
-use Rattle.complete_laws.proofs.Rooms.{ample_rooms, idle_rooms, more_room, used_within}
-use Rattle.complete_laws.proofs.Sound.{never_unsound}
-use Rattle.run_report.proofs.Numbers.{run_numbers, countable}
+use Rattle.rack_laws.proofs.Openings.{unopened_none}
+use Rattle.rack_laws.proofs.KeptRooms.{ample_rooms, idle_rooms, more_room, used_within}
+use Rattle.rack_laws.proofs.Sound.{never_unsound}
+use Rattle.run_command.proofs.Numbers.{run_numbers, countable}
 use Rattle.gen_command.proofs.Cut.{batches_are_cut}
 use Rattle.gen_command.proofs.Refused.{none_open, none_refused, all_decided}
 use Rattle.gen_command.proofs.Workloads.{few}

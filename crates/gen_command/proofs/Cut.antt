@@ -16,16 +16,16 @@ use Rattle.cbdc_model.specs.Ranges.{home_of}
 use Rattle.cbdc_model.specs.Waves.{share, sent_to, IsCut, prepared}
 use Rattle.ledger_laws.proofs.First.{AllFirst, journal_first, all_first}
 use Rattle.ledger_runs.proofs.Sizes.{prepared_more}
-use Rattle.sound_laws.specs.SoundTest.{sound_by}
-use Rattle.sound_laws.proofs.Telling.{is_sound_law}
+use Rattle.submissions.specs.SoundTest.{sound_by}
+use Rattle.submissions.proofs.Telling.{is_sound_law}
 use Rattle.file_runs.specs.Telling.{TellFiles, TellsRun}
 use Rattle.file_runs.specs.declared.waves.Wave.{Wave}
 use Rattle.file_runs.specs.declared.ran.Ran.{Ran}
 use Rattle.printed_lines.specs.Decided.{added, batches_below, new_batches}
 use Rattle.workload.specs.Generator.{mint_of, minted_of, joined_of, splits_of, joins_of, split_of, join_of}
 use Rattle.gen_command.specs.Generated.{all_good, files_of, made_for, rounded_up, sent_of, cut_below, batches_for}
-use Rattle.run_report.proofs.Decisions.{added_is}
-use Rattle.workload_laws.proofs.Sound.{IsGood, splits_sound, joins_sound}
+use Rattle.run_command.proofs.Decisions.{added_is}
+use Rattle.submission_laws.proofs.Sound.{IsGood, splits_sound, joins_sound}
 
 -- ---- pieces
 

@@ -19,7 +19,7 @@ use Rattle.run_laws.proofs.Rests.{none_beyond}
 use Rattle.record_log.specs.Held.{OpensTo}
 use Rattle.ledger_init.specs.Made.{HoldsFirst, first_of}
 use Rattle.rack_laws.specs.Shown.{Shows, node_count}
-use Rattle.workload_laws.specs.Files.{first_journals}
+use Rattle.submission_laws.specs.Files.{first_journals}
 
 -- ---- first records are of the grammar
 

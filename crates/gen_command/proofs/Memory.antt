@@ -15,20 +15,20 @@ use Rattle.cbdc_model.specs.Coins.{Output, FullTx, genesis_id, genesis_hashes}
 use Rattle.cbdc_model.specs.Clean.{value_out}
 use Rattle.cbdc_model.specs.History.{minted, header_of}
 use Rattle.input_files.specs.Contents.{all_txs}
-use Rattle.sound_laws.specs.SoundTest.{sound_by}
-use Rattle.complete_laws.specs.Ready.{limit_at}
-use Rattle.complete_laws.specs.Small.{AreSmall, AllSmall}
-use Rattle.complete_laws.proofs.Small.{new_room}
+use Rattle.submissions.specs.SoundTest.{sound_by}
+use Rattle.rack_laws.specs.Ready.{limit_at}
+use Rattle.rack_laws.specs.Small.{AreSmall, AllSmall}
+use Rattle.rack_laws.proofs.Small.{new_room}
 use Rattle.gen_command.specs.Generated.{all_good, files_of}
 use Rattle.cbdc_model.specs.Ranges.{on_shard}
 use Rattle.cbdc_model.specs.Room.{size_of}
 use Rattle.mem_devices.specs.declared.plain_disk.PlainDisk.{PlainDisk}
-use Rattle.plain_rack.specs.declared.plain_rack.PlainRack.{PlainRack}
-use Rattle.plain_rack.specs.Places.{faults_at, disk_in, IsIn}
-use Rattle.plain_rack.specs.Racks.{AllIn, IsEmptyAt, disk_at, bytes_told, room_of}
-use Rattle.record_codec.specs.Bodies.{body_of}
+use Rattle.mem_devices.specs.declared.plain_rack.PlainRack.{PlainRack}
+use Rattle.mem_devices.specs.Places.{faults_at, disk_in, IsIn}
+use Rattle.mem_devices.specs.PlainRacks.{AllIn, IsEmptyAt, disk_at, bytes_told, room_of}
+use Rattle.record_log.specs.Bodies.{body_of}
 use Rattle.gate_journal.specs.Rows.{row}
-use Rattle.rack_nodes.specs.Blank.{IsInUse}
+use Rattle.rack_ledgers.specs.Blank.{IsInUse}
 use Rattle.ledger_init.specs.Made.{node_count, first_of, IsUnmade}
 use Rattle.workload.specs.Generator.{coin, coin_value, mint_of, minted_of, joined_of, split_of, join_of}
 use Rattle.gen_command.specs.InMemory.{AreReady, HaveRoom}

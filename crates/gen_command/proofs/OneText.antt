@@ -9,7 +9,7 @@ use Rattle.cbdc_model.specs.Coins.{FullTx}
 use Rattle.cbdc_model.specs.Clean.{Clean}
 use Rattle.cbdc_model.specs.World.{KeptJournals}
 use Rattle.cbdc_model.specs.Waves.{Waves}
-use Rattle.sound_laws.specs.SoundTest.{sound_by}
+use Rattle.submissions.specs.SoundTest.{sound_by}
 use Rattle.line_text.specs.Lines.{Text, summary_text}
 use Rattle.rack_laws.proofs.Opened.{at_place}
 use Rattle.audit.specs.declared.verdict.Totals.{Totals}
@@ -20,11 +20,11 @@ use Rattle.printed_lines.specs.Runs.{AreReports, AreAllReports, is_confirmed, is
 use Rattle.submission_laws.specs.Sent.{IsSent}
 use Rattle.submission_laws.specs.Free.{IsConfirmed}
 use Rattle.workload.specs.Generator.{mint_of, splits_of, joins_of}
-use Rattle.workload_laws.specs.Whole.{left_of, totals_of, IsWhole}
-use Rattle.workload_laws.proofs.Sound.{IsGood, two_sum, splits_sound, joins_sound}
-use Rattle.workload_laws.proofs.Whole.{whole_law}
+use Rattle.submission_laws.specs.Whole.{left_of, totals_of, IsWhole}
+use Rattle.submission_laws.proofs.Sound.{IsGood, two_sum, splits_sound, joins_sound}
+use Rattle.submission_laws.proofs.Whole.{whole_law}
 use Rattle.gen_command.specs.Generated.{all_good, files_of, all_of, made_for, HasVerdictOf, EndsWorkload, batches_for, clean_text}
-use Rattle.run_report.proofs.Numbers.{lanes_there}
+use Rattle.run_command.proofs.Numbers.{lanes_there}
 use Rattle.gen_command.proofs.Refused.{none_in}
 
 module _ (K : Shape) (seed n : ℕ) (X : ℕ → List Record) (all_won : (k j : ℕ) (t : FullTx) (it : IsSent all_good (files_of seed n) k j t) → IsConfirmed K all_good (files_of seed n) (made_for K seed n) X k it.file j t) where

@@ -10,14 +10,14 @@ use Rattle.cbdc_model.specs.History.{minted, first_rows}
 use Rattle.cbdc_model.specs.Ranges.{home_of}
 use Rattle.cbdc_model.specs.Slots.{Phase, slot}
 use Rattle.ledger_laws.proofs.First.{nothing, journal_first, all_first}
-use Rattle.sound_laws.specs.SoundTest.{sound_by}
+use Rattle.submissions.specs.SoundTest.{sound_by}
 use Rattle.rack_laws.proofs.Opened.{at_place}
 use Rattle.printed_lines.specs.declared.report.Report.{Report}
 use Rattle.printed_lines.specs.declared.report.Report.TheVariants.{Refused, Decided}
 use Rattle.printed_lines.specs.Recoveries.{open_phase, open_below, resumed_count}
 use Rattle.printed_lines.specs.Runs.{AreReports, AreAllReports, is_confirmed, is_rejected, is_refused, count_in}
 use Rattle.workload.specs.Generator.{mint_of, minted_of, joined_of, splits_of, joins_of, split_of, join_of}
-use Rattle.workload_laws.proofs.Sound.{IsGood, two_sum, splits_sound, joins_sound}
+use Rattle.submission_laws.proofs.Sound.{IsGood, two_sum, splits_sound, joins_sound}
 use Rattle.gen_command.specs.Generated.{all_good, files_of, made_for}
 
 -- ---- nothing was open

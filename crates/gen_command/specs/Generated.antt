@@ -11,7 +11,7 @@ use Rattle.cbdc_model.specs.Clean.{Clean}
 use Rattle.cbdc_model.specs.History.{IsOrdered}
 use Rattle.cbdc_model.specs.World.{KeptJournals}
 use Rattle.cbdc_model.specs.Waves.{Waves, share}
-use Rattle.sound_laws.specs.SoundTest.{sound_by}
+use Rattle.submissions.specs.SoundTest.{sound_by}
 use Rattle.audit.specs.declared.verdict.Totals.{Totals}
 use Rattle.audit.specs.declared.verdict.Verdict.{Verdict}
 use Rattle.audit.specs.declared.verdict.Verdict.TheVariants.{Sound, Unsound}
@@ -21,8 +21,8 @@ use Rattle.printed_lines.specs.Reports.{audit_lines}
 use Rattle.printed_lines.specs.Runs.{AreAllReports, is_confirmed, is_rejected, count_in}
 use Rattle.printed_lines.specs.Unspent.{IsUnspentCount}
 use Rattle.workload.specs.Generator.{mint_of, minted_of, joined_of}
-use Rattle.workload_laws.specs.Whole.{left_of, totals_of}
-pub use Rattle.workload_laws.specs.Files.{all_good, files_of, all_of, first_journals, made_for}
+use Rattle.submission_laws.specs.Whole.{left_of, totals_of}
+pub use Rattle.submission_laws.specs.Files.{all_good, files_of, all_of, first_journals, made_for}
 
 -- these journals are kept, of the workload's mint and transactions, and from `made_for` on they have the waves of its files
 pub record IsWorkloadRun (K : Shape) (seed n : ℕ) (X : ℕ → List Record) : Type 0 where

@@ -7,23 +7,23 @@ use Rattle.cbdc_model.specs.Clean.{value_out}
 use Rattle.cbdc_model.specs.Coins.{Output, FullTx}
 use Rattle.cbdc_model.specs.Room.{size_of}
 use Rattle.mem_devices.specs.declared.plain_disk.PlainDisk.{PlainDisk}
-use Rattle.plain_rack.specs.declared.plain_rack.PlainRack.{PlainRack}
-use Rattle.plain_rack.specs.Places.{faults_at}
-use Rattle.plain_rack.specs.Racks.{disk_at, bytes_told, bytes_left, room_of, faults_of}
-use Rattle.ample_laws.specs.Ample.{Ample}
-use Rattle.sound_laws.specs.SoundTest.{sound_by}
-use Rattle.complete_laws.specs.Ready.{limit_at}
+use Rattle.mem_devices.specs.declared.plain_rack.PlainRack.{PlainRack}
+use Rattle.mem_devices.specs.Places.{faults_at}
+use Rattle.mem_devices.specs.PlainRacks.{disk_at, bytes_told, bytes_left, room_of, faults_of}
+use Rattle.run_laws.specs.Ample.{Ample}
+use Rattle.submissions.specs.SoundTest.{sound_by}
+use Rattle.rack_laws.specs.Ready.{limit_at}
 use Rattle.ledger_init.specs.Made.{node_count, first_of}
 use Rattle.audit.specs.declared.verdict.Totals.{Totals}
 use Rattle.audit.specs.declared.verdict.Verdict.TheVariants.{Sound}
-use Rattle.audited_ledgers.specs.Audited.{IsAudited}
+use Rattle.rack_ledgers.specs.Audited.{IsAudited}
 use Rattle.rack_runs.specs.Telling.{IsTold}
 use Rattle.file_runs.specs.declared.ran.Ran.{Ran}
 use Rattle.workload.specs.Generator.{mint_of}
 use Rattle.audit_command.specs.Audits.{IsUnsoundBy, WhyUnopened}
-use Rattle.run_report.specs.Told.{IsCountable, numbers_of}
+use Rattle.run_command.specs.Told.{IsCountable, numbers_of}
 use Rattle.gen_command.specs.Generated.{all_good, all_of, IsWorkloadRun, HasVerdictOf, EndsWorkload}
-use Rattle.workload_laws.specs.Files.{first_journals}
+use Rattle.submission_laws.specs.Files.{first_journals}
 
 -- empty disks, each with room for the first record of its node
 pub record AreReady (K : Shape) (mint : List Output) (rack : PlainRack) : Type 0 where

@@ -9,24 +9,24 @@ ghost use Rattle.command_answers.specs.Texts.{IsPrinted, IsSilent};
 ghost use Rattle.file_runs.specs.Runs.{joined as all_joined};
 ghost use Rattle.input_files.specs.Limits.{IsShort};
 ghost use Rattle.ledger_init.specs.Made.{node_count};
-ghost use Rattle.plain_rack.specs.Racks.{AllIn, IsEmptyAt};
+ghost use Rattle.mem_devices.specs.PlainRacks.{AllIn, IsEmptyAt};
 ghost use Rattle.workload.specs.Generator.{mint_of};
 
 use audit::{Totals, Verdict};
 use audit_command::joined;
-use audited_ledgers::audit_on;
 use cbdc_types::{Answer, FullTx, List, Mint, Output, Shape};
 use file_runs::Ran;
 use ledger_init::{Made, make_ledger};
+use mem_devices::PlainRack;
 use outside::{Gate, Sink};
-use plain_rack::PlainRack;
+use rack_ledgers::audit_on;
 use rack_runs::run_on;
 use requests::RunOptions;
-use run_report::write_generated;
+use run_command::write_generated;
+use sentinel::AllGood;
 use std::alloc::{AllocError, Global};
 use std::sync::Wait;
 use std::thread::Threads;
-use verifier_port::AllGood;
 use workload::{Clients, generate_clients};
 
 // What the run and the audit of a workload come to.

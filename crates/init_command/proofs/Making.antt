@@ -12,10 +12,10 @@ use Rattle.ledger_init.specs.declared.making.Made.{Made}
 use Rattle.line_text.specs.Lines.{Text, init_text}
 use Rattle.cbdc_model.specs.History.{minted}
 use Rattle.record_log.specs.Held.{OpensTo}
-use Rattle.rack_nodes.specs.Racked.{SameRoom}
+use Rattle.rack_ledgers.specs.Racked.{SameRoom}
 use Rattle.ledger_laws.proofs.FirstJournals.{first_is}
 use Rattle.init_command.specs.Outcomes.{DidInit}
-use Rattle.workload_laws.specs.Files.{first_journals}
+use Rattle.submission_laws.specs.Files.{first_journals}
 
 module _ {D : Type 0} (files : Text → Option (List ℕ)) (content : D → Option (List ℕ)) (images : D → List ℕ → Type 0) (limit : D → ℕ) (before now : ℕ → Option D) (shape : Shape) (file : FileWord) (mint : List Output)
     (read : Tells (files file.name.now) (λ c. mint_of_file c ≡ Ok mint)) where

@@ -11,8 +11,8 @@ use Rattle.requests.specs.declared.FileWord.{FileWord}
 use Rattle.input_files.specs.Contents.{mint_of_file, IsNotRead}
 use Rattle.ledger_init.specs.Made.{MayBeMade, HasPlaceFor, HoldsFirst, first_of, node_count, IsUnmade, IsLeft}
 use Rattle.printed_lines.specs.Reports.{init_lines}
-use Rattle.rack_nodes.specs.Racked.{OfTold, SameRoom}
-use Rattle.workload_laws.specs.Files.{first_journals}
+use Rattle.rack_ledgers.specs.Racked.{OfTold, SameRoom}
+use Rattle.submission_laws.specs.Files.{first_journals}
 
 -- the file held a mint, no node was in use, each node's disk had the place for its first record and holds it alone, and so does whatever a crash leaves
 -- of one that told its content, and each has as much room as the disk that was in its place, while all other disks are as before; the first records are

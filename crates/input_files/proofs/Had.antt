@@ -3,8 +3,8 @@ use Rattle.std.proofs.Common.{◌≡◌, ℕ, ◌≤◌, List, Option, Result, O
 use Rattle.outside.specs.Images.{Tells}
 use Rattle.cbdc_types.specs.declared.answer.Answer.{Answer}
 use Rattle.cbdc_types.specs.declared.answer.Answer.TheVariants as answers
-use Rattle.verifier_port.specs.Files.{Reads}
-use Rattle.verifier_port.specs.declared.file.VerdictFile.{VerdictFile}
+use Rattle.sentinel.specs.Files.{Reads}
+use Rattle.sentinel.specs.declared.file.VerdictFile.{VerdictFile}
 use Rattle.input_files.specs.Inputs.{AreHadVerdicts, AreNoHadVerdicts}
 use Rattle.input_files.specs.Contents.{front, goes_on, AreVerdicts, IsNoVerdicts, IsUnfetched}
 use Rattle.input_files.specs.declared.fetched.Fetched.{Fetched}

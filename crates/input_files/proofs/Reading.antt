@@ -11,9 +11,9 @@ use Rattle.client_files.specs.declared.fault.StreamFault.TheVariants as stream_f
 use Rattle.client_files.specs.declared.fault.BadFile.{BadFile}
 use Rattle.client_files.specs.declared.fault.FileFault.{FileFault}
 use Rattle.client_files.specs.declared.fault.FileFault.TheVariants.{Bad, Memory}
-use Rattle.verifier_port.specs.Files.{Reads}
-use Rattle.verifier_port.specs.declared.file.VerdictFault.{VerdictFault}
-use Rattle.verifier_port.specs.declared.file.VerdictFault.TheVariants as verdict_fault
+use Rattle.sentinel.specs.Files.{Reads}
+use Rattle.sentinel.specs.declared.file.VerdictFault.{VerdictFault}
+use Rattle.sentinel.specs.declared.file.VerdictFault.TheVariants as verdict_fault
 use Rattle.input_files.specs.Contents.{front, goes_on, IsNotRead, IsFaultOf, IsStreamFaultOf, IsVerdictFaultOf, IsNoVerdicts, IsUnfetched, AreRead, FirstNotRead, txs_of_file, all_txs}
 use Rattle.std.proofs.Common.{suc, add-one}
 use Rattle.std.proofs.Math.Seq.{take-suc, drop-cons}

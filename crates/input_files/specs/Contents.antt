@@ -14,10 +14,10 @@ use Rattle.client_files.specs.declared.fault.FileFault.{FileFault}
 use Rattle.client_files.specs.declared.fault.FileFault.TheVariants.{Bad, Memory}
 use Rattle.client_files.specs.declared.fault.StreamFault.{StreamFault}
 use Rattle.client_files.specs.declared.fault.StreamFault.TheVariants as stream_fault
-use Rattle.verifier_port.specs.Files.{Reads}
-use Rattle.verifier_port.specs.declared.file.VerdictFile.{VerdictFile}
-use Rattle.verifier_port.specs.declared.file.VerdictFault.{VerdictFault}
-use Rattle.verifier_port.specs.declared.file.VerdictFault.TheVariants as verdict_fault
+use Rattle.sentinel.specs.Files.{Reads}
+use Rattle.sentinel.specs.declared.file.VerdictFile.{VerdictFile}
+use Rattle.sentinel.specs.declared.file.VerdictFault.{VerdictFault}
+use Rattle.sentinel.specs.declared.file.VerdictFault.TheVariants as verdict_fault
 use Rattle.requests.specs.declared.FileWord.{FileWord}
 use Rattle.clap.specs.Words.{Text}
 

@@ -2,9 +2,9 @@
 use Rattle.std.specs.Prelude.{◌≡◌, ◌⊎◌, ℕ, List, Option, Result, Ok, Err}
 use Rattle.cbdc_types.specs.declared.answer.Answer.{Answer}
 use Rattle.cbdc_types.specs.declared.tx.FullTx.{FullTx}
-use Rattle.verifier_port.specs.Files.{Reads}
-use Rattle.verifier_port.specs.declared.file.VerdictFile.{VerdictFile}
-use Rattle.verifier_port.specs.declared.file.VerdictFault.{VerdictFault}
+use Rattle.sentinel.specs.Files.{Reads}
+use Rattle.sentinel.specs.declared.file.VerdictFile.{VerdictFile}
+use Rattle.sentinel.specs.declared.file.VerdictFault.{VerdictFault}
 use Rattle.requests.specs.declared.FileWord.{FileWord}
 use Rattle.input_files.specs.Contents.{AreRead, FirstNotRead, IsNoVerdicts, IsVerdictFaultOf}
 use Rattle.input_files.specs.declared.fetched.Fetched.{Fetched}

@@ -10,8 +10,8 @@ use crate::{all_clients_in, verdict_answer};
 use cbdc_types::{Answer, FullTx, List};
 use outside::Inbox;
 use requests::FileWord;
+use sentinel::VerdictFile;
 use std::alloc::Global;
-use verifier_port::VerdictFile;
 
 /// The transactions of client files, in their order, and the verdicts on their witnesses.
 #[derive(Drop)]

@@ -17,8 +17,8 @@ pub use fetched::Fetched;
 pub use inputs::{Inputs, inputs_in};
 use outside::Inbox;
 use requests::FileWord;
+use sentinel::{BadLine, VerdictFault};
 use std::alloc::Global;
-use verifier_port::{BadLine, VerdictFault};
 
 // What a fault of a file answers.
 fn answer_of(file: &FileWord, fault: FileFault) -> Answer

@@ -1,11 +1,11 @@
 // What calls at a shard are answered, by the plain program over its journal and by the shard itself, which has taken the journal in.
 use crate::state::State;
 use cbdc_types::{FinishCall, ForgetCall, Header, LockCall, Record, Replied, Stamp};
-use model_check::{is_after, last_stamp, next_finish, next_forget, next_lock, status_of};
-use row_records::{Known, Told, finish_call, forget_call, lock_call};
-use row_text::{Wrong, rest};
+use plain_check::{
+    ShardCall, is_after, last_stamp, next_finish, next_forget, next_lock, status_of,
+};
+use row_records::{Known, Told, Wrong, finish_call, forget_call, lock_call, rest};
 use shard_core::{LockPlan, Remembered, ShardCore, StampPlan};
-use world_core::ShardCall;
 
 // Tells a stamp, which was kept or is new.
 fn tell_stamp(told: &mut Told, kind: &str, stamp: Stamp) {
@@ -37,19 +37,19 @@ fn tell_other(told: &mut Told, plan: &StampPlan) {
 }
 
 // Tells the plan of the definition.
-fn tell_defined_lock(told: &mut Told, plan: &model_check::LockPlan) {
+fn tell_defined_lock(told: &mut Told, plan: &plain_check::LockPlan) {
     match plan {
-        model_check::LockPlan::Kept(own) => tell_replied(told, "kept", own),
-        model_check::LockPlan::Append(own) => tell_replied(told, "append", own),
-        model_check::LockPlan::Refuse(why) => told.shown(why),
+        plain_check::LockPlan::Kept(own) => tell_replied(told, "kept", own),
+        plain_check::LockPlan::Append(own) => tell_replied(told, "append", own),
+        plain_check::LockPlan::Refuse(why) => told.shown(why),
     }
 }
 
-fn tell_defined(told: &mut Told, plan: &model_check::StampPlan) {
+fn tell_defined(told: &mut Told, plan: &plain_check::StampPlan) {
     match plan {
-        model_check::StampPlan::Kept(own) => tell_stamp(told, "kept", *own),
-        model_check::StampPlan::Append(own) => tell_stamp(told, "append", *own),
-        model_check::StampPlan::Refuse(why) => told.shown(why),
+        plain_check::StampPlan::Kept(own) => tell_stamp(told, "kept", *own),
+        plain_check::StampPlan::Append(own) => tell_stamp(told, "append", *own),
+        plain_check::StampPlan::Refuse(why) => told.shown(why),
     }
 }
 

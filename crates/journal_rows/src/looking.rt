@@ -2,13 +2,12 @@
 use crate::calls::yes_twice;
 use crate::state::{State, journals_of};
 use cbdc_types::{Header, LaneId, List, Record, Shape};
-use model_check::{
+use plain_check::{
     Listed, Phase, Row, first_refusal_of, is_after, is_caused, is_in_grammar, is_ordered,
     journal_of, kept_room, lane_room, need_of, outcome_of, size_of, slot_of, slot_stamp, status_of,
     used_of,
 };
-use row_records::{Told, verdicts};
-use row_text::rest;
+use row_records::{Told, rest, verdicts};
 
 // Tells a number, or that there is none.
 fn tell_number(told: &mut Told, own: Option<u64>) {

@@ -1,9 +1,8 @@
 // Steps that make files and ledgers.
 use crate::state::State;
 use cbdc_types::NodeId;
-use model_check::Row;
-use row_records::{Told, rows_in};
-use row_text::{put_word, rest};
+use plain_check::Row;
+use row_records::{Told, put_word, rest, rows_in};
 
 /// `files TX.. / TX..`: the files of a run, or what was submitted before; `files none` are none.
 pub fn files(state: &mut State, kind: &str, words: &[&str], told: &mut Told) {

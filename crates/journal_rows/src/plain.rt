@@ -1,17 +1,14 @@
 // What the plain programs of the definitions say of ledgers.
 use crate::state::State;
 use cbdc_types::{CompactTx, FullTx, Hash, Input, List};
-use identifiers::{input_hash, tx_id};
-use kept_check::{are_alike, history_of, is_clean, is_kept_ledger};
-use model_check::{
-    Row, committed_compact, committed_of, count_of_book, fold_of, genesis_book, has, stamp_of,
-    unspent_of, value_of,
+use compact_tx::{input_hash, tx_id};
+use plain_check::{
+    Row, are_alike, are_waves, committed_compact, committed_of, count_of_book, fold_of,
+    genesis_book, has, history_of, is_clean, is_kept_ledger, stamp_of, unspent_of, value_of,
 };
-use row_records::Told;
-use row_text::rest;
+use row_records::{Told, rest};
+use sentinel::AllGood;
 use std::alloc::{AllocError, Global};
-use verifier_port::AllGood;
-use wave_check::are_waves;
 
 // Whether what came is the yes or the no that the word at a place tells.
 fn check_at(words: &[&str], at: usize, came: Result<bool, AllocError>, told: &mut Told) {

@@ -1,10 +1,8 @@
 // What a row has made so far: transactions, files and ledgers.
 use cbdc_types::{FullTx, List, NodeId, Output, Record};
-use model_check::{Row, journal_of};
-use row_records::{Known, Told, row};
-use row_text::{Names, Wrong};
+use plain_check::{Row, World, journal_of};
+use row_records::{Known, Names, Told, Wrong, row};
 use std::alloc::{AllocError, Global};
-use world_core::World;
 
 /// What a row has made so far: hashes and transactions, files as the names of their transactions with strokes between them, ledgers with
 /// the newest record first, and a world. What stands last of a name holds.

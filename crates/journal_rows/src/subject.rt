@@ -11,10 +11,11 @@ use crate::verbs::{Verb, is_for, takes_text, verb_of};
 use crate::worlds::{
     NO_WORLD, again, begin, end, flight, nodes, recovered, reopen, stands, stop, world, write,
 };
-use row_records::{Told, mint, name_form, name_tx, shape};
-use row_text::{Block, Names, Subject, Wrong, rest, word};
+use plain_check::World;
+use row_records::{
+    Block, Names, Subject, Told, Wrong, mint, name_form, name_tx, rest, shape, word,
+};
 use std::alloc::Global;
-use world_core::World;
 
 // Does a step, by its verb and the words behind it, and tells what comes of it.
 fn tell(state: &mut State, verb: Verb, words: &[&str], text: &str, told: &mut Told) {

@@ -2,10 +2,8 @@
 use crate::calls::call_of;
 use crate::state::State;
 use cbdc_types::{List, NodeId, Record};
-use model_check::{Node, is_recovered};
-use row_records::Told;
-use row_text::rest;
-use world_core::{Event, World};
+use plain_check::{Event, Node, World, is_recovered};
+use row_records::{Told, rest};
 
 /// No world was made before.
 pub const NO_WORLD: &str = "no world was made";

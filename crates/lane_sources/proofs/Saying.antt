@@ -7,8 +7,8 @@ use Rattle.cbdc_model.specs.Coins.{FullTx, compact, tx_id}
 use Rattle.cbdc_model.specs.Waves.{sent_to}
 use Rattle.base_types.specs.declared.faults.Refusal.{Refusal}
 use Rattle.sentinel.specs.FirstRefusal.{IsSound, IsFirstRefusal}
-use Rattle.sound_laws.specs.SoundTest.{sound_by}
-use Rattle.sound_laws.proofs.Telling.{is_sound_law, one_test_law}
+use Rattle.submissions.specs.SoundTest.{sound_by}
+use Rattle.submissions.proofs.Telling.{is_sound_law, one_test_law}
 use Rattle.submissions.specs.Checks.{VerdictsOf, TellsSound, IsSaid}
 use Rattle.submissions.specs.declared.Checked.{Checked}
 use Rattle.submissions.specs.declared.Judgement.TheVariants.{Refused, Sound}

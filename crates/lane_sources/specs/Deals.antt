@@ -1,6 +1,6 @@
 -- What stands where no file is picked.
 use Rattle.cbdc_model.specs.Records.{Shape}
-use Rattle.verifier_port.specs.declared.Verdict.TheVariants.{Absent}
+use Rattle.sentinel.specs.declared.verifier.Verdict.TheVariants.{Absent}
 use Rattle.submissions.specs.Checks.{VerdictsOf}
 
 pub no_shape : Shape

@@ -6,9 +6,9 @@ ghost use Rattle.lane_sources.specs.Sources.{lanes_of, AreFinished};
 
 use crate::file::{Deals, FileOf};
 use crate::source::LaneSource;
+use sentinel::Verifier;
 use std::sync::Wait;
 use submissions::Checked;
-use verifier_port::Verifier;
 
 // Each source comes to the end of the file, the one at each place for the lane of that number.
 fn finish_all<'a, W: Wait, V: Verifier, F: Deals>(sources: &mut [LaneSource<'a, W, V, F>])

@@ -6,8 +6,8 @@ ghost use Rattle.submissions.specs.Checks.{VerdictsOf};
 ghost use Rattle.lane_sources.specs.Deals.{no_shape, no_verdicts};
 
 use cbdc_types::FullTx;
+use sentinel::Verifier;
 use std::marker::{Brand, Model, PhantomData};
-use verifier_port::Verifier;
 
 /// Which file is dealt to lanes. A call at `Brand` picks it, and from then on the type of a source says that it is this one's.
 pub trait Deals {

@@ -1,14 +1,18 @@
-//! What the submissions of a client file send to a lane, checked as the lane asks for it.
+//! What the submissions of a client file send to a lane, checked as the lane asks for it, or ahead of it by a sentinel in a thread of its own.
+//!
+//! - What is true of a message is what its type says. Nothing is promised of what the channel delivers: a lane computes whatever does not come.
 #![tactic(auto)]
 
 mod ahead;
 mod behind;
+mod feeding;
 mod file;
 mod ruled;
 mod source;
 
 pub use ahead::Ahead;
 pub use behind::checks_of;
+pub use feeding::{Feeder, MESSAGES, feed, pipe};
 pub use file::{Deals, FileOf};
 pub use ruled::{RuledAt, rule_ahead, rule_at};
 pub use source::LaneSource;

@@ -7,11 +7,11 @@ ghost use Rattle.lane_sources.specs.Sources.{SubmissionAt};
 
 use crate::file::{Deals, FileOf};
 use rayon::prelude::*;
+use sentinel::Verifier;
 use std::alloc::{AllocError, Global};
 use std::marker::{Model, PhantomData};
 use std::thread::Threads;
 use submissions::{Ruled, rule};
-use verifier_port::Verifier;
 
 /// A place of the file that `F` picks, with what a sentinel makes of the submission there: its type says that it is this one's.
 #[derive(Drop)]

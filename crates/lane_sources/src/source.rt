@@ -10,11 +10,11 @@ use crate::file::{Deals, FileOf};
 use crate::ruled::found_or_now;
 use cbdc_types::{CompactTx, Hash, Refusal};
 use lane_driver::Source;
+use sentinel::Verifier;
 use std::alloc::{AllocError, Global};
 use std::marker::Model;
 use std::sync::Wait;
 use submissions::{Checked, Judged, Judgement, Ruled, Ruling, judge};
-use verifier_port::Verifier;
 
 /// What a file sends to a lane: the submission at place j goes to lane j modulo the number of lanes, and the compact forms of the sound
 /// ones are sent. Each is checked when the lane comes to it, unless what a sentinel makes of it was found ahead, and what is said of it is

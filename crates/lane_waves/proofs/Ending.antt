@@ -21,21 +21,21 @@ use Rattle.node_lock.specs.declared.seat.Seat.{Seat}
 use Rattle.node_lock.specs.Seats.{TableId, all_known, knows, first_of}
 use Rattle.node_lock.specs.Viewing.{viewed}
 use Rattle.node_ports.specs.Nodes.{sight_at, no_node}
-use Rattle.shard_fanout.specs.Seated.{opening_sight, seat_sight, Serves}
-use Rattle.shard_fanout.specs.Nodes.{shard_sight, log_sight}
-use Rattle.shard_fanout.specs.declared.coordinators.SharedLog.{SharedLog}
-use Rattle.shard_fanout.specs.declared.locking.SharedShard.{SharedShard}
-use Rattle.shard_fanout.specs.declared.seated.ShardSeat.{ShardSeat}
-use Rattle.shard_fanout.specs.declared.tables.Locks.{Ghosts}
-use Rattle.shard_fanout.proofs.Seating.{seen_here}
+use Rattle.port_sets.specs.Seated.{opening_sight, seat_sight, Serves}
+use Rattle.port_sets.specs.Nodes.{shard_sight, log_sight}
+use Rattle.port_sets.specs.declared.coordinators.SharedLog.{SharedLog}
+use Rattle.port_sets.specs.declared.locking.SharedShard.{SharedShard}
+use Rattle.port_sets.specs.declared.seated.ShardSeat.{ShardSeat}
+use Rattle.port_sets.specs.declared.tables.Locks.{Ghosts}
+use Rattle.port_sets.proofs.Seating.{seen_here}
 use Rattle.thread_laws.specs.Closing.{IsHand}
 use Rattle.thread_laws.specs.Running.{LaneRan}
 use Rattle.thread_laws.specs.Whole.{HasEnded}
-use Rattle.wave_lanes.specs.Held.{AreOfLane, Begins, Ends, HasRun, log_of, logs_of, shards_of}
-use Rattle.wave_lanes.specs.Ports.{seats_of}
-use Rattle.wave_lanes.specs.declared.runs.LaneRun.{LaneRun}
-use Rattle.wave_lanes.proofs.Returning.{all_home}
-use Rattle.wave_records.specs.Among.{hands_at}
+use Rattle.lane_waves.specs.Held.{AreOfLane, Begins, Ends, HasRun, log_of, logs_of, shards_of}
+use Rattle.lane_waves.specs.Ports.{seats_of}
+use Rattle.lane_waves.specs.declared.runs.LaneRun.{LaneRun}
+use Rattle.lane_waves.proofs.Returning.{all_home}
+use Rattle.lane_waves.specs.Among.{hands_at}
 use Rattle.lane_waves.specs.Lanes.{IsReady}
 use Rattle.lane_waves.specs.Places.{BothFrom}
 use Rattle.lane_waves.specs.Deals.{AreOpen, log_at, shard_at, IsSetUp, HaveSeats}

@@ -7,16 +7,16 @@ use Rattle.cbdc_model.specs.Sights.{Sight}
 use Rattle.node_lock.specs.declared.lock.Guarded.{Guarded}
 use Rattle.node_lock.specs.declared.seat.Seat.{Seat}
 use Rattle.node_lock.specs.Seats.{AllAt, AreFresh, table_of, opening_of}
-use Rattle.shard_fanout.specs.declared.coordinators.SharedLog.{SharedLog}
-use Rattle.shard_fanout.specs.declared.locking.SharedShard.{SharedShard}
-use Rattle.shard_fanout.specs.declared.seated.ShardSeat.{ShardSeat}
-use Rattle.shard_fanout.specs.declared.tables.Locks.{Ghosts}
-use Rattle.wave_ends.specs.Dealing.{PopsEach, HaveRoom}
-use Rattle.wave_ends.specs.Rows.{AreLeft, AreBack, AreOf}
-use Rattle.wave_ends.proofs.Passing.{gathers}
-use Rattle.wave_ends.proofs.Closing.{last_first}
-use Rattle.wave_lanes.specs.Ports.{seats_of}
-use Rattle.wave_lanes.specs.declared.runs.LaneRun.{LaneRun}
+use Rattle.port_sets.specs.declared.coordinators.SharedLog.{SharedLog}
+use Rattle.port_sets.specs.declared.locking.SharedShard.{SharedShard}
+use Rattle.port_sets.specs.declared.seated.ShardSeat.{ShardSeat}
+use Rattle.port_sets.specs.declared.tables.Locks.{Ghosts}
+use Rattle.lane_waves.specs.Dealing.{PopsEach, HaveRoom}
+use Rattle.lane_waves.specs.NodeRows.{AreLeft, AreBack, AreOf}
+use Rattle.lane_waves.proofs.Passing.{gathers}
+use Rattle.lane_waves.proofs.Closing.{last_first}
+use Rattle.lane_waves.specs.Ports.{seats_of}
+use Rattle.lane_waves.specs.declared.runs.LaneRun.{LaneRun}
 use Rattle.lane_waves.specs.Deals.{EachHolds}
 use Rattle.lane_waves.specs.Gathers.{IsSeat, AreSeats, EachTakes, IsOver, AllOver, IsEnd, IsBack, AreHome, AllGave, AllOf, Gathered, Chunks, shard_seats, home_seat}
 use Rattle.lane_waves.specs.declared.dealing.Table.{Table}

@@ -7,13 +7,13 @@ use Rattle.std.specs.Global.{Vec}
 use Rattle.node_lock.specs.declared.lock.Guarded.{Guarded}
 use Rattle.node_lock.specs.declared.seat.Seat.{Seat}
 use Rattle.node_lock.specs.Seats.{TableId, AllAt, all_known, knows, table_of, lanes_of}
-use Rattle.shard_fanout.specs.declared.coordinators.SharedLog.{SharedLog}
-use Rattle.shard_fanout.specs.declared.tables.Locks.{Ghosts}
+use Rattle.port_sets.specs.declared.coordinators.SharedLog.{SharedLog}
+use Rattle.port_sets.specs.declared.tables.Locks.{Ghosts}
 use Rattle.thread_laws.specs.Closing.{IsHand}
-use Rattle.wave_ends.specs.Rows.{AreReady}
-use Rattle.wave_ends.proofs.Closing.{first_last}
-use Rattle.wave_lanes.specs.declared.runs.LaneRun.{LaneRun}
-use Rattle.wave_records.specs.Among.{hands_at}
+use Rattle.lane_waves.specs.NodeRows.{AreReady}
+use Rattle.lane_waves.proofs.Closing.{first_last}
+use Rattle.lane_waves.specs.declared.runs.LaneRun.{LaneRun}
+use Rattle.lane_waves.specs.Among.{hands_at}
 use Rattle.lane_waves.specs.Gathers.{IsSeat, Chunks, home_seat}
 use Rattle.lane_waves.specs.Places.{AllFrom}
 use Rattle.lane_waves.proofs.Places.{all_more, turned_many, zero_row}

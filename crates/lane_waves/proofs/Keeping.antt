@@ -6,7 +6,7 @@ use Rattle.lane_driver.specs.Reports.{CutFrom, AreReports, IsReported}
 use Rattle.lane_driver.specs.declared.fault.BatchReport.{BatchReport}
 use Rattle.ledger_runs.specs.Telling.{decided_in}
 use Rattle.thread_laws.specs.Telling.{told_in}
-use Rattle.wave_ends.proofs.Closing.{first_last}
+use Rattle.lane_waves.proofs.Closing.{first_last}
 use Rattle.lane_waves.proofs.Places.{append_many}
 
 -- a write that a function does not see

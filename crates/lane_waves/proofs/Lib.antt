@@ -1,3 +1,13 @@
+pub mod Closing
+pub mod Locking
+pub mod Rounds
+pub mod Passing
+pub mod NodePlaces
+pub mod Porting
+pub mod Going
+pub mod Returning
+pub mod Fresh
+pub mod Making
 pub mod Places
 pub mod Numbers
 pub mod Opening

@@ -8,12 +8,12 @@ use Rattle.node_lock.specs.declared.seat.Seat.{Seat}
 use Rattle.node_lock.specs.Seats.{AreFresh, knows, first_of, opening_of, table_of, lanes_of}
 use Rattle.node_lock.specs.Tickets.{fresh}
 use Rattle.cbdc_model.specs.Records.{Shape}
-use Rattle.shard_fanout.specs.Nodes.{log_sight}
-use Rattle.shard_fanout.specs.declared.coordinators.SharedLog.{SharedLog}
-use Rattle.wave_ends.specs.Dealing.{PopsEach, HaveOne}
-use Rattle.wave_ends.specs.Rows.{AreLeft}
-use Rattle.wave_ends.proofs.Locking.{fresh_at}
-use Rattle.wave_ends.proofs.Passing.{fresh_last, HaveLanes}
+use Rattle.port_sets.specs.Nodes.{log_sight}
+use Rattle.port_sets.specs.declared.coordinators.SharedLog.{SharedLog}
+use Rattle.lane_waves.specs.Dealing.{PopsEach, HaveOne}
+use Rattle.lane_waves.specs.NodeRows.{AreLeft}
+use Rattle.lane_waves.proofs.Locking.{fresh_at}
+use Rattle.lane_waves.proofs.Passing.{fresh_last, HaveLanes}
 use Rattle.lane_waves.specs.Places.{AllFrom}
 use Rattle.lane_waves.specs.Rows.{lanes_from}
 use Rattle.lane_waves.specs.Deals.{EachHolds, IsHomeLeft}

@@ -3,7 +3,7 @@ use Rattle.std.proofs.Common.{◌≡◌, ℕ, zero, suc, ◌+◌, ◌<◌, ◌�
 use Rattle.std.proofs.lemmas.Grind.{common_steps}
 use Rattle.std.specs.Global.{Vec}
 use Rattle.node_lock.specs.Tickets.{times, is_at, one_if}
-use Rattle.wave_ends.specs.Rows.{IsRow, AreRows}
+use Rattle.lane_waves.specs.NodeRows.{IsRow, AreRows}
 use Rattle.lane_waves.specs.Places.{AllFrom}
 use Rattle.lane_waves.specs.Rows.{lanes_from}
 

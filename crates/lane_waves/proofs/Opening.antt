@@ -13,13 +13,13 @@ use Rattle.node_lock.specs.declared.lock.Guarded.{Guarded}
 use Rattle.node_lock.specs.declared.seat.Seat.{Seat}
 use Rattle.node_lock.specs.Seats.{TableId, AreFresh, opening_of, table_of, lanes_of}
 use Rattle.node_ports.specs.Nodes.{sight_at}
-use Rattle.shard_fanout.specs.Seated.{no_table}
-use Rattle.shard_fanout.specs.Nodes.{shard_sight, log_sight}
-use Rattle.shard_fanout.specs.declared.coordinators.SharedLog.{SharedLog}
-use Rattle.shard_fanout.specs.declared.locking.SharedShard.{SharedShard}
-use Rattle.wave_ends.specs.Rows.{AreLocked}
-use Rattle.wave_ends.proofs.Locking.{fresh_at}
-use Rattle.wave_lanes.specs.Ports.{AtTables}
+use Rattle.port_sets.specs.Seated.{no_table}
+use Rattle.port_sets.specs.Nodes.{shard_sight, log_sight}
+use Rattle.port_sets.specs.declared.coordinators.SharedLog.{SharedLog}
+use Rattle.port_sets.specs.declared.locking.SharedShard.{SharedShard}
+use Rattle.lane_waves.specs.NodeRows.{AreLocked}
+use Rattle.lane_waves.proofs.Locking.{fresh_at}
+use Rattle.lane_waves.specs.Ports.{AtTables}
 use Rattle.lane_waves.specs.Places.{AllFrom, BothFrom}
 use Rattle.lane_waves.specs.Rows.{lanes_from, home_lanes, all_lanes}
 use Rattle.lane_waves.specs.Deals.{IsOpenAt, AreOpen, log_at, shard_at, IsHomeFresh}

@@ -5,7 +5,7 @@ use Rattle.std.specs.Global.{Vec}
 use Rattle.std.proofs.lemmas.Grind.{common_steps}
 use Rattle.std.proofs.lemmas.List.{length-reverse, take_at}
 use Rattle.std.proofs.lemmas.List.Elements.{All-head, All-tail}
-use Rattle.wave_ends.proofs.Closing.{first_last}
+use Rattle.lane_waves.proofs.Closing.{first_last}
 use Rattle.lane_waves.specs.Places.{AllFrom, BothFrom}
 
 pub one_more : {A : Type 0} (k : ℕ) (y : A) (xs : List A) → k + length (y ∷ xs) ≡ suc k + length xs

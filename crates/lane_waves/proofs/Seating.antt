@@ -17,19 +17,19 @@ use Rattle.node_lock.specs.Seats.{TableId, knows, first_of, opening_of, table_of
 use Rattle.node_lock.specs.Tickets.{fresh}
 use Rattle.node_lock.specs.Viewing.{viewed}
 use Rattle.node_ports.specs.Nodes.{sight_at}
-use Rattle.shard_fanout.specs.Seated.{opening_sight, seat_sight, seen_at, phase_at, Serves}
-use Rattle.shard_fanout.specs.Nodes.{shard_sight, log_sight}
-use Rattle.shard_fanout.specs.declared.coordinators.SharedLog.{SharedLog}
-use Rattle.shard_fanout.specs.declared.locking.SharedShard.{SharedShard}
-use Rattle.shard_fanout.specs.declared.logged.LogSeat.{LogSeat}
-use Rattle.shard_fanout.specs.declared.seated.ShardSeat.{ShardSeat}
-use Rattle.shard_fanout.specs.declared.tables.Locks.{Ghosts}
-use Rattle.shard_fanout.proofs.Seating.{seen_here}
-use Rattle.wave_ends.specs.Rows.{AreDealt}
-use Rattle.wave_ends.proofs.Closing.{last_first}
-use Rattle.wave_lanes.specs.Held.{AreOfLane, log_of, shards_of}
-use Rattle.wave_lanes.specs.Ports.{ArePorts, AtTables}
-use Rattle.wave_lanes.specs.declared.runs.LaneRun.{LaneRun}
+use Rattle.port_sets.specs.Seated.{opening_sight, seat_sight, seen_at, phase_at, Serves}
+use Rattle.port_sets.specs.Nodes.{shard_sight, log_sight}
+use Rattle.port_sets.specs.declared.coordinators.SharedLog.{SharedLog}
+use Rattle.port_sets.specs.declared.locking.SharedShard.{SharedShard}
+use Rattle.port_sets.specs.declared.logged.LogSeat.{LogSeat}
+use Rattle.port_sets.specs.declared.seated.ShardSeat.{ShardSeat}
+use Rattle.port_sets.specs.declared.tables.Locks.{Ghosts}
+use Rattle.port_sets.proofs.Seating.{seen_here}
+use Rattle.lane_waves.specs.NodeRows.{AreDealt}
+use Rattle.lane_waves.proofs.Closing.{last_first}
+use Rattle.lane_waves.specs.Held.{AreOfLane, log_of, shards_of}
+use Rattle.lane_waves.specs.Ports.{ArePorts, AtTables}
+use Rattle.lane_waves.specs.declared.runs.LaneRun.{LaneRun}
 use Rattle.lane_waves.specs.Places.{AllFrom, BothFrom}
 use Rattle.lane_waves.specs.Deals.{MayRun, started, IsOpenAt, AreOpen, log_at, shard_at, IsSetUp, HaveSeats, IsNext}
 use Rattle.lane_waves.specs.declared.dealing.Table.{Table}

@@ -11,16 +11,16 @@ use Rattle.ledger_runs.specs.Lanes.{LaneOf}
 use Rattle.node_lock.specs.declared.lock.Guarded.{Guarded}
 use Rattle.node_lock.specs.declared.seat.Seat.{Seat}
 use Rattle.node_lock.specs.Seats.{TableId}
-use Rattle.shard_fanout.specs.Nodes.{shard_sight}
-use Rattle.shard_fanout.specs.declared.coordinators.SharedLog.{SharedLog}
-use Rattle.shard_fanout.specs.declared.locking.SharedShard.{SharedShard}
-use Rattle.shard_fanout.specs.declared.tables.Locks.{Ghosts}
+use Rattle.port_sets.specs.Nodes.{shard_sight}
+use Rattle.port_sets.specs.declared.coordinators.SharedLog.{SharedLog}
+use Rattle.port_sets.specs.declared.locking.SharedShard.{SharedShard}
+use Rattle.port_sets.specs.declared.tables.Locks.{Ghosts}
 use Rattle.thread_laws.specs.Running.{LaneRan}
-use Rattle.wave_ends.specs.Rows.{AreBack, AreLeft}
-use Rattle.wave_ends.proofs.Passing.{all_back}
-use Rattle.wave_lanes.specs.Held.{Ends}
-use Rattle.wave_lanes.specs.declared.runs.LaneRun.{LaneRun}
-use Rattle.wave_records.specs.Among.{hands_at}
+use Rattle.lane_waves.specs.NodeRows.{AreBack, AreLeft}
+use Rattle.lane_waves.proofs.Passing.{all_back}
+use Rattle.lane_waves.specs.Held.{Ends}
+use Rattle.lane_waves.specs.declared.runs.LaneRun.{LaneRun}
+use Rattle.lane_waves.specs.Among.{hands_at}
 use Rattle.lane_waves.specs.Places.{AllFrom, BothFrom}
 use Rattle.lane_waves.specs.Rows.{home_lanes, all_lanes}
 use Rattle.lane_waves.specs.Deals.{MayRun, EachHolds, IsEmptyRoom, IsWaiting, AreOpen, IsSetUp, HaveSeats, log_at, shard_at}

@@ -12,13 +12,13 @@ use Rattle.node_lock.specs.declared.seat.Seat.{Seat}
 use Rattle.node_lock.specs.Seats.{TableId, AreFresh, opening_of, table_of, lanes_of}
 use Rattle.node_lock.specs.Tickets.{fresh}
 use Rattle.node_ports.specs.Nodes.{sight_at}
-use Rattle.shard_fanout.specs.Nodes.{shard_sight, log_sight}
-use Rattle.shard_fanout.specs.declared.coordinators.SharedLog.{SharedLog}
-use Rattle.shard_fanout.specs.declared.locking.SharedShard.{SharedShard}
+use Rattle.port_sets.specs.Nodes.{shard_sight, log_sight}
+use Rattle.port_sets.specs.declared.coordinators.SharedLog.{SharedLog}
+use Rattle.port_sets.specs.declared.locking.SharedShard.{SharedShard}
 use Rattle.thread_laws.specs.Closing.{IsHand}
-use Rattle.wave_ends.specs.Rows.{AreReady, AreLeft}
-use Rattle.wave_ends.proofs.Locking.{fresh_at}
-use Rattle.wave_records.specs.Among.{hands_at}
+use Rattle.lane_waves.specs.NodeRows.{AreReady, AreLeft}
+use Rattle.lane_waves.proofs.Locking.{fresh_at}
+use Rattle.lane_waves.specs.Among.{hands_at}
 use Rattle.lane_waves.specs.Places.{AllFrom}
 use Rattle.lane_waves.specs.Rows.{lanes_from, home_lanes, all_lanes}
 use Rattle.lane_waves.specs.Lanes.{HasNoMemory}

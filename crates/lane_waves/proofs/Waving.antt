@@ -18,16 +18,16 @@ use Rattle.node_lock.specs.Seats.{opening_of}
 use Rattle.node_lock.specs.declared.views.Hand.{Hand}
 use Rattle.node_lock.specs.Tickets.{times, fresh}
 use Rattle.node_ports.specs.Nodes.{sight_at, no_node}
-use Rattle.shard_fanout.specs.Nodes.{shard_sight, log_sight}
-use Rattle.shard_fanout.specs.declared.coordinators.SharedLog.{SharedLog}
-use Rattle.shard_fanout.specs.declared.locking.SharedShard.{SharedShard}
+use Rattle.port_sets.specs.Nodes.{shard_sight, log_sight}
+use Rattle.port_sets.specs.declared.coordinators.SharedLog.{SharedLog}
+use Rattle.port_sets.specs.declared.locking.SharedShard.{SharedShard}
 use Rattle.thread_laws.specs.Closing.{IsHand}
 use Rattle.thread_laws.specs.Running.{WaveRan, LaneRan, IsStillSight}
 use Rattle.thread_laws.specs.Whole.{EachPair, HasEnded}
-use Rattle.wave_ends.specs.Rows.{AreLocked, AreClosed, AreLeft}
-use Rattle.wave_records.specs.Among.{row_at, hands_at}
-use Rattle.wave_records.specs.Laws.{WentOn}
-use Rattle.wave_records.proofs.Places.{nodes_ran}
+use Rattle.lane_waves.specs.NodeRows.{AreLocked, AreClosed, AreLeft}
+use Rattle.lane_waves.specs.Among.{row_at, hands_at}
+use Rattle.lane_waves.specs.Laws.{WentOn}
+use Rattle.lane_waves.proofs.NodePlaces.{nodes_ran}
 use Rattle.lane_waves.specs.Lanes.{HasNoMemory, IsReady}
 use Rattle.lane_waves.specs.Places.{AllFrom, BothFrom}
 use Rattle.lane_waves.specs.Rows.{home_lanes, all_lanes, IsHomeRow, IsShardRow}

@@ -14,15 +14,15 @@ use Rattle.node_lock.specs.Seats.{TableId, AreFresh, knows, opening_of, table_of
 use Rattle.node_lock.specs.Tickets.{fresh}
 use Rattle.node_lock.specs.Viewing.{viewed}
 use Rattle.node_ports.specs.Nodes.{sight_at}
-use Rattle.shard_fanout.specs.Nodes.{shard_sight, log_sight}
-use Rattle.shard_fanout.specs.declared.coordinators.SharedLog.{SharedLog}
-use Rattle.shard_fanout.specs.declared.locking.SharedShard.{SharedShard}
-use Rattle.shard_fanout.specs.declared.logged.LogSeat.{LogSeat}
-use Rattle.shard_fanout.specs.declared.tables.Locks.{Ghosts}
-use Rattle.wave_ends.specs.Rows.{AreLeft, AreDealt}
-use Rattle.wave_lanes.specs.Held.{Begins, log_of, shards_of}
-use Rattle.wave_lanes.specs.Ports.{ArePorts, AtTables}
-use Rattle.wave_lanes.specs.declared.runs.LaneRun.{LaneRun}
+use Rattle.port_sets.specs.Nodes.{shard_sight, log_sight}
+use Rattle.port_sets.specs.declared.coordinators.SharedLog.{SharedLog}
+use Rattle.port_sets.specs.declared.locking.SharedShard.{SharedShard}
+use Rattle.port_sets.specs.declared.logged.LogSeat.{LogSeat}
+use Rattle.port_sets.specs.declared.tables.Locks.{Ghosts}
+use Rattle.lane_waves.specs.NodeRows.{AreLeft, AreDealt}
+use Rattle.lane_waves.specs.Held.{Begins, log_of, shards_of}
+use Rattle.lane_waves.specs.Ports.{ArePorts, AtTables}
+use Rattle.lane_waves.specs.declared.runs.LaneRun.{LaneRun}
 use Rattle.lane_waves.specs.Lanes.{IsReady}
 use Rattle.lane_waves.specs.Places.{AllFrom, BothFrom}
 use Rattle.lane_waves.specs.Rows.{lanes_from, home_lanes, all_lanes}

@@ -10,15 +10,15 @@ use Rattle.ledger_runs.specs.Lanes.{LaneOf}
 use Rattle.node_lock.specs.declared.lock.Guarded.{Guarded}
 use Rattle.node_lock.specs.declared.seat.Seat.{Seat}
 use Rattle.node_lock.specs.Seats.{TableId}
-use Rattle.shard_fanout.specs.declared.coordinators.SharedLog.{SharedLog}
-use Rattle.shard_fanout.specs.declared.locking.SharedShard.{SharedShard}
-use Rattle.shard_fanout.specs.declared.tables.Locks.{Ghosts}
+use Rattle.port_sets.specs.declared.coordinators.SharedLog.{SharedLog}
+use Rattle.port_sets.specs.declared.locking.SharedShard.{SharedShard}
+use Rattle.port_sets.specs.declared.tables.Locks.{Ghosts}
 use Rattle.thread_laws.specs.Telling.{told_in}
-use Rattle.wave_ends.specs.Dealing.{PopsEach}
-use Rattle.wave_ends.specs.Rows.{AreBack, AreOf}
-use Rattle.wave_lanes.specs.Held.{Ends}
-use Rattle.wave_lanes.specs.Ports.{seats_of}
-use Rattle.wave_lanes.specs.declared.runs.LaneRun.{LaneRun}
+use Rattle.lane_waves.specs.Dealing.{PopsEach}
+use Rattle.lane_waves.specs.NodeRows.{AreBack, AreOf}
+use Rattle.lane_waves.specs.Held.{Ends}
+use Rattle.lane_waves.specs.Ports.{seats_of}
+use Rattle.lane_waves.specs.declared.runs.LaneRun.{LaneRun}
 use Rattle.lane_waves.specs.Lanes.{IsReady, IsKept}
 use Rattle.lane_waves.specs.declared.dealing.Table.{Table}
 

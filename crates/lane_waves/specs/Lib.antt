@@ -1,3 +1,10 @@
+pub mod NodeRows
+pub mod Dealing
+pub mod Among
+pub mod Laws
+pub mod Held
+pub mod Ports
+pub mod Phases
 pub mod Places
 pub mod Rows
 pub mod Lanes

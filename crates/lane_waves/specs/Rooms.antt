@@ -2,7 +2,7 @@
 use Rattle.std.specs.Prelude.{◌≡◌, ◌*◌, List, All, length}
 use Rattle.cbdc_model.specs.Records.{Shape}
 use Rattle.ledger_runs.specs.Lanes.{LaneOf}
-use Rattle.shard_fanout.specs.declared.tables.Locks.{Ghosts}
+use Rattle.port_sets.specs.declared.tables.Locks.{Ghosts}
 use Rattle.lane_waves.specs.Lanes.{IsReady}
 use Rattle.lane_waves.specs.Places.{AllFrom}
 use Rattle.lane_waves.specs.Rows.{IsHomeRow, IsShardRow}

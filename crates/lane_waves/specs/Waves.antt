@@ -8,12 +8,12 @@ use Rattle.ledger_runs.specs.Lanes.{LaneOf}
 use Rattle.node_lock.specs.declared.lock.Guarded.{Guarded}
 use Rattle.node_lock.specs.declared.seat.Seat.{Seat}
 use Rattle.node_ports.specs.Nodes.{IsLogHeld}
-use Rattle.shard_fanout.specs.declared.coordinators.SharedLog.{SharedLog}
-use Rattle.shard_fanout.specs.declared.locking.SharedShard.{SharedShard}
+use Rattle.port_sets.specs.declared.coordinators.SharedLog.{SharedLog}
+use Rattle.port_sets.specs.declared.locking.SharedShard.{SharedShard}
 use Rattle.thread_laws.specs.Running.{LaneRan}
 use Rattle.thread_laws.specs.Whole.{EachPair}
-use Rattle.wave_ends.specs.Rows.{AreReady}
-use Rattle.wave_records.specs.Among.{hands_at}
+use Rattle.lane_waves.specs.NodeRows.{AreReady}
+use Rattle.lane_waves.specs.Among.{hands_at}
 use Rattle.lane_waves.specs.Deals.{log_at, shard_at}
 
 -- the nodes are those of a ledger of this shape, in order

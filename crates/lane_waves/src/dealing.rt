@@ -5,18 +5,16 @@ ghost use Rattle.ledger_runs.specs.Lanes.{LaneOf};
 ghost use Rattle.lane_waves.specs.Places.{AllFrom};
 ghost use Rattle.lane_waves.specs.Deals.{IsWaiting, IsNext, AreOpen, HaveSeats, IsHomeLeft, IsHomeFresh, IsEmptyRoom, IsNone};
 
+use crate::{Dealt, LaneRun, SeatSet, deal, ports_over};
 use cbdc_types::{NodeId, Shape};
 use lane_driver::{Ports, Source};
 use ledger_runs::Work;
 use node_lock::{Guarded, Seat};
 use outside::Disk;
-use port_sets::{Fanout, Pace};
-use shard_fanout::{Locks, LogSeat, Shard, ShardSeat, SharedLog, SharedShard};
+use port_sets::{Fanout, Locks, LogSeat, Pace, Shard, ShardSeat, SharedLog, SharedShard};
 use std::alloc::{AllocError, Global};
 use std::marker::PhantomData;
 use std::sync::Wait;
-use wave_ends::{Dealt, deal};
-use wave_lanes::{LaneRun, SeatSet, ports_over};
 
 /// The shards' seats that no lane has, a list for each shard; the lanes that have none; and the runs of those that have theirs. The other lists give room.
 pub(crate) struct Table<'a, W: Wait, D: Disk, S: Shard, B: Locks, X: Source> {

@@ -1,20 +1,18 @@
 // Seats given back, and the lanes with their results.
 ghost use Rattle.std.specs.Prelude.{◌≡◌, ◌≤◌, ◌<◌, ◌*◌, [], All, List, length, vec_capacity};
 ghost use Rattle.node_lock.specs.declared.lock.Guarded.{Guarded as GuardedOf};
-ghost use Rattle.shard_fanout.specs.declared.locking.SharedShard.{SharedShard as SharedShardOf};
+ghost use Rattle.port_sets.specs.declared.locking.SharedShard.{SharedShard as SharedShardOf};
 ghost use Rattle.lane_waves.specs.Deals.{IsEmptyRoom};
 ghost use Rattle.lane_waves.specs.Gathers.{MayGather, IsBack, Gathered, AreHome, HomesBack};
 
 use crate::dealing::Table;
 use crate::lanes::kept;
+use crate::{Dealt, LaneRun, SeatSet, gather, seats_back};
 use lane_driver::{Ports, Source};
 use node_lock::Seat;
 use outside::Disk;
-use port_sets::Fanout;
-use shard_fanout::{Locks, LogSeat, Shard, SharedLog};
+use port_sets::{Fanout, Locks, LogSeat, Shard, SharedLog};
 use std::sync::Wait;
-use wave_ends::{Dealt, gather};
-use wave_lanes::{LaneRun, SeatSet, seats_back};
 
 // The first lane that is not back gives back its seats: those of the shards onto their lists, that of its coordinator to the caller.
 fn gather_lane<'a, W: Wait, D: Disk, S: Shard, B: Locks, X: Source>(

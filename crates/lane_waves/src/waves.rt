@@ -6,11 +6,11 @@ ghost use Rattle.cbdc_model.specs.Ranges.{home_of};
 ghost use Rattle.coord_log.specs.Logs.{sight};
 ghost use Rattle.node_ports.specs.Nodes.{sight_at, IsLogHeld};
 ghost use Rattle.lane_driver.specs.Stops.{IsSettled};
-ghost use Rattle.shard_fanout.specs.Nodes.{log_sight, shard_sight};
-ghost use Rattle.wave_ends.specs.Rows.{AreRows, AreLocked, AreStill, AreLeft};
-ghost use Rattle.wave_lanes.specs.Held.{Begins};
+ghost use Rattle.port_sets.specs.Nodes.{log_sight, shard_sight};
+ghost use Rattle.lane_waves.specs.NodeRows.{AreRows, AreLocked, AreStill, AreLeft};
+ghost use Rattle.lane_waves.specs.Held.{Begins};
 ghost use Rattle.thread_laws.specs.Running.{WaveRan};
-ghost use Rattle.wave_records.specs.Laws.{WentOn};
+ghost use Rattle.lane_waves.specs.Laws.{WentOn};
 ghost use Rattle.lane_waves.specs.Places.{AllFrom};
 ghost use Rattle.lane_waves.specs.Rows.{IsHomeRow, IsShardRow, all_lanes};
 ghost use Rattle.lane_waves.specs.Deals.{MayRun, AreOpen, IsHomeFresh, IsEmptyRoom};
@@ -23,13 +23,14 @@ use crate::dealing::{Table, deal_all, port_rooms};
 use crate::gathering::gather_all;
 use crate::lanes::{make_ready, stop_all};
 use crate::rows::{home_rows, shard_rows};
+use crate::{LaneRun, Locked, close_all, lock_all, run_all};
 use cbdc_types::{LaneId, Shape};
 use coord_log::CoordLog;
 use lane_driver::Source;
 use ledger_runs::Work;
 use node_lock::{Guarded, Seat};
 use outside::{Disk, Gate};
-use shard_fanout::{
+use port_sets::{
     Locks, Shard, ShardSeat, SharedLog, SharedShard, own_logs, own_shards, share_logs, share_shards,
 };
 use std::alloc::{AllocError, Global};
@@ -37,8 +38,6 @@ use std::marker::Brand;
 use std::mem;
 use std::sync::Wait;
 use std::thread::Threads;
-use wave_ends::{Locked, close_all, lock_all};
-use wave_lanes::{LaneRun, run_all};
 
 /// All nodes of a ledger: its coordinators, and its shards.
 pub struct Nodes<D: Disk, S: Shard> {

@@ -14,13 +14,13 @@ use Rattle.cbdc_model.specs.History.{Minted, minted}
 use Rattle.cbdc_model.specs.World.{first_record}
 use Rattle.cbdc_model.specs.Room.{size_of}
 use Rattle.gate_journal.specs.Formatting.{IsEmptied}
-use Rattle.rack_nodes.specs.Places.{EachFrom, IsOpening}
-use Rattle.rack_nodes.specs.Racked.{OfTold, SameRoom, IsUnchanged, IsBack, AreBack, IsOpened, FailsFirst}
-use Rattle.rack_nodes.specs.Blank.{IsUnused, IsNoBlank, IsBlankRefusal}
-use Rattle.rack_nodes.specs.First.{IsBegun, IsUnwritten, first_need}
-use Rattle.rack_nodes.proofs.Each.{each_two, each_weaker, each_split}
-use Rattle.rack_nodes.proofs.Range.{opening_later}
-use Rattle.rack_nodes.proofs.Told.{still_told, same_opened, back_same}
+use Rattle.rack_ledgers.specs.Places.{EachFrom, IsOpening}
+use Rattle.rack_ledgers.specs.Racked.{OfTold, SameRoom, IsUnchanged, IsBack, AreBack, IsOpened, FailsFirst}
+use Rattle.rack_ledgers.specs.Blank.{IsUnused, IsNoBlank, IsBlankRefusal}
+use Rattle.rack_ledgers.specs.First.{IsBegun, IsUnwritten, first_need}
+use Rattle.rack_ledgers.proofs.Each.{each_two, each_weaker, each_split}
+use Rattle.rack_ledgers.proofs.Range.{opening_later}
+use Rattle.rack_ledgers.proofs.Told.{still_told, same_opened, back_same}
 use Rattle.ledger_init.specs.Made.{node_count, first_of, HoldsFirst, LeavesBut, ToldUnused, MayBeMade, IsFirstInUse, HasPlaceFor, IsLastFull, IsUnmade, IsOfNode, StoppedAt}
 use Rattle.ledger_init.specs.Places.{minted_by, HoldsOf, LeavesOf, IsDone, IsStopped, StopsAt}
 use Rattle.ledger_init.proofs.Sizes.{first_size}

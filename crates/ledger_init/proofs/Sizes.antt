@@ -10,9 +10,9 @@ use Rattle.cbdc_model.specs.Coins.{Output, Coin, coin_hash, made_coins, id_of, g
 use Rattle.cbdc_model.specs.Ranges.{shard_of, on_shard}
 use Rattle.cbdc_model.specs.History.{header_of}
 use Rattle.cbdc_model.specs.Room.{size_of}
-use Rattle.record_codec.proofs.Lengths.{body_length}
-use Rattle.record_codec.proofs.Records.{FitsHeader, FitsRecord}
-use Rattle.rack_nodes.specs.First.{first_need}
+use Rattle.record_log.proofs.Lengths.{body_length}
+use Rattle.record_log.proofs.Records.{FitsHeader, FitsRecord}
+use Rattle.rack_ledgers.specs.First.{first_need}
 use Rattle.ledger_init.specs.Made.{first_of, node_count}
 
 on_length : (shards s : ℕ) (xs : List Digest) → length (on_shard shards s xs) ≤ length xs

@@ -2,10 +2,10 @@
 use Rattle.std.proofs.Common.{◌≡◌, ◌≢◌, ◌⊎◌, inl, inr, ℕ, suc, ◌+◌, ◌≤◌, ◌<◌, List, [], ◌∷◌, ◌++◌, length, Option, Some, refl, sym, ◌∙◌, ap, subst, arith, append_assoc, length-append}
 use Rattle.cbdc_types.specs.declared.answer.Answer.{Answer}
 use Rattle.cbdc_model.specs.Records.{Record}
-use Rattle.rack_nodes.specs.Places.{EachFrom}
-use Rattle.rack_nodes.specs.Racked.{OfTold, GoesOn}
-use Rattle.rack_nodes.proofs.Each.{each_weaker}
-use Rattle.rack_nodes.proofs.Range.{opening_later}
+use Rattle.rack_ledgers.specs.Places.{EachFrom}
+use Rattle.rack_ledgers.specs.Racked.{OfTold, GoesOn}
+use Rattle.rack_ledgers.proofs.Each.{each_weaker}
+use Rattle.rack_ledgers.proofs.Range.{opening_later}
 use Rattle.ledger_init.specs.Places.{StopsAt, IsSafe, IsDone, IsStopped}
 
 -- it stops at a node, and those before it are closed

@@ -10,12 +10,12 @@ use Rattle.cbdc_model.specs.Clean.{value_out}
 use Rattle.cbdc_model.specs.History.{minted}
 use Rattle.cbdc_model.specs.World.{first_record}
 use Rattle.cbdc_model.specs.Room.{size_of}
-use Rattle.record_codec.specs.Bodies.{body_of}
+use Rattle.record_log.specs.Bodies.{body_of}
 use Rattle.record_log.specs.Held.{Holds}
 use Rattle.gate_journal.specs.Formatting.{IsEmptied}
-use Rattle.rack_nodes.specs.Racked.{OfTold, IsUnchanged, AreBack}
-use Rattle.rack_nodes.specs.Blank.{IsInUse, IsUnused}
-use Rattle.rack_nodes.specs.First.{IsBegun}
+use Rattle.rack_ledgers.specs.Racked.{OfTold, IsUnchanged, AreBack}
+use Rattle.rack_ledgers.specs.Blank.{IsInUse, IsUnused}
+use Rattle.rack_ledgers.specs.First.{IsBegun}
 
 -- the number of a ledger's nodes
 abbrev pub node_count : Shape → ℕ

@@ -4,12 +4,12 @@ use Rattle.cbdc_types.specs.declared.answer.Answer.{Answer}
 use Rattle.cbdc_types.specs.declared.answer.Answer.TheVariants as answers
 use Rattle.cbdc_model.specs.Records.{Compact, Record}
 use Rattle.cbdc_model.specs.History.{Minted}
-use Rattle.record_codec.specs.Bodies.{body_of}
+use Rattle.record_log.specs.Bodies.{body_of}
 use Rattle.record_log.specs.Held.{Holds}
 use Rattle.gate_journal.specs.Formatting.{IsEmptied}
-use Rattle.rack_nodes.specs.Places.{EachFrom, IsOpening}
-use Rattle.rack_nodes.specs.Racked.{OfTold}
-use Rattle.rack_nodes.specs.First.{IsBegun, first_need, IsUnwritten}
+use Rattle.rack_ledgers.specs.Places.{EachFrom, IsOpening}
+use Rattle.rack_ledgers.specs.Racked.{OfTold}
+use Rattle.rack_ledgers.specs.First.{IsBegun, first_need, IsUnwritten}
 
 -- what first records say of a mint, by its transaction
 abbrev pub minted_by : Compact → Minted

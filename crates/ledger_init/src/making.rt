@@ -4,8 +4,8 @@ ghost use Rattle.outside.specs.Counts.{Rose};
 ghost use Rattle.cbdc_model.specs.Coins.{genesis_tx, genesis_id, genesis_hashes};
 ghost use Rattle.cbdc_model.specs.Clean.{value_out};
 ghost use Rattle.gate_journal.specs.Formatting.{IsEmptied};
-ghost use Rattle.rack_nodes.specs.Racked.{SameRoom};
-ghost use Rattle.rack_nodes.specs.First.{IsBegun};
+ghost use Rattle.rack_ledgers.specs.Racked.{SameRoom};
+ghost use Rattle.rack_ledgers.specs.First.{IsBegun};
 ghost use Rattle.ledger_init.specs.Made.{node_count, first_of, HoldsFirst, LeavesBut, MayBeMade, HasPlaceFor, IsUnmade, IsLeft};
 
 use crate::dealing::total_of;
@@ -13,7 +13,7 @@ use crate::writing::write_firsts;
 use cbdc_types::{Answer, CompactTx, FullTx, Hash, List, Mint, Shape};
 use compact_tx::compact;
 use outside::Rack;
-use rack_nodes::{Blank, open_all};
+use rack_ledgers::{Blank, open_all};
 use std::alloc::{AllocError, Global};
 
 /// A ledger that was made: how many coins were minted, their sum, and the id of the mint.

@@ -1,16 +1,16 @@
 // Writing the first record of each node.
 ghost use Rattle.std.specs.Prelude.{◌≡◌, ◌≢◌, ◌+◌, ◌≤◌, ◌<◌, ◌^◌, ℕ, length, IfOk, IfErr, OnOk};
 ghost use Rattle.cbdc_model.specs.World.{first_record};
-ghost use Rattle.rack_nodes.specs.Places.{EachFrom, MayReturn, IsOpening};
+ghost use Rattle.rack_ledgers.specs.Places.{EachFrom, MayReturn, IsOpening};
 ghost use Rattle.gate_journal.specs.Formatting.{IsEmptied};
-ghost use Rattle.rack_nodes.specs.Racked.{OfTold};
-ghost use Rattle.rack_nodes.specs.First.{IsBegun, IsUnwritten, first_need};
+ghost use Rattle.rack_ledgers.specs.Racked.{OfTold};
+ghost use Rattle.rack_ledgers.specs.First.{IsBegun, IsUnwritten, first_need};
 ghost use Rattle.ledger_init.specs.Places.{minted_by, HoldsOf, LeavesOf, IsDone, IsStopped, StopsAt};
 
 use crate::dealing::hashes_on;
 use cbdc_types::{Answer, CompactTx, Header, NodeId, Record, Shape};
 use outside::{Disk, Rack};
-use rack_nodes::{Blank, Wrote, close_all, write_first};
+use rack_ledgers::{Blank, Wrote, close_all, write_first};
 use std::alloc::{AllocError, Global};
 
 // The first record of a node.

@@ -1,6 +1,6 @@
 // Disks as bytes, and the journals that they hold: a record is a gate of 1, the length of its body in 8 bytes, and the body.
 use byteorder::{ByteOrder, LittleEndian};
-use row_text::{put_count, put_word};
+use row_records::{put_count, put_word};
 use std::alloc::{AllocError, Global};
 
 /// A disk between two runs: its bytes, how many it may have, and which calls of the next run fail: so many from one on.

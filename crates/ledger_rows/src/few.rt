@@ -6,7 +6,7 @@ ghost use Rattle.rack_runs.specs.Tests.{IsTestRefused};
 ghost use Rattle.ledger_rows.specs.Few.{few_records};
 
 use cbdc_types::{Answer, NodeId};
-use ledger_nodes::Ledger;
+use file_runs::Ledger;
 use outside::{Disk, Gate, Rack};
 use rack_runs::{Begun, Told, Work, begin_on, end_on};
 use std::alloc::Global;

@@ -2,7 +2,7 @@
 use crate::state::{State, Tx};
 use crate::verbs::{Verb, verb_of};
 use crate::words::{count_at, hex_at};
-use row_text::{
+use row_records::{
     Wrong, count, put_coins, put_count, put_inputs, put_number, put_witnesses, put_word, rest,
     word, words_around, write_over,
 };

@@ -6,7 +6,7 @@ use crate::verbs::Verb;
 use crate::words::{count_at, hex_at};
 use cbdc_types::NodeId;
 use outside::{Point, When};
-use row_text::{Block, Wrong, check_text, differ, put_count, put_word, rest, word};
+use row_records::{Block, Wrong, check_text, differ, put_count, put_word, rest, word};
 use std::alloc::{AllocError, Global};
 
 /// What stands behind `$`: the text that is printed, or `~` for any, and the status, or `any`.

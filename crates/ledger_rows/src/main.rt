@@ -16,7 +16,7 @@ mod tested;
 mod verbs;
 mod words;
 
-use row_text::{Block, run_files};
+use row_records::{Block, run_files};
 use state::State;
 use std::io;
 use std::process::ExitCode;

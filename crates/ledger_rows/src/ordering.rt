@@ -2,7 +2,7 @@
 use crate::disks::kind_word;
 use cbdc_types::{LaneId, NodeId};
 use outside::{Point, When};
-use row_text::{Wrong, number};
+use row_records::{Wrong, number};
 use std::alloc::Global;
 use std::sync::atomic::{AtomicBool, AtomicUsize, Ordering};
 use std::thread;

@@ -11,7 +11,7 @@ use commands::{Done, process};
 use line_text::status_code;
 use mem_devices::{Choice, FaultDisk, MemInbox, MemRack, MemSink};
 use outside::{Disk, Point};
-use row_text::{Wrong, copies, differ};
+use row_records::{Wrong, copies, differ};
 use std::alloc::{AllocError, Global};
 use std::str;
 use std::sync::Wait;

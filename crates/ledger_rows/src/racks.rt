@@ -5,7 +5,7 @@ use crate::play::Left;
 use crate::state::State;
 use crate::verbs::{Verb, verb_of};
 use crate::words::{count_at, hex_at};
-use row_text::{Wrong, count, hex_of, rest, word};
+use row_records::{Wrong, count, hex_of, rest, word};
 use std::alloc::Global;
 
 // How many bytes a disk may have, where a row does not say.

@@ -3,7 +3,7 @@ use crate::disks::{DiskState, cut, put_digits};
 use crate::ordering::TURNS;
 use crate::play::Ran;
 use outside::Point;
-use row_text::{Names, Wrong, count, hex_of};
+use row_records::{Names, Wrong, count, hex_of};
 use std::alloc::Global;
 
 /// How many bytes an output takes, where a row does not say.

@@ -9,7 +9,7 @@ use crate::state::{ROOM, State};
 use crate::tested::play_tested;
 use crate::verbs::{Verb, is_for, verb_of};
 use crate::words::count_at;
-use row_text::{Block, Names, Subject, Wrong, rest};
+use row_records::{Block, Names, Subject, Wrong, rest};
 use std::alloc::Global;
 use std::sync::Wait;
 use std::thread::Threads;

@@ -8,7 +8,7 @@ use crate::words::count_at;
 use cbdc_types::Answer;
 use line_text::{status_code, write_fault};
 use mem_devices::MemSink;
-use row_text::Wrong;
+use row_records::Wrong;
 use std::alloc::Global;
 use std::sync::Wait;
 use std::thread::Threads;

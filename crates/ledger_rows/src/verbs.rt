@@ -1,5 +1,5 @@
 // The words of steps: what a step does, and what it does to a file or a disk.
-use row_text::{Block, Wrong, word};
+use row_records::{Block, Wrong, word};
 
 /// What a step does, or what it does to a file or a disk.
 #[derive(Clone, Copy, Drop)]

@@ -1,5 +1,5 @@
 // Numbers and bytes among words.
-use row_text::{Wrong, count, hex_of, word};
+use row_records::{Wrong, count, hex_of, word};
 use std::alloc::Global;
 
 /// The number at a place.

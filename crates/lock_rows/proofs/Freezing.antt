@@ -15,8 +15,8 @@ use Rattle.cbdc_model.specs.Sights.{Sight, Stays, Meets}
 use Rattle.cbdc_model.specs.Slots.{Idle}
 use Rattle.shard_core.specs.Stands.{Stands}
 use Rattle.shard_core.specs.declared.core_state.ShardCore.{ShardCore}
-use Rattle.shard_fanout.specs.Giving.{Gives}
-use Rattle.shard_fanout.specs.Shards.{lock_owed, finish_owed, forget_owed, good_reply, good_stamp}
+use Rattle.port_sets.specs.Giving.{Gives}
+use Rattle.port_sets.specs.Shards.{lock_owed, finish_owed, forget_owed, good_reply, good_stamp}
 use Rattle.lock_rows.specs.Frozen.{seen_of, IsFrozen}
 
 not_less : (n : ℕ) → nat_lt n 0 ≡ false

@@ -1,1 +1,2 @@
 mod Freezing
+pub mod Phasing

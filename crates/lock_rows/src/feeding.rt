@@ -4,14 +4,13 @@ ghost use Rattle.std.specs.Prelude.{◌≡◌, ◌<◌};
 use cbdc_types::{CompactTx, FullTx, Hash, Input, LaneId, List, OutPoint, Output, Refusal, Shape};
 use crossbeam_channel::Receiver;
 use lane_driver::Source;
-use lane_sources::{Ahead, Deals, FileOf, LaneSource, RuledAt};
+use lane_sources::{Ahead, Deals, FileOf, LaneSource, RuledAt, feed, pipe};
 use outside::OpenGate;
-use sentinel_pipe::{feed, pipe};
+use sentinel::{AllGood, Verifier};
 use std::alloc::{AllocError, Global};
 use std::marker::Brand;
 use std::sync::Wait;
 use submissions::Ruling;
-use verifier_port::{AllGood, Verifier};
 
 // A transaction that spends the output of this number, or nothing where there is none.
 fn payment(alloc: Global, number: Option<u8>) -> Result<FullTx, AllocError> {

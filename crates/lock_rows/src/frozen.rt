@@ -7,8 +7,8 @@ use cbdc_types::{
     Status,
 };
 use outside::Disk;
+use port_sets::Shard;
 use shard_core::ShardCore;
-use shard_fanout::Shard;
 use shard_node::ShardNode;
 use std::alloc::{AllocError, Global};
 use std::marker::Model;

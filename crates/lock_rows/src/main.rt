@@ -8,6 +8,7 @@ mod feeding;
 mod frozen;
 mod gates;
 mod lanes;
+mod phases;
 mod rows;
 mod shards;
 
@@ -73,13 +74,21 @@ fn main(rt: HostRuntime) -> io::Result<ExitCode> {
             "row a lane whose sentinel sends, one whose sentinel was dropped before its first message and one that has none get the same transactions",
             feeding::has_the_same(&rt, alloc),
         ),
+        (
+            "row three lock calls at once, the second at a shard without room: held, full, held, in the order of the shards, and the first and third have a Lock",
+            phases::second_is_full(&rt, alloc),
+        ),
+        (
+            "row a phase of no call: nothing is answered, and no shard has a record more",
+            phases::asks_none(&rt, alloc),
+        ),
     ];
     let mut held = 0u32;
     for (row, holds) in told {
         held = held.saturating_add(tell(&rt, row, holds)?);
     }
-    println!(&rt; "{held} of 11 rows came to what they should")?;
-    if held == 11 {
+    println!(&rt; "{held} of 13 rows came to what they should")?;
+    if held == 13 {
         Ok(ExitCode::from(0))
     } else {
         Ok(ExitCode::from(1))

@@ -13,8 +13,8 @@ use cbdc_types::{
 use mem_devices::PlainDisk;
 use node_lock::{Guarded, Seat};
 use outside::When;
-use rack_nodes::{Wrote, write_first};
-use shard_fanout::{Shard, ShardAnswer, ShardAsk, ShardCall, ShardReply, SharedShard};
+use port_sets::{Shard, ShardAnswer, ShardAsk, ShardCall, ShardReply, SharedShard};
+use rack_ledgers::{Wrote, write_first};
 use shard_node::{ShardNode, is_finish_call, is_lock_call};
 use std::alloc::Global;
 use std::sync::Wait;

@@ -4,8 +4,7 @@ use crate::looking::{check_records, tell_phase};
 use crate::state::{Node, put_node};
 use cbdc_types::{CompactTx, LaneId, Record, Replies, Stamp};
 use coord_core::{CoordCore, LanePhase};
-use row_records::{Known, Told, record, txs};
-use row_text::rest;
+use row_records::{Known, Told, record, rest, txs};
 use std::slice;
 
 /// `lanes NODE`: those of a coordinator that has written nothing yet.

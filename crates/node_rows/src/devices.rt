@@ -5,8 +5,7 @@ use crate::pieces::bytes_of;
 use cbdc_types::NodeId;
 use mem_devices::{MemInbox, MemRack, MemSink, PlainDisk, TestGate};
 use outside::{Disk, Failed, Gate, Inbox, OpenGate, Point, Rack, Sink, When};
-use row_records::Told;
-use row_text::{rest, words_around};
+use row_records::{Told, rest, words_around};
 use std::sync::Wait;
 
 /// Decimal numbers.

@@ -8,9 +8,8 @@ use crate::verbs::Verb;
 use cbdc_types::{Header, Record};
 use mem_devices::{Choice, FaultDisk, PlainDisk};
 use outside::Disk;
-use record_codec::write_record;
-use row_records::{Known, Told, records_in};
-use row_text::{put_number, rest, words_around};
+use record_log::write_record;
+use row_records::{Known, Told, put_number, records_in, rest, words_around};
 use std::alloc::{AllocError, Global};
 
 const TOO_LONG: &str = "a disk has more bytes than its capacity";

@@ -1,8 +1,7 @@
 // Lanes over the nodes, and what they asked of them.
 use crate::ledgers::{Apart, Plan, run_over};
 use crate::state::{Node, Seen, State};
-use row_records::{Told, txs};
-use row_text::{count, rest};
+use row_records::{Told, count, rest, txs};
 use std::mem;
 use std::sync::Wait;
 

@@ -2,8 +2,7 @@
 use crate::state::Node;
 use cbdc_types::{OpenLane, Phase, Record};
 use coord_core::LanePhase;
-use row_records::{Known, Told, records_in};
-use row_text::{Names, Wrong, differ, words_around};
+use row_records::{Known, Names, Told, Wrong, differ, records_in, words_around};
 use shard_core::Remembered;
 use std::alloc::Global;
 

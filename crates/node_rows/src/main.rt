@@ -18,7 +18,7 @@ mod stores;
 mod subject;
 mod verbs;
 
-use row_text::{Block, run_files};
+use row_records::{Block, run_files};
 use state::State;
 use std::io;
 use std::process::ExitCode;

@@ -6,8 +6,9 @@ use cbdc_types::{
     Record, Replied, Reply, Shape, Stamp,
 };
 use lane_driver::{BatchRoom, LaterRoom, finish_calls, forget_calls, gather, latest, lock_calls};
-use row_records::{Known, Told, finish_call, forget_call, lock_call, record, txs};
-use row_text::{Wrong, rest, words_around};
+use row_records::{
+    Known, Told, Wrong, finish_call, forget_call, lock_call, record, rest, txs, words_around,
+};
 use std::alloc::Global;
 
 // Whether no part has more entries than that.

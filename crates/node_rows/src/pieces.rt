@@ -1,6 +1,5 @@
 // Bytes as rows spell them.
-use row_records::Told;
-use row_text::{Wrong, count, hex_of, number, put_number};
+use row_records::{Told, Wrong, count, hex_of, number, put_number};
 use std::alloc::Global;
 
 // Appends bytes that digits spell, so many times.

@@ -1,10 +1,8 @@
 // What a shard remembers of each lane, and the entries of a part with their replies.
 use crate::state::Tables;
 use cbdc_types::{Answered, LaneId, List, Record, Reply, Stamp};
-use dtx_replies::{Slot, Slots};
-use row_records::{Known, Told, part, record};
-use row_text::rest;
-use shard_core::answered;
+use row_records::{Known, Told, part, record, rest};
+use shard_core::{Slot, Slots, answered};
 
 /// `slots LANES`: idle ones.
 pub fn make_slots(tables: &mut Tables, words: &[&str], told: &mut Told) {

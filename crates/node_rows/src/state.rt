@@ -2,12 +2,11 @@
 use crate::stores::Store;
 use coord_core::CoordCore;
 use coord_log::CoordLog;
-use dtx_replies::Slots;
 use gate_journal::Journal;
 use mem_devices::{FaultDisk, PlainDisk};
 use record_log::RecordLog;
-use row_records::{Known, Told};
-use row_text::{Names, Wrong};
+use row_records::{Known, Names, Told, Wrong};
+use shard_core::Slots;
 use shard_node::ShardNode;
 use std::alloc::Global;
 use std::mem;

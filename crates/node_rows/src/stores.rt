@@ -1,10 +1,8 @@
 // The tables of a shard: a set of hashes, a map of locks, and values under hashes.
 use crate::state::Tables;
 use cbdc_types::{BatchId, Hash};
-use hash_slots::HashSlots;
 use row_records::Told;
-use shard_locks::Locks;
-use shard_table::Table;
+use shard_table::{HashSlots, Locks, Table};
 
 /// A table.
 #[derive(Drop)]

@@ -13,8 +13,7 @@ use crate::state::{Node, State, make_place};
 use crate::stores::{find, len, make_store, put, put_all, reserve, room, spare, take_out};
 use crate::verbs::{Verb, is_for_steps, takes_text, verb_of};
 use lane_driver::no_memory;
-use row_records::{Known, Told, name_form, shape};
-use row_text::{Block, Names, Subject, Wrong, rest};
+use row_records::{Block, Known, Names, Subject, Told, Wrong, name_form, rest, shape};
 use std::alloc::Global;
 use std::sync::Wait;
 

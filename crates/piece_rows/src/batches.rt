@@ -4,12 +4,10 @@ use crate::hashes::digest;
 use crate::state::State;
 use batcher::Batcher;
 use cbdc_types::{CompactTx, FullTx, Part, Refusal};
-use identifiers::tx_id;
-use row_records::{Told, txs};
-use row_text::Wrong;
-use sentinel::check;
+use compact_tx::tx_id;
+use row_records::{Told, Wrong, txs};
+use sentinel::{AllGood, check};
 use shard_ranges::{shard_of, split};
-use verifier_port::AllGood;
 use workload::{Workload, generate};
 
 /// `shard HASH SHARDS`, and the shard of the hash.

@@ -1,7 +1,6 @@
 // Bytes, spelled in pieces.
 use crate::state::State;
-use row_records::Told;
-use row_text::{Wrong, count, hex_of, number, put_number, rest};
+use row_records::{Told, Wrong, count, hex_of, number, put_number, rest};
 use std::alloc::{AllocError, Global};
 
 // Appends bytes that digits spell, so many times.

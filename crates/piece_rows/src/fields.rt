@@ -3,8 +3,7 @@ use crate::bytes::bytes_of;
 use crate::reader::Reader;
 use crate::state::State;
 use byte_fields::{put_byte, put_hash, put_items, put_list, put_number, small_number};
-use row_records::Told;
-use row_text::{rest, words_around};
+use row_records::{Told, rest, words_around};
 use std::alloc::AllocError;
 
 // Whether these are the bytes of a number alone.

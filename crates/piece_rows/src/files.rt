@@ -5,11 +5,10 @@ use byte_fields::put_number;
 use cbdc_types::FullTx;
 use client_files::{BadFile, FetchFault, FileFault, fetch, read_clients, read_mint};
 use mem_devices::MemInbox;
-use row_records::Told;
-use row_text::{Wrong, copies, place_of};
+use row_records::{Told, Wrong, copies, place_of};
+use sentinel::{AllGood, BadLine, Verdict, VerdictFault, VerdictFile, Verifier};
 use std::alloc::Global;
 use tx_codec::write_tx;
-use verifier_port::{AllGood, BadLine, Verdict, VerdictFault, VerdictFile, Verifier};
 
 // Whether a word says that the file goes on.
 fn goes_on(words: &[&str]) -> bool {

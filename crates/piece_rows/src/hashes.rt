@@ -2,8 +2,7 @@
 use crate::bytes::bytes_of;
 use crate::state::State;
 use cbdc_types::{CompactTx, Hash};
-use compact_tx::compact;
-use identifiers::{input_hash, tx_id, uhs_id};
+use compact_tx::{compact, input_hash, tx_id, uhs_id};
 use row_records::{Told, inputs};
 use sha2::{Digest, Sha256};
 

@@ -3,13 +3,12 @@ use crate::answers::{answer_of, totals, verdict_of};
 use crate::page::Page;
 use crate::reader::Reader;
 use cbdc_types::{Header, Phase, Status};
-use line_check::{fault_line, verdict_text};
 use line_text::{
     AuditSummary, Summary, status_code, write_audit, write_confirmed, write_fault, write_init,
     write_recovery, write_refused, write_rejected, write_resumed, write_status, write_summary,
 };
-use row_records::Told;
-use row_text::{Block, rest};
+use plain_check::{fault_line, verdict_text};
+use row_records::{Block, Told, rest};
 
 // `FILE PLACE ID LANE NUMBER`
 fn confirmed(page: &mut Page, words: &mut Reader) -> bool {

@@ -21,7 +21,7 @@ mod transactions;
 mod verbs;
 mod words;
 
-use row_text::{Block, run_files};
+use row_records::{Block, run_files};
 use state::State;
 use std::io;
 use std::process::ExitCode;

@@ -6,12 +6,12 @@ use cbdc_types::{
 use client_files::{BadFile, FetchFault, FileFault};
 use line_text::WriteFault;
 use outside::Failed;
-use record_codec::RecordFault;
+use record_log::RecordFault;
 use requests::WordsFault;
 use row_records::Told;
+use sentinel::{BadLine, VerdictFault};
 use std::fmt::Display;
 use tx_codec::{BadTx, ReadFault};
-use verifier_port::{BadLine, VerdictFault};
 
 // A line for each.
 fn all<F: Display>(told: &mut Told, faults: &[F]) {

@@ -1,7 +1,6 @@
 // The words of a step, read one after another.
 use cbdc_types::{BatchId, Hash, LaneId, List, NodeId, Outcome, Refusal};
-use row_records::{Told, outcome, refusal_of};
-use row_text::{Wrong, rest};
+use row_records::{Told, Wrong, outcome, refusal_of, rest};
 use std::alloc::{AllocError, Global};
 
 // The name of a file that a word spells.

@@ -3,9 +3,8 @@ use crate::bytes::{behind_others, bytes_of};
 use crate::state::State;
 use crate::words::tell_shape;
 use cbdc_types::{Header, Record};
-use record_codec::{RecordFault, read_back, read_first, read_record, size_of_record, write_record};
-use row_records::{Told, record};
-use row_text::{rest, words_around};
+use record_log::{RecordFault, read_back, read_first, read_record, size_of_record, write_record};
+use row_records::{Told, record, rest, words_around};
 use std::alloc::{AllocError, Global};
 
 // A record written behind other bytes, where there is room for so many.

@@ -1,5 +1,5 @@
 // Words that are told once and stand there several times.
-use row_text::{Wrong, count, place_of, rest, word};
+use row_records::{Wrong, count, place_of, rest, word};
 use std::alloc::{AllocError, Global};
 
 // Appends words so many times.

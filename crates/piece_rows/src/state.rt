@@ -1,6 +1,5 @@
 // What a row has made so far: bytes, and what records speak of.
-use row_records::{Known, Told};
-use row_text::{Names, Wrong};
+use row_records::{Known, Names, Told, Wrong};
 use std::alloc::Global;
 
 /// What a row has made so far.

@@ -13,8 +13,9 @@ use crate::streams::streamed;
 use crate::transactions::{feeds, reads_tx, tx_bytes};
 use crate::verbs::{Verb, is_for, takes_text, verb_of};
 use crate::words::{shows, shows_like, words_ask};
-use row_records::{Mint, Told, name_form, name_hash, name_tx, shape};
-use row_text::{Block, Names, Subject, Wrong, rest, word};
+use row_records::{
+    Block, Mint, Names, Subject, Told, Wrong, name_form, name_hash, name_tx, rest, shape, word,
+};
 use std::alloc::Global;
 
 // `hash NAME HASH`

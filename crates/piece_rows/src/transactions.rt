@@ -5,8 +5,7 @@ use crate::bytes::{behind_others, bytes_of};
 use crate::kinds::tell_bad;
 use crate::state::State;
 use cbdc_types::FullTx;
-use row_records::Told;
-use row_text::rest;
+use row_records::{Told, rest};
 use std::alloc::{AllocError, Global};
 use tx_codec::{BadTx, Fed, ReadFault, TxFeed, read_back, read_tx, write_tx};
 

@@ -1,5 +1,5 @@
 // The steps, by their first words.
-use row_text::Block;
+use row_records::Block;
 
 /// What a step does.
 #[derive(Clone, Copy, Drop)]

@@ -2,8 +2,7 @@
 use cbdc_types::{Hash, Shape};
 use command_line::parse;
 use requests::{FileWord, Request, RunOptions, WordsFault};
-use row_records::Told;
-use row_text::words_around;
+use row_records::{Told, words_around};
 use std::alloc::{AllocError, Global};
 
 /// Tells the four numbers of a shape.

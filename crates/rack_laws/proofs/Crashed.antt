@@ -8,13 +8,13 @@ use Rattle.cbdc_model.specs.Coins.{Output, FullTx}
 use Rattle.cbdc_model.specs.Lanes.{IsEnd}
 use Rattle.cbdc_model.specs.World.{KeptJournals}
 use Rattle.ledger_laws.proofs.Cuts.{end_self}
-use Rattle.record_codec.specs.Bodies.{body_of}
+use Rattle.record_log.specs.Bodies.{body_of}
 use Rattle.gate_journal.specs.Rows.{Opens}
 use Rattle.record_log.specs.Held.{bodies_of, OpensTo, OpensToEither}
 use Rattle.run_laws.specs.Flights.{MayCome}
 use Rattle.run_laws.proofs.Flights.{flush_law}
 use Rattle.ledger_runs.specs.Flying.{AllMayCome}
-use Rattle.rack_nodes.specs.Racked.{OfTold}
+use Rattle.rack_ledgers.specs.Racked.{OfTold}
 use Rattle.rack_laws.specs.Shown.{node_count, AreLeft, OpenTo}
 
 bodies_more : (r : Record) (J : List Record) → bodies_of (reverse J) ++ body_of r ∷ [] ≡ bodies_of (reverse (r ∷ J))

@@ -10,7 +10,7 @@ use Rattle.cbdc_model.specs.Sights.{Sight}
 use Rattle.coord_log.specs.Logs.{LogOf, sight, HoldsJournal as HoldsLog}
 use Rattle.shard_node.specs.Shards.{ShardOf, sight_of, HoldsJournal as HoldsShard}
 use Rattle.node_ports.specs.Nodes.{sight_at}
-use Rattle.opening_laws.proofs.Once.{opens_once_law}
+use Rattle.rack_ledgers.proofs.Once.{opens_once_law}
 use Rattle.rack_ledgers.specs.Ledgers.{AreOpened}
 use Rattle.run_laws.specs.Runs.{seen_by}
 use Rattle.rack_laws.specs.Shown.{Shows, node_count}

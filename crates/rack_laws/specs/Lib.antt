@@ -1,1 +1,6 @@
 pub mod Shown
+pub mod Files
+pub mod Making
+pub mod Openings
+pub mod Ready
+pub mod Small

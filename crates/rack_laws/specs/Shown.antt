@@ -10,8 +10,8 @@ use Rattle.cbdc_model.specs.Due.{used_of}
 use Rattle.record_log.specs.Held.{OpensTo, OpensToEither}
 use Rattle.coord_log.specs.Logs.{LogOf}
 use Rattle.shard_node.specs.Shards.{ShardOf}
-use Rattle.rack_nodes.specs.Racked.{OfTold}
-use Rattle.rack_nodes.specs.Refused.{IsNodeJournal}
+use Rattle.rack_ledgers.specs.Racked.{OfTold}
+use Rattle.rack_ledgers.specs.Refused.{IsNodeJournal}
 
 abbrev pub node_count : Shape → ℕ
 node_count K = K.coordinators + K.shards

@@ -1,25 +1,21 @@
--- Disks that are back.
-use Rattle.std.proofs.Common.{◌≡◌, ◌≢◌, ◌≤◌, ◌<◌, ℕ, List, Option, sym, ◌∙◌, subst, inl, inr, ⊎_elim}
-use Rattle.std.proofs.lemmas.Bool.{cases_eq, cases_lt}
-use Rattle.rack_nodes.specs.Racked.{IsBack, AreBack}
-use Rattle.rack_nodes.proofs.Told.{back_same, back_later}
+-- Disks that are back after the opening stopped at a node.
+use Rattle.std.proofs.Common.{◌≡◌, ◌≢◌, ◌≤◌, ◌<◌, ◌+◌, ◌∷◌, [], ℕ, suc, List, length, Option, sym, subst, arith, ⊎_elim}
+use Rattle.std.proofs.lemmas.Bool.{cases_eq}
+use Rattle.rack_ledgers.specs.Places.{EachFrom}
+use Rattle.rack_ledgers.specs.Racked.{OfTold, IsBack, IsOpened}
+use Rattle.rack_ledgers.proofs.Told.{back_same, back_opened}
 
-module _ {D : Type 0} (content : D → Option (List ℕ)) (images : D → List ℕ → Type 0) (limit : D → ℕ) (before after : ℕ → ℕ) where
-  -- that of node 0, where no other was touched
-  pub back_one : (old now : ℕ → Option D) → IsBack content images limit (before 0) (after 0) (old 0) (now 0) → ((n : ℕ) → n ≢ 0 → now n ≡ old n) → AreBack content images limit before after old now
-  back_one old now here others n = ⊎_elim
-      (λ (same : n ≡ 0). subst (λ (k : ℕ). IsBack content images limit (before k) (after k) (old k) (now k)) (sym same) here)
-      (λ (differs : n ≢ 0). back_same content images limit (before n) (after n) (old n) (now n) (others n differs))
-      (cases_eq n 0)
-
-  -- those before a place, those from there up to another within a part of the time, and those behind, which are untouched
-  pub back_parts : (between till : ℕ → ℕ) (old mid now : ℕ → Option D) (first end : ℕ) → ((n : ℕ) → before n ≤ between n) → ((n : ℕ) → till n ≤ after n) → ((n : ℕ) → first ≤ n → mid n ≡ old n)
-      → ((n : ℕ) → n < first → IsBack content images limit (before n) (after n) (old n) (now n)) → ((n : ℕ) → first ≤ n → n < end → IsBack content images limit (between n) (till n) (mid n) (now n))
-      → ((n : ℕ) → first ≤ n → end ≤ n → now n ≡ mid n) → AreBack content images limit before after old now
-  back_parts between till old mid now first end later ends kept front inside past n = elim (cases_lt n first) [
-    | inl small ↦ front n small
-    | inr large ↦ elim (cases_lt n end) [
-      | inl below ↦ λ was is. back_later content images limit (mid n) (now n) (later n) (ends n) (inside n large below) was (kept n large ∙ is)
-      | inr above ↦ back_same content images limit (before n) (after n) (old n) (now n) (past n large above ∙ kept n large)
-    ]
-  ]
+module _ {D N : Type 0} (content : D → Option (List ℕ)) (images : D → List ℕ → Type 0) (limit : D → ℕ) (disk_of : N → D) (opens : N → List ℕ → Type 0) (Fits : ℕ → N → Type 0) (before now : ℕ → ℕ) (old new : ℕ → Option D) (end : ℕ) where
+  pub all_back : (start node : ℕ) (more : List N) → node ≡ start + length more
+      → EachFrom (λ n x. Fits n x × OfTold (old n) (λ was. IsOpened content images limit disk_of opens was x)) start more
+      → EachFrom (λ n x. OfTold (new n) (λ d. d ≡ disk_of x)) start more
+      → IsBack content images limit (before node) (now node) (old node) (new node) → ((n : ℕ) → node < n → n < end → new n ≡ old n)
+      → (n : ℕ) → start ≤ n → n < end → IsBack content images limit (before n) (now n) (old n) (new n)
+  all_back start node [] place opened closed here later n ge lt = ⊎_elim
+      (λ (same : n ≡ node). subst (λ (k : ℕ). IsBack content images limit (before k) (now k) (old k) (new k)) (sym same) here)
+      (λ (differs : n ≢ node). back_same content images limit (before n) (now n) (old n) (new n) (later n (omega (arith, ge, place, differs)) lt))
+      (cases_eq n node)
+  all_back start node (x ∷ more) place opened closed here later n ge lt = ⊎_elim
+      (λ (same : n ≡ start). subst (λ (k : ℕ). IsBack content images limit (before k) (now k) (old k) (new k)) (sym same) (back_opened content images limit (before start) (now start) disk_of opens (old start) (new start) x opened.0.1 closed.0))
+      (λ (differs : n ≢ start). all_back (suc start) node more (omega (arith, place)) opened.1 closed.1 here later n (omega (arith, ge, differs)) lt)
+      (cases_eq n start)

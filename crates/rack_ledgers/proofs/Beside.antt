@@ -6,11 +6,11 @@ use Rattle.std.proofs.lemmas.List.Elements.{All-nil, All-cons}
 use Rattle.outside.specs.Images.{Tells}
 use Rattle.cbdc_types.specs.declared.answer.Answer.{Answer}
 use Rattle.cbdc_model.specs.Records.{Header}
-use Rattle.rack_nodes.specs.Places.{EachFrom, MayReturn, IsOutside}
-use Rattle.rack_nodes.specs.Racked.{OfTold, IsOpened, IsReturned, IsBack, FailsFirst}
-use Rattle.rack_nodes.proofs.Each.{each_two}
-use Rattle.rack_nodes.proofs.Range.{opening_later}
-use Rattle.rack_nodes.proofs.Told.{back_opened, rose_not}
+use Rattle.rack_ledgers.specs.Places.{EachFrom, MayReturn, IsOutside}
+use Rattle.rack_ledgers.specs.Racked.{OfTold, IsOpened, IsReturned, IsBack, FailsFirst}
+use Rattle.rack_ledgers.proofs.Each.{each_two}
+use Rattle.rack_ledgers.proofs.Range.{opening_later}
+use Rattle.rack_ledgers.proofs.Told.{back_opened, rose_not}
 use Rattle.rack_ledgers.specs.declared.slots.Slot.{Slot}
 use Rattle.rack_ledgers.specs.declared.slots.Slot.TheVariants as slots
 use Rattle.rack_ledgers.specs.Slots.{IsWaiting, nodes_in, AreOpen, AreNotRefused, IsFirstRefusal, faults_in, MayPut, HasDisk, IsDiskIn, IsTakenDisk, IsTaken, IsOpenOn, IsRefusedOn, CameOf, CameAt, OpensAt, FailsAt}

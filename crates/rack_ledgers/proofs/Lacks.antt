@@ -6,11 +6,11 @@ use Rattle.cbdc_types.specs.declared.answer.Answer.{Answer}
 use Rattle.cbdc_types.specs.declared.answer.Answer.TheVariants as answers
 use Rattle.cbdc_model.specs.Records.{Digest, Header}
 use Rattle.coord_log.specs.Logs.{LogOf}
-use Rattle.rack_nodes.specs.Asked.{IsCoordinator, IsShardNode}
-use Rattle.rack_nodes.specs.Places.{EachFrom, IsOpening}
-use Rattle.rack_nodes.specs.Racked.{OfTold, FailsFirst}
-use Rattle.rack_nodes.specs.Refused.{IsNoNode, IsNodeRefusal}
-use Rattle.rack_nodes.proofs.Range.{opening_later}
+use Rattle.rack_ledgers.specs.Asked.{IsCoordinator, IsShardNode}
+use Rattle.rack_ledgers.specs.Places.{EachFrom, IsOpening}
+use Rattle.rack_ledgers.specs.Racked.{OfTold, FailsFirst}
+use Rattle.rack_ledgers.specs.Refused.{IsNoNode, IsNodeRefusal}
+use Rattle.rack_ledgers.proofs.Range.{opening_later}
 use Rattle.rack_ledgers.specs.Ledgers.{ByPlace, IsLogAt, IsRefused, IsMintOf, IsOtherMint, LacksLog, LacksShard, IsUnopenedBy}
 use Rattle.rack_ledgers.proofs.Opened.{OpensLog, OpensShard, led_at, shards_at}
 

@@ -8,11 +8,11 @@ use Rattle.coord_log.specs.Logs.{LogOf, HoldsJournal as HoldsLog}
 use Rattle.coord_log.specs.Opening.{IsCoordJournal}
 use Rattle.shard_node.specs.Shards.{ShardOf, HoldsJournal as HoldsShard}
 use Rattle.shard_node.specs.Opening.{IsShardJournal}
-use Rattle.rack_nodes.specs.Asked.{IsAsked, IsCoordinator, IsShardNode}
-use Rattle.rack_nodes.specs.Places.{EachFrom}
-use Rattle.rack_nodes.specs.Racked.{OfTold, IsOpened, IsBack, GoesOn}
-use Rattle.rack_nodes.proofs.Each.{each_weaker}
-use Rattle.rack_nodes.proofs.Told.{back_opened}
+use Rattle.rack_ledgers.specs.Asked.{IsAsked, IsCoordinator, IsShardNode}
+use Rattle.rack_ledgers.specs.Places.{EachFrom}
+use Rattle.rack_ledgers.specs.Racked.{OfTold, IsOpened, IsBack, GoesOn}
+use Rattle.rack_ledgers.proofs.Each.{each_weaker}
+use Rattle.rack_ledgers.proofs.Told.{back_opened}
 use Rattle.rack_ledgers.specs.Ledgers.{ByPlace, IsLogAt, IsShardAt}
 use Rattle.rack_ledgers.proofs.Places.{at_place, by_place}
 

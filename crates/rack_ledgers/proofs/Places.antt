@@ -2,7 +2,7 @@
 use Rattle.std.proofs.Common.{◌≡◌, ◌<◌, ◌+◌, ◌∷◌, [], ℕ, zero, suc, List, length, Some, subst, arith, inl, inr}
 use Rattle.std.specs.Prelude.{slice_get}
 use Rattle.std.proofs.lemmas.Option.{slice_get_cases}
-use Rattle.rack_nodes.specs.Places.{EachFrom}
+use Rattle.rack_ledgers.specs.Places.{EachFrom}
 use Rattle.rack_ledgers.specs.Ledgers.{ByPlace}
 
 pub at_place : {N : Type 0} (P : ℕ → N → Type 0) (i : ℕ) (xs : List N) → EachFrom P i xs → (n : ℕ) (x : N) → slice_get xs n ≡ Some x → P (i + n) x

@@ -13,10 +13,10 @@ use Rattle.coord_log.specs.Logs.{LogOf, HoldsJournal as HoldsLog}
 use Rattle.coord_log.specs.Opening.{IsCoordJournal}
 use Rattle.shard_node.specs.Shards.{ShardOf, HoldsJournal as HoldsShard}
 use Rattle.shard_node.specs.Opening.{IsShardJournal}
-use Rattle.rack_nodes.specs.Asked.{IsCoordinator, IsShardNode}
-use Rattle.rack_nodes.specs.Places.{IsOpening}
-use Rattle.rack_nodes.specs.Racked.{OfTold, IsOpened}
-use Rattle.rack_nodes.specs.Refused.{IsNoNode, IsNodeRefusal}
+use Rattle.rack_ledgers.specs.Asked.{IsCoordinator, IsShardNode}
+use Rattle.rack_ledgers.specs.Places.{IsOpening}
+use Rattle.rack_ledgers.specs.Racked.{OfTold, IsOpened}
+use Rattle.rack_ledgers.specs.Refused.{IsNoNode, IsNodeRefusal}
 
 -- each item has the property at its place
 abbrev pub ByPlace : {N : Type 0} → (ℕ → N → Type 0) → List N → Type 0

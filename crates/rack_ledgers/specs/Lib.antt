@@ -1,2 +1,14 @@
+pub mod Once
+pub mod Refusals
+pub mod Places
+pub mod Asked
+pub mod Refused
+pub mod Blank
+pub mod Racked
+pub mod First
 pub mod Ledgers
 pub mod Slots
+pub mod Caused
+pub mod RefusalLaws
+pub mod Audited
+pub mod AccountLaws

@@ -4,8 +4,8 @@ use Rattle.outside.specs.Images.{Tells}
 use Rattle.cbdc_types.specs.declared.answer.Answer.{Answer}
 use Rattle.cbdc_types.specs.declared.answer.Answer.TheVariants as answers
 use Rattle.cbdc_model.specs.Records.{Header}
-use Rattle.rack_nodes.specs.Places.{EachFrom, MayReturn, IsOpening}
-use Rattle.rack_nodes.specs.Racked.{OfTold, IsOpened, IsReturned}
+use Rattle.rack_ledgers.specs.Places.{EachFrom, MayReturn, IsOpening}
+use Rattle.rack_ledgers.specs.Racked.{OfTold, IsOpened, IsReturned}
 use Rattle.rack_ledgers.specs.declared.slots.Slot.{Slot}
 use Rattle.rack_ledgers.specs.declared.slots.Slot.TheVariants as slots
 

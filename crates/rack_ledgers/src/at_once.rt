@@ -2,14 +2,14 @@
 ghost use Rattle.std.specs.Prelude.{◌≡◌, ◌≤◌, ◌<◌, ◌+◌, ◌++◌, ◌^◌, ℕ, [], length, reverse, Some, All, IfOk, IfErr, OnErr, MatchOption, slice_index_or, vec_capacity};
 ghost use Rattle.outside.specs.Counts.{Rose};
 ghost use Rattle.outside.specs.Images.{Tells};
-ghost use Rattle.rack_nodes.specs.Places.{EachFrom, MayReturn, IsOutside, IsOpening, IsOpeningIn};
-ghost use Rattle.rack_nodes.specs.Racked.{OfTold, IsBack, IsOpened, GoesOn, FailsFirst};
+ghost use Rattle.rack_ledgers.specs.Places.{EachFrom, MayReturn, IsOutside, IsOpening, IsOpeningIn};
+ghost use Rattle.rack_ledgers.specs.Racked.{OfTold, IsBack, IsOpened, GoesOn, FailsFirst};
 ghost use Rattle.rack_ledgers.specs.Slots.{IsWaiting, CameOf, CameAt, IsTaken, MayPut, IsDiskIn, faults_in, nodes_in, AreOpen, AreNotRefused, IsFirstRefusal, IsFirstFault, IsGrown, OpensAt, FailsAt};
 
 use crate::slots::Slot;
+use crate::{OnDisk, close_all};
 use cbdc_types::{Answer, Header, NodeId};
 use outside::{Disk, Rack};
-use rack_nodes::{OnDisk, close_all};
 use std::alloc::{AllocError, Global};
 use std::thread;
 use std::thread::Threads;

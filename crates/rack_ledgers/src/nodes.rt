@@ -1,45 +1,169 @@
-// All nodes of a ledger, open, and putting their disks back.
-ghost use Rattle.std.specs.Prelude.{◌≡◌, ◌+◌, ◌≤◌, ◌<◌, ◌^◌, ℕ, length};
-ghost use Rattle.rack_nodes.specs.Places.{EachFrom, MayReturn};
-ghost use Rattle.rack_nodes.specs.Racked.{OfTold};
-ghost use Rattle.rack_ledgers.specs.Ledgers.{ByPlace};
+// Coordinators and shards on the disks of a rack.
+ghost use Rattle.std.specs.Prelude.{◌≡◌, ◌≤◌, ℕ, IfErr, MatchResult};
+ghost use Rattle.std.specs.Option.{option_copied};
+ghost use Rattle.outside.specs.Counts.{Rose};
+ghost use Rattle.outside.specs.Images.{Tells, Leaves};
+ghost use Rattle.record_log.specs.Held.{HasRow};
+ghost use Rattle.coord_log.specs.Opening.{IsGenesis};
+ghost use Rattle.shard_node.specs.Opening.{IsStart};
+ghost use Rattle.rack_ledgers.specs.Places.{IsOpening};
+ghost use Rattle.rack_ledgers.specs.Asked.{IsCoordinator, IsShardNode};
+ghost use Rattle.rack_ledgers.specs.Refused.{IsNoNode, IsNodeRefusal};
 
-use cbdc_types::Header;
+use crate::OnDisk;
+use crate::asked::{answer_of, foreign, is_asked};
+use cbdc_types::{Answer, Header, NodeId, NodeOpenFault};
 use coord_log::CoordLog;
-use outside::{Disk, Rack};
-use rack_nodes::close_all;
+use outside::Disk;
 use shard_node::ShardNode;
+use std::alloc::Global;
 
-/// All nodes of a ledger, the coordinators first. The header is that of node 0.
-#[derive(Drop)]
-pub struct Nodes<D: Disk> {
-    pub header: Header,
-    pub logs: Vec<CoordLog<D>>,
-    pub shards: Vec<ShardNode<D>>,
+// Why a shard's disk is none of the coordinator that is asked for.
+fn shard_instead<D: Disk>(
+    alloc: Global,
+    node: NodeId,
+    ledger: Option<&Header>,
+    disk: D,
+) -> (D, Answer)
+    ensures refusal { Tells (D.content disk) (λ c. HasRow IsGenesis c → IsNoNode IsCoordinator node (option_copied ledger.entry) (D.limit disk) c result.1) }
+    ensures kind { IsNodeRefusal result.1 }
+    ensures fault { IsOpening node (D.count disk) (D.count result.0) result.1 }
+    ensures later { D.count disk ≤ D.count result.0 }
+    ensures limit { D.limit result.0 ≡ D.limit disk }
+    ensures same { (Rose (D.count disk) (D.count result.0) → ⊥) → D.content result.0 ≡ D.content disk }
+    ensures leaves { Leaves D.tells_past D.moment D.images_since D.images disk result.0 (D.images disk) }
+{
+    match ShardNode::open(alloc, disk) {
+        Ok(shard) => {
+            let answer = foreign(shard.header(), node, ledger);
+            (shard.into_disk(), answer)
+        }
+        Err((disk, fault)) => (disk, answer_of(node, fault)),
+    }
 }
 
-/// Puts the disks of all nodes back.
-pub fn close_nodes<R: Rack>(rack: &mut R, nodes: Nodes<R::Disk>)
-    requires few { length nodes.logs.items + length nodes.shards.items < 2 ^ 32 }
-    requires logs { EachFrom (MayReturn (λ x. R.Disk.count x.disk) (R.can_put rack.old)) 0 nodes.logs.items }
-    requires shards { EachFrom (MayReturn (λ x. R.Disk.count x.disk) (R.can_put rack.old)) (length nodes.logs.items) nodes.shards.items }
-    requires others { (n : ℕ) → length nodes.logs.items + length nodes.shards.items ≤ n → R.can_take rack.old n }
-    // What the rack then tells of each node is its disk.
-    ensures closed_logs { ByPlace (λ n l. OfTold (R.held rack.new n) (λ now. now ≡ l.disk)) nodes.logs.items }
-    ensures closed_shards { ByPlace (λ s x. OfTold (R.held rack.new (length nodes.logs.items + s)) (λ now. now ≡ x.disk)) nodes.shards.items }
-    ensures counted_logs { ByPlace (λ n l. R.Disk.count l.disk ≤ R.count rack.new n) nodes.logs.items }
-    ensures counted_shards { ByPlace (λ s x. R.Disk.count x.disk ≤ R.count rack.new (length nodes.logs.items + s)) nodes.shards.items }
-    ensures others_held { (n : ℕ) → length nodes.logs.items + length nodes.shards.items ≤ n → R.held rack.new n ≡ R.held rack.old n }
-
-    ensures back { (n : ℕ) → R.can_take rack.new n }
-    ensures later { (n : ℕ) → R.count rack.old n ≤ R.count rack.new n }
+// Why a coordinator's disk is none of the shard that is asked for.
+fn coordinator_instead<D: Disk>(
+    alloc: Global,
+    node: NodeId,
+    ledger: Option<&Header>,
+    disk: D,
+) -> (D, Answer)
+    ensures refusal { Tells (D.content disk) (λ c. HasRow IsStart c → IsNoNode IsShardNode node (option_copied ledger.entry) (D.limit disk) c result.1) }
+    ensures kind { IsNodeRefusal result.1 }
+    ensures fault { IsOpening node (D.count disk) (D.count result.0) result.1 }
+    ensures later { D.count disk ≤ D.count result.0 }
+    ensures limit { D.limit result.0 ≡ D.limit disk }
+    ensures same { (Rose (D.count disk) (D.count result.0) → ⊥) → D.content result.0 ≡ D.content disk }
+    ensures leaves { Leaves D.tells_past D.moment D.images_since D.images disk result.0 (D.images disk) }
 {
-    let Nodes {
-        header: _,
-        logs,
-        shards,
-    } = nodes;
-    let first = logs.len() as u32;
-    close_all(rack, 0, logs);
-    close_all(rack, first, shards);
+    match CoordLog::open(alloc, disk) {
+        Ok(log) => {
+            let answer = foreign(log.header(), node, ledger);
+            (log.into_disk(), answer)
+        }
+        Err((disk, fault)) => (disk, answer_of(node, fault)),
+    }
+}
+
+impl<D: Disk> OnDisk<D> for CoordLog<D> {
+    ghost use Rattle.coord_log.specs.Logs.{HoldsJournal};
+    ghost use Rattle.coord_log.specs.Opening.{IsCoordJournal};
+    ghost use Rattle.cbdc_model.specs.After.{IsJournal};
+    ghost use Rattle.cbdc_model.specs.Room.{kept_room};
+    ghost use Rattle.cbdc_model.specs.Due.{used_of};
+    ghost use Rattle.rack_ledgers.specs.Asked.{IsAsked, IsCoordinator};
+    ghost use Rattle.rack_ledgers.specs.Refused.{IsNoNode, IsNodeRefusal};
+    ghost use Rattle.std.specs.Prelude.{◌≡◌, ◌+◌, ◌≤◌, None, refl};
+
+    ghost disk_of = { λ n. n.disk };
+
+    ghost opens = { λ n c. IsCoordJournal n.header n.journal c × HoldsJournal D.content D.images n };
+
+    ghost fits = { λ node ledger n. IsAsked node ledger n.header × IsCoordinator n.header × IsJournal n.header n.journal × (n.flight ≡ None) × (n.broken ≡ None) × (n.opened ≡ n.faults) × (n.faults ≡ D.count n.disk) × (n.capacity ≡ D.limit n.disk) × (used_of n.journal + kept_room n.header.shape n.journal ≤ n.capacity) };
+
+    ghost refused = { λ node ledger limit c e. IsNoNode IsCoordinator node ledger limit c e };
+
+    ghost refusals = { λ e. IsNodeRefusal e };
+
+    ghost free = { λ node ledger limit c. (tt, refl) };
+
+    ghost may_fail = { λ node. (tt, tt) };
+
+    fn open_disk(
+        alloc: Global,
+        node: NodeId,
+        ledger: Option<&Header>,
+        disk: D,
+    ) -> Result<CoordLog<D>, (D, Answer)> {
+        match CoordLog::open(alloc, disk) {
+            Ok(log) => {
+                if is_asked(log.header(), node, ledger) {
+                    Ok(log)
+                } else {
+                    let answer = foreign(log.header(), node, ledger);
+                    Err((log.into_disk(), answer))
+                }
+            }
+            Err((disk, NodeOpenFault::OtherKind)) => {
+                Err(shard_instead(alloc, node, ledger, disk))
+            }
+            Err((disk, fault)) => Err((disk, answer_of(node, fault))),
+        }
+    }
+
+    fn give_disk(self) -> D {
+        self.into_disk()
+    }
+}
+
+impl<D: Disk> OnDisk<D> for ShardNode<D> {
+    ghost use Rattle.shard_node.specs.Shards.{HoldsJournal};
+    ghost use Rattle.shard_node.specs.Opening.{IsShardJournal};
+    ghost use Rattle.cbdc_model.specs.After.{IsJournal};
+    ghost use Rattle.cbdc_model.specs.Room.{kept_room};
+    ghost use Rattle.cbdc_model.specs.Due.{used_of};
+    ghost use Rattle.rack_ledgers.specs.Asked.{IsAsked, IsShardNode};
+    ghost use Rattle.rack_ledgers.specs.Refused.{IsNoNode, IsNodeRefusal};
+    ghost use Rattle.std.specs.Prelude.{◌≡◌, ◌+◌, ◌≤◌, None, refl};
+
+    ghost disk_of = { λ n. n.disk };
+
+    ghost opens = { λ n c. IsShardJournal n.header n.journal c × HoldsJournal D.content D.images n };
+
+    ghost fits = { λ node ledger n. IsAsked node ledger n.header × IsShardNode n.header × IsJournal n.header n.journal × (n.flight ≡ None) × (n.broken ≡ None) × (n.opened ≡ D.count n.disk) × (used_of n.journal + kept_room n.header.shape n.journal ≤ D.limit n.disk) };
+
+    ghost refused = { λ node ledger limit c e. IsNoNode IsShardNode node ledger limit c e };
+
+    ghost refusals = { λ e. IsNodeRefusal e };
+
+    ghost free = { λ node ledger limit c. (tt, refl) };
+
+    ghost may_fail = { λ node. (tt, tt) };
+
+    fn open_disk(
+        alloc: Global,
+        node: NodeId,
+        ledger: Option<&Header>,
+        disk: D,
+    ) -> Result<ShardNode<D>, (D, Answer)> {
+        match ShardNode::open(alloc, disk) {
+            Ok(shard) => {
+                if is_asked(shard.header(), node, ledger) {
+                    Ok(shard)
+                } else {
+                    let answer = foreign(shard.header(), node, ledger);
+                    Err((shard.into_disk(), answer))
+                }
+            }
+            Err((disk, NodeOpenFault::OtherKind)) => {
+                Err(coordinator_instead(alloc, node, ledger, disk))
+            }
+            Err((disk, fault)) => Err((disk, answer_of(node, fault))),
+        }
+    }
+
+    fn give_disk(self) -> D {
+        self.into_disk()
+    }
 }

@@ -2,17 +2,16 @@
 ghost use Rattle.std.specs.Prelude.{◌≡◌, ◌≢◌, ◌∷◌, [], ◌+◌, ◌≤◌, ◌<◌, ◌^◌, ℕ, length, Some, IfOk, IfErr, OnErr, MatchOption};
 ghost use Rattle.std.specs.Option.{option_copied};
 ghost use Rattle.cbdc_types.specs.Limits.{IsWithinLimits};
-ghost use Rattle.rack_nodes.specs.Places.{EachFrom, MayReturn};
-ghost use Rattle.rack_nodes.specs.Racked.{OfTold, IsBack, AreBack};
-ghost use Rattle.rack_nodes.specs.Refused.{IsNodeRefusal};
+ghost use Rattle.rack_ledgers.specs.Places.{EachFrom, MayReturn};
+ghost use Rattle.rack_ledgers.specs.Racked.{OfTold, IsBack, AreBack};
+ghost use Rattle.rack_ledgers.specs.Refused.{IsNodeRefusal};
 ghost use Rattle.rack_ledgers.specs.Ledgers.{ByPlace, IsLogAt, AreOpened, IsMintOf, IsOtherMint, IsUnledBy, IsUnopened, IsUnopenedBy};
 
-use crate::Nodes;
 use crate::at_once::open_at_once;
+use crate::{Nodes, close_all, open_one};
 use cbdc_types::{Answer, Hash, Header, NodeId};
 use coord_log::CoordLog;
 use outside::Rack;
-use rack_nodes::{close_all, open_one};
 use std::alloc::Global;
 use std::thread::Threads;
 

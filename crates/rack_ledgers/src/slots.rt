@@ -2,9 +2,9 @@
 ghost use Rattle.std.specs.Prelude.{◌≡◌, None, Some, MatchOption, [], ◌∷◌};
 ghost use Rattle.rack_ledgers.specs.Slots.{IsWaiting, CameOf, HasDisk, IsDiskIn, AreNotRefused, IsFirstRefusal};
 
+use crate::OnDisk;
 use cbdc_types::{Answer, Header, NodeId};
 use outside::Disk;
-use rack_nodes::OnDisk;
 use std::alloc::Global;
 use std::mem;
 

@@ -12,14 +12,14 @@ use Rattle.lane_driver.specs.declared.fault.LaneFaultKind.{LaneFaultKind}
 use Rattle.lane_driver.specs.declared.fault.LaneFaultKind.TheVariants.{DiskFault as DiskStopped, Full as NoRoom, ClockEnd as NoStamp, Memory as NoMemory}
 use Rattle.coord_log.specs.Logs.{LogOf}
 use Rattle.shard_node.specs.Shards.{ShardOf}
-use Rattle.rack_nodes.specs.Racked.{OfTold, SameRoom}
+use Rattle.rack_ledgers.specs.Racked.{OfTold, SameRoom}
 use Rattle.rack_ledgers.specs.Ledgers.{ByPlace, AreOpened}
-use Rattle.caused_ledgers.specs.Caused.{journals_of as lent_journals, AreCaused}
-use Rattle.caused_ledgers.proofs.Told.{told_history}
+use Rattle.rack_ledgers.specs.Caused.{journals_of as lent_journals, AreCaused}
+use Rattle.rack_ledgers.proofs.CausedTold.{told_history}
 use Rattle.ledger_runs.specs.Turning.{IsLaneOf}
 use Rattle.ledger_runs.specs.Faults.{IsCauseOf, IsSomeCauseOf, IsRunCause, HaveFailed, MayHold, Nothing, RestsSince, AllRestSince}
 use Rattle.ledger_runs.specs.Least.{IsLeastOpen}
-use Rattle.ledger_nodes.specs.Ledgers.{IsLedger, journals_of, flights_of, faults_of, opened_of, capacity_of, AreChecked, AreStored, AreQuiet}
+use Rattle.file_runs.specs.Ledgers.{IsLedger, journals_of, flights_of, faults_of, opened_of, capacity_of, AreChecked, AreStored, AreQuiet}
 use Rattle.rack_laws.specs.Shown.{OfShown, HoldsEach, HaveRoom, node_count}
 use Rattle.rack_runs.proofs.Behind.{are_quiet, is_ledger, none_fly, keeps_flights, holds_each, rooms_each, told_stored, may_hold, have_risen}
 use Rattle.rack_runs.specs.Kinds.{answer_at, answer_to, IsLaneAnswer, MayComeNext}

@@ -14,13 +14,13 @@ use Rattle.shard_node.specs.Shards.{ShardOf, sight_of, HoldsWith, HoldsJournal a
 use Rattle.cbdc_model.specs.Sights.{Sight, HasRisen}
 use Rattle.ledger_runs.specs.Faults.{HaveFailed}
 use Rattle.node_ports.specs.Nodes.{sight_at}
-use Rattle.rack_nodes.specs.Places.{EachFrom, MayReturn}
-use Rattle.rack_nodes.specs.Racked.{OfTold, SameRoom}
+use Rattle.rack_ledgers.specs.Places.{EachFrom, MayReturn}
+use Rattle.rack_ledgers.specs.Racked.{OfTold, SameRoom}
 use Rattle.rack_ledgers.specs.Ledgers.{ByPlace, AreOpened}
 use Rattle.rack_laws.specs.Shown.{KeepsEach, HoldsEach, LogHasRoom, ShardHasRoom, LogFits, ShardFits, HaveRoom, node_count}
 use Rattle.rack_laws.proofs.Opened.{at_place, sight_there, all_by}
-use Rattle.ledger_nodes.specs.Ledgers.{IsLedger, journals_of, flights_of, faults_of, opened_of, capacity_of, AreStored, AreQuiet}
-use Rattle.ledger_nodes.proofs.Steps.{same_flight}
+use Rattle.file_runs.specs.Ledgers.{IsLedger, journals_of, flights_of, faults_of, opened_of, capacity_of, AreStored, AreQuiet}
+use Rattle.file_runs.proofs.Steps.{same_flight}
 
 -- nodes whose disks' counts have not fallen may be put back where those before might
 pub returns : {N : Type 0} (f : N → ℕ) (can : ℕ → ℕ → Type 0) (i : ℕ) (xs ys : List N) → length ys ≡ length xs

@@ -12,11 +12,11 @@ use Rattle.node_ports.specs.Nodes.{sight_at}
 use Rattle.rack_ledgers.specs.Ledgers.{AreOpened}
 use Rattle.rack_laws.proofs.Opened.{at_place}
 use Rattle.rack_runs.proofs.Behind.{log_journal as log_seen, shard_journal as shard_seen}
-use Rattle.caused_ledgers.specs.Caused.{journals_of as lent_journals, AreCaused}
-use Rattle.caused_ledgers.proofs.Told.{log_journal as log_told, shard_journal as shard_told, no_journal as none_told}
-use Rattle.ledger_nodes.specs.Ledgers.{journals_of, AreChecked}
-use Rattle.audit_laws.specs.Journals.{AreJournals}
-use Rattle.audit_laws.proofs.Begun.{begun, caused_lists}
+use Rattle.rack_ledgers.specs.Caused.{journals_of as lent_journals, AreCaused}
+use Rattle.rack_ledgers.proofs.CausedTold.{log_journal as log_told, shard_journal as shard_told, no_journal as none_told}
+use Rattle.file_runs.specs.Ledgers.{journals_of, AreChecked}
+use Rattle.audit.specs.Journals.{AreJournals}
+use Rattle.audit.proofs.Begun.{begun, caused_lists}
 use Rattle.ledger_laws.proofs.Ledger.{steady_lists}
 use Rattle.run_laws.specs.Checked.{CheckedJournals}
 use Rattle.run_laws.proofs.Checked.{Any, to_checked}

@@ -10,12 +10,12 @@ use Rattle.coord_log.specs.Logs.{LogOf}
 use Rattle.shard_node.specs.Shards.{ShardOf}
 use Rattle.lane_driver.specs.declared.fault.LaneFault.{LaneFault}
 use Rattle.recovery.specs.declared.resumed.ResumedBatch.{ResumedBatch}
-use Rattle.rack_nodes.specs.Places.{EachFrom, MayReturn}
-use Rattle.rack_nodes.specs.Racked.{OfTold, SameRoom}
+use Rattle.rack_ledgers.specs.Places.{EachFrom, MayReturn}
+use Rattle.rack_ledgers.specs.Racked.{OfTold, SameRoom}
 use Rattle.rack_ledgers.specs.Ledgers.{ByPlace, AreOpened}
-use Rattle.caused_ledgers.specs.Caused.{journals_of as lent_journals, AreCaused}
+use Rattle.rack_ledgers.specs.Caused.{journals_of as lent_journals, AreCaused}
 use Rattle.ledger_runs.specs.Faults.{HaveFailed, MayHold}
-use Rattle.ledger_nodes.specs.Ledgers.{LedgerOf, IsLedger, journals_of, flights_of, faults_of, opened_of, capacity_of, AreChecked, AreStored, AreQuiet}
+use Rattle.file_runs.specs.Ledgers.{LedgerOf, IsLedger, journals_of, flights_of, faults_of, opened_of, capacity_of, AreChecked, AreStored, AreQuiet}
 use Rattle.file_runs.proofs.Whole.{when_whole, of_whole}
 use Rattle.rack_laws.specs.Shown.{HaveRoom, node_count}
 use Rattle.rack_runs.specs.Kinds.{answer_to}

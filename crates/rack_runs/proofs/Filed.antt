@@ -12,8 +12,8 @@ use Rattle.run_laws.proofs.NewBatches.{new_batches, open_batches}
 use Rattle.run_laws.proofs.WaveTurns.{waves_begin_law}
 use Rattle.lane_driver.specs.declared.fault.LaneFault.{LaneFault}
 use Rattle.submissions.specs.Checks.{VerdictsOf, TellsSound}
-use Rattle.sound_laws.specs.SoundTest.{sound_by}
-use Rattle.sound_laws.proofs.Telling.{is_sound_law}
+use Rattle.submissions.specs.SoundTest.{sound_by}
+use Rattle.submissions.proofs.Telling.{is_sound_law}
 use Rattle.ledger_runs.specs.Turning.{IsLaneOf, OfKept, StaysKept}
 use Rattle.ledger_runs.specs.Flying.{Launches}
 use Rattle.ledger_runs.specs.Telling.{SamePrepared, TellResumed}
@@ -21,7 +21,7 @@ use Rattle.ledger_runs.specs.Faults.{IsRunCause, HaveFailed, MayHold, AllRest}
 use Rattle.ledger_runs.specs.Least.{IsLeastFault, IsLeastOpen}
 use Rattle.ledger_runs.proofs.Launching.{launches_begin}
 use Rattle.ledger_runs.proofs.Keeping.{ledger_same}
-use Rattle.ledger_nodes.specs.Ledgers.{LedgerOf, journals, flights, faults, opened, IsChecked}
+use Rattle.file_runs.specs.Ledgers.{LedgerOf, journals, flights, faults, opened, IsChecked}
 use Rattle.file_runs.specs.declared.waves.Wave.{Wave}
 use Rattle.file_runs.specs.declared.ran.Ran.{Ran}
 use Rattle.file_runs.specs.Runs.{joined, IsSentPiece, HaveBegunFiles, IsFilesPiece, FliesWith}

@@ -8,7 +8,7 @@ use Rattle.coord_log.specs.Logs.{LogOf, sight}
 use Rattle.shard_node.specs.Shards.{ShardOf, sight_of}
 use Rattle.node_ports.specs.Nodes.{sight_at}
 use Rattle.ledger_runs.specs.Faults.{HaveFailed}
-use Rattle.ledger_nodes.specs.Ledgers.{flights_of, faults_of, opened_of}
+use Rattle.file_runs.specs.Ledgers.{flights_of, faults_of, opened_of}
 use Rattle.rack_runs.specs.Kinds.{FliesBroken, ShardFliesBroken}
 
 pub flies_broken : (broken : Option ℕ) (flight : Option Record) (opened faults : ℕ) → (broken ≡ None → flight ≡ None) → IsBrokenSince opened faults broken → (r : Record) → flight ≡ Some r → HasRisen opened faults

@@ -12,25 +12,25 @@ use Rattle.cbdc_model.specs.History.{minted}
 use Rattle.cbdc_model.specs.Lanes.{IsEnd}
 use Rattle.lane_laws.specs.Calls.{is_concerned}
 use Rattle.run_laws.proofs.Checked.{kept_is_checked_law}
-use Rattle.ample_laws.specs.Ample.{Ample, AreCut}
-use Rattle.ample_laws.specs.Enough.{HasLeft, HasRoom, IsUnderway}
-use Rattle.ample_laws.proofs.Room.{prepare_room_law, lock_room_law}
+use Rattle.run_laws.specs.Ample.{Ample, AreCut}
+use Rattle.run_laws.specs.Enough.{HasLeft, HasRoom, IsUnderway}
+use Rattle.run_laws.proofs.Room.{prepare_room_law, lock_room_law}
 use Rattle.submissions.specs.Checks.{VerdictsOf}
-use Rattle.sound_laws.specs.SoundTest.{sound_by}
-use Rattle.sound_laws.proofs.Telling.{is_sound_law}
+use Rattle.submissions.specs.SoundTest.{sound_by}
+use Rattle.submissions.proofs.Telling.{is_sound_law}
 use Rattle.lane_driver.specs.declared.fault.LaneFault.{LaneFault}
 use Rattle.ledger_runs.specs.Turning.{IsLaneOf}
 use Rattle.ledger_runs.specs.Least.{IsLeastOpen}
 use Rattle.ledger_runs.specs.Faults.{IsWanted, wants_prepare, wants_lock, HasNoRoomFor, HasNoStampFor}
 use Rattle.file_runs.specs.Runs.{joined, AreFilesPieces}
-use Rattle.rack_nodes.specs.Racked.{OfTold}
+use Rattle.rack_ledgers.specs.Racked.{OfTold}
 use Rattle.rack_laws.specs.Shown.{node_count}
 use Rattle.rack_runs.specs.Kinds.{IsLaneAnswer}
 use Rattle.rack_runs.proofs.Wanted.{wanted_inside}
 use Rattle.rack_runs.specs.Endings.{EndsRun}
 use Rattle.rack_runs.specs.Runs.{IsGrown, IsLaneFault, NonePrepared, NothingNext, PieceNext, PiecesPrepared}
-use Rattle.complete_laws.specs.Ready.{NoneRises, ShowsKept, limit_at}
-use Rattle.complete_laws.proofs.Caused.{told_shape, told_journals}
+use Rattle.rack_laws.specs.Ready.{NoneRises, ShowsKept, limit_at}
+use Rattle.rack_laws.proofs.Caused.{told_shape, told_journals}
 
 -- the pieces of files are what they are cut into
 are_cut : (K : Shape) (sound : FullTx → Bool) (files : List (List FullTx)) (lane : ℕ) (pieces : List (List Compact)) → AreFilesPieces K sound lane files pieces → AreCut K sound files lane pieces

@@ -22,14 +22,14 @@ use Rattle.record_log.specs.Held.{OpensToEither}
 use Rattle.coord_log.specs.Logs.{LogOf}
 use Rattle.shard_node.specs.Shards.{ShardOf}
 use Rattle.rack_ledgers.specs.Ledgers.{ByPlace, AreOpened}
-use Rattle.rack_nodes.specs.Racked.{OfTold}
+use Rattle.rack_ledgers.specs.Racked.{OfTold}
 use Rattle.rack_laws.specs.Shown.{Shows, OfShown, KeepsEach, HoldsEach, OpenTo, LogHasRoom, ShardHasRoom, LogFits, ShardFits, HaveRoom, node_count}
 use Rattle.rack_laws.proofs.Opened.{at_place, same_shape, same_journals, logs_held, shards_held}
 use Rattle.rack_runs.proofs.Behind.{log_journal, shard_journal, are_quiet, none_fly, keeps_each, keeps_flights, holds_each, rooms_each, fits_each}
 use Rattle.rack_laws.proofs.Rooms.{room_behind}
 use Rattle.rack_laws.proofs.Crashed.{crashed}
 use Rattle.ledger_runs.specs.Turning.{OfKept, StaysKept}
-use Rattle.ledger_nodes.specs.Ledgers.{IsLedger, journals_of, flights_of, AreStored, AreQuiet}
+use Rattle.file_runs.specs.Ledgers.{IsLedger, journals_of, flights_of, AreStored, AreQuiet}
 use Rattle.submissions.specs.Checks.{VerdictsOf}
 use Rattle.ledger_runs.specs.Flying.{AllMayCome}
 use Rattle.file_runs.specs.Runs.{joined, FliesWith}

@@ -4,7 +4,7 @@ use Rattle.std.specs.Prelude.{OnOk, IfOk, IfErr}
 use Rattle.cbdc_model.specs.Records.{Header}
 use Rattle.coord_log.specs.Logs.{LogOf}
 use Rattle.shard_node.specs.Shards.{ShardOf}
-use Rattle.ledger_nodes.specs.Ledgers.{LedgerOf}
+use Rattle.file_runs.specs.Ledgers.{LedgerOf}
 
 pub on_ok_by : {B F : Type 0} {X Y : Type 0} (o : Result B F) → (X → Y) → OnOk o X → OnOk o Y
 on_ok_by (Ok b) f so = f so

@@ -4,13 +4,13 @@ use Rattle.cbdc_types.specs.declared.answer.Answer.{Answer}
 use Rattle.cbdc_types.specs.declared.answer.Answer.TheVariants as answers
 use Rattle.cbdc_model.specs.Records.{Shape, Record}
 use Rattle.cbdc_model.specs.Coins.{genesis_id}
-use Rattle.rack_nodes.specs.Places.{EachFrom, MayReturn}
-use Rattle.rack_nodes.specs.Racked.{OfTold, AreUnchanged, AreBack}
-use Rattle.rack_nodes.proofs.Told.{same_back}
+use Rattle.rack_ledgers.specs.Places.{EachFrom, MayReturn}
+use Rattle.rack_ledgers.specs.Racked.{OfTold, AreUnchanged, AreBack}
+use Rattle.rack_ledgers.proofs.Told.{same_back}
 use Rattle.rack_ledgers.specs.Ledgers.{ByPlace}
-use Rattle.caused_ledgers.proofs.Told.{told_history}
-use Rattle.caused_ledgers.proofs.Closed.{all_same}
-use Rattle.ledger_nodes.specs.Ledgers.{LedgerOf, journals_of, journals}
+use Rattle.rack_ledgers.proofs.CausedTold.{told_history}
+use Rattle.rack_ledgers.proofs.Closed.{all_same}
+use Rattle.file_runs.specs.Ledgers.{LedgerOf, journals_of, journals}
 use Rattle.rack_laws.specs.Shown.{OfShown}
 use Rattle.rack_laws.proofs.Opened.{same_shape, same_journals as shown_journals}
 use Rattle.rack_runs.specs.Works.{Deed, AtEntry, entry_ledger, IsOpen}

@@ -6,7 +6,7 @@ use Rattle.cbdc_types.specs.declared.answer.Answer.TheVariants as answers
 use Rattle.cbdc_model.specs.Records.{Shape, Compact, Record, journal}
 use Rattle.cbdc_model.specs.Coins.{FullTx}
 use Rattle.lane_driver.specs.declared.fault.LaneFault.{LaneFault}
-use Rattle.rack_nodes.specs.Racked.{OfTold}
+use Rattle.rack_ledgers.specs.Racked.{OfTold}
 use Rattle.rack_ledgers.specs.Ledgers.{IsUnopened}
 use Rattle.rack_ledgers.proofs.Lacks.{unopened_kind}
 use Rattle.rack_runs.specs.Kinds.{IsLaneAnswer}

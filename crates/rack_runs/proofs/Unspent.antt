@@ -25,7 +25,7 @@ use Rattle.coord_log.specs.Logs.{LogOf, sight}
 use Rattle.shard_node.specs.Shards.{ShardOf, sight_of}
 use Rattle.node_ports.specs.Nodes.{sight_at}
 use Rattle.run_laws.proofs.Seen.{seen_shard}
-use Rattle.ledger_nodes.specs.Ledgers.{IsLedger, journals_of}
+use Rattle.file_runs.specs.Ledgers.{IsLedger, journals_of}
 use Rattle.printed_lines.specs.Unspent.{IsUnspentCount}
 use Rattle.rack_runs.specs.Telling.{CountAll}
 

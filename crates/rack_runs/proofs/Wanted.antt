@@ -33,9 +33,9 @@ use Rattle.run_laws.proofs.Members.{compact_law}
 use Rattle.shard_node.proofs.Follows.{lock_after}
 use Rattle.input_files.specs.Limits.{IsShort}
 use Rattle.submissions.specs.Checks.{VerdictsOf}
-use Rattle.sound_laws.specs.SoundTest.{sound_by}
-use Rattle.sound_laws.proofs.Telling.{is_sound_law}
-use Rattle.turn_laws.proofs.Headers.{header_is}
+use Rattle.submissions.specs.SoundTest.{sound_by}
+use Rattle.submissions.proofs.Telling.{is_sound_law}
+use Rattle.thread_laws.proofs.Headers.{header_is}
 use Rattle.ledger_runs.specs.Turning.{IsLaneOf}
 use Rattle.ledger_runs.specs.Faults.{IsWanted, wants_prepare, wants_lock}
 use Rattle.file_runs.specs.Runs.{AreFilesPieces, IsFilesPiece}
@@ -43,7 +43,7 @@ use Rattle.rack_runs.specs.Kinds.{MayComeNext, StaysCaused}
 use Rattle.rack_runs.specs.Works.{FitsBatch}
 use Rattle.coord_log.specs.Logs.{LogOf, sight}
 use Rattle.shard_node.specs.Shards.{ShardOf, sight_of}
-use Rattle.ledger_nodes.specs.Ledgers.{IsLedger, journals_of, AreChecked}
+use Rattle.file_runs.specs.Ledgers.{IsLedger, journals_of, AreChecked}
 use Rattle.rack_laws.specs.Shown.{node_count}
 use Rattle.rack_laws.proofs.Opened.{at_place, sight_there}
 use Rattle.rack_runs.proofs.Behind.{by_all, log_journal, shard_journal}

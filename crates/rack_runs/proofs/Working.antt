@@ -15,7 +15,7 @@ use Rattle.ledger_runs.proofs.Faulting.{run_moves}
 use Rattle.ledger_runs.proofs.Keeping.{ledger_on}
 use Rattle.ledger_runs.proofs.Launching.{launches_by, launches_on}
 use Rattle.ledger_runs.proofs.Onward.{rests_told}
-use Rattle.ledger_nodes.specs.Ledgers.{LedgerOf, journals, flights, faults, opened, capacity}
+use Rattle.file_runs.specs.Ledgers.{LedgerOf, journals, flights, faults, opened, capacity}
 use Rattle.file_runs.specs.Runs.{joined}
 use Rattle.file_runs.proofs.Filing.{kept_more}
 use Rattle.file_runs.proofs.Flying.{may_more}

@@ -11,7 +11,7 @@ use Rattle.ledger_runs.specs.Flying.{FliesOn, Launches}
 use Rattle.ledger_runs.specs.Least.{IsUnbegun, IsLeastOpen}
 use Rattle.ledger_runs.specs.Telling.{TellResumed, SamePrepared}
 use Rattle.ledger_runs.specs.Faults.{TakesInOrder, IsRunCause, AllRestOrWait, HaveFailed, MayHold, Nothing}
-use Rattle.ledger_nodes.specs.Ledgers.{LedgerOf, journals, flights, faults, opened, capacity, IsChecked, IsQuiet, KeepsLedgerOf}
+use Rattle.file_runs.specs.Ledgers.{LedgerOf, journals, flights, faults, opened, capacity, IsChecked, IsQuiet, KeepsLedgerOf}
 
 -- The open batches of a ledger were brought to their end, or a lane met a fault: what the ledger is behind that, and what came of it.
 pub record HasResumed {D : Type 0} (count limit : D → ℕ) (content : D → Option (List ℕ)) (images : D → List ℕ → Type 0) (before now : LedgerOf D)

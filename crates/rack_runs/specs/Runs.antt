@@ -13,10 +13,10 @@ use Rattle.lane_driver.specs.declared.fault.LaneFault.{LaneFault}
 use Rattle.record_log.specs.Held.{OpensToEither}
 use Rattle.rack_laws.specs.Shown.{OfShown, KeepsEach, HoldsEach, AreLeft, OpenTo, HaveRoom, node_count}
 use Rattle.submissions.specs.Checks.{VerdictsOf, TellsSound}
-use Rattle.sound_laws.specs.SoundTest.{sound_by}
-use Rattle.rack_nodes.specs.Racked.{OfTold, SameRoom}
-use Rattle.caused_ledgers.specs.Caused.{IsCausedLedger}
-use Rattle.caused_ledgers.specs.Laws.{AllTell}
+use Rattle.submissions.specs.SoundTest.{sound_by}
+use Rattle.rack_ledgers.specs.Racked.{OfTold, SameRoom}
+use Rattle.rack_ledgers.specs.Caused.{IsCausedLedger}
+use Rattle.rack_ledgers.specs.RefusalLaws.{AllTell}
 use Rattle.ledger_runs.specs.Turning.{IsLaneOf, OfKept}
 use Rattle.ledger_runs.specs.Faults.{AllRestSince}
 use Rattle.ledger_runs.specs.Pieces.{HasPrepared}

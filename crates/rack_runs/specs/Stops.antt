@@ -3,8 +3,8 @@ use Rattle.std.specs.Prelude.{◌⊎◌, ℕ, List, Option}
 use Rattle.cbdc_types.specs.declared.answer.Answer.{Answer}
 use Rattle.cbdc_model.specs.Records.{Shape, Compact, Record}
 use Rattle.cbdc_model.specs.Coins.{FullTx}
-use Rattle.rack_nodes.specs.Racked.{AreBack}
-use Rattle.caused_ledgers.specs.Caused.{IsUnresumed}
+use Rattle.rack_ledgers.specs.Racked.{AreBack}
+use Rattle.rack_ledgers.specs.Caused.{IsUnresumed}
 use Rattle.lane_driver.specs.declared.fault.LaneFault.{LaneFault}
 use Rattle.rack_runs.specs.Runs.{IsLaneFault}
 

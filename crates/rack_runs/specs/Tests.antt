@@ -2,8 +2,8 @@
 use Rattle.std.specs.Prelude.{◌⊎◌, ℕ, List, Option}
 use Rattle.cbdc_types.specs.declared.answer.Answer.{Answer}
 use Rattle.cbdc_model.specs.Records.{Shape, Record}
-use Rattle.rack_nodes.specs.Racked.{AreUnchanged}
-use Rattle.caused_ledgers.specs.Caused.{IsCausedLedger}
+use Rattle.rack_ledgers.specs.Racked.{AreUnchanged}
+use Rattle.rack_ledgers.specs.Caused.{IsCausedLedger}
 use Rattle.rack_runs.specs.Runs.{entry_journals}
 use Rattle.rack_runs.specs.Stops.{WhyNoTurns}
 use Rattle.rack_runs.specs.Works.{Deed, BeginsWork, EndsWork}

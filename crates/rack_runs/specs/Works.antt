@@ -19,11 +19,11 @@ use Rattle.ledger_runs.specs.Flying.{Launches}
 use Rattle.ledger_runs.specs.Telling.{SamePrepared, TellResumed}
 use Rattle.ledger_runs.specs.Least.{IsLeastOpen}
 use Rattle.ledger_runs.specs.Faults.{IsRunCause, HaveFailed, MayHold, AllRest, AllRestSince}
-use Rattle.ledger_nodes.specs.Ledgers.{LedgerOf, journals, flights, faults, opened, capacity, IsChecked, IsQuiet, KeepsLedgerOf}
+use Rattle.file_runs.specs.Ledgers.{LedgerOf, journals, flights, faults, opened, capacity, IsChecked, IsQuiet, KeepsLedgerOf}
 use Rattle.file_runs.specs.Runs.{joined, FliesWith}
-use Rattle.rack_nodes.specs.Places.{EachFrom, MayReturn}
+use Rattle.rack_ledgers.specs.Places.{EachFrom, MayReturn}
 use Rattle.rack_ledgers.specs.Ledgers.{ByPlace, AreOpened}
-use Rattle.caused_ledgers.specs.Caused.{journals_of as told_journals, AreCaused}
+use Rattle.rack_ledgers.specs.Caused.{journals_of as told_journals, AreCaused}
 use Rattle.rack_laws.specs.Shown.{OfShown, HoldsEach, LogHasRoom, ShardHasRoom, LogFits, ShardFits, HaveRoom, node_count}
 use Rattle.printed_lines.specs.Unspent.{IsUnspentCount}
 use Rattle.rack_runs.specs.Kinds.{FliesBroken, ShardFliesBroken}

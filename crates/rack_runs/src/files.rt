@@ -2,20 +2,19 @@
 ghost use Rattle.std.specs.Prelude.{All};
 ghost use Rattle.cbdc_model.specs.World.{AreIdle};
 ghost use Rattle.input_files.specs.Limits.{IsShort};
-ghost use Rattle.ledger_nodes.specs.Ledgers.{journals, IsChecked};
+ghost use Rattle.file_runs.specs.Ledgers.{journals, IsChecked};
 ghost use Rattle.rack_runs.specs.Works.{HasWorked};
 ghost use Rattle.rack_runs.specs.Deeds.{files_deed, no_deed};
 
 use crate::works::{Work, Worked};
 use cbdc_types::{Answer, FullTx, List};
-use file_runs::{FilesRun, Wave, run_files};
-use ledger_nodes::Ledger;
+use file_runs::{FilesRun, Ledger, Wave, run_files};
 use outside::{Disk, Gate};
 use requests::RunOptions;
+use sentinel::Verifier;
 use std::alloc::Global;
 use std::sync::Wait;
 use std::thread::Threads;
-use verifier_port::Verifier;
 
 /// Client files, one after another.
 #[derive(Drop)]

@@ -1,6 +1,6 @@
 // The nodes of a ledger, as those that a rack keeps.
 ghost use Rattle.std.specs.Prelude.{◌≡◌, ◌⊎◌, Ok, Err, map, All, IfOk, IfSome, IfErr};
-ghost use Rattle.ledger_nodes.specs.Ledgers.{IsLedger};
+ghost use Rattle.file_runs.specs.Ledgers.{IsLedger};
 ghost use Rattle.rack_laws.specs.Shown.{LogHasRoom, ShardHasRoom, LogFits, ShardFits};
 ghost use Rattle.rack_runs.specs.Kinds.{answer_to, FliesBroken, ShardFliesBroken};
 ghost use Rattle.rack_runs.specs.Works.{AreSeen};
@@ -11,8 +11,8 @@ use crate::faults::answer_of;
 use crate::told::Told;
 use cbdc_types::Answer;
 use coord_log::CoordLog;
+use file_runs::Ledger;
 use lane_driver::LaneFault;
-use ledger_nodes::Ledger;
 use outside::Disk;
 use rack_ledgers::Nodes;
 use recovery::ResumedBatch;

@@ -1,10 +1,10 @@
 // Commands that resume over the ledger on a rack.
 ghost use Rattle.std.specs.Prelude.{◌≡◌, ◌≤◌, ◌⊎◌, ℕ, [], All, IfOk, OnOk, IfErr, OnErr};
 ghost use Rattle.input_files.specs.Limits.{IsShort};
-ghost use Rattle.rack_nodes.specs.Racked.{AreBack};
-ghost use Rattle.caused_ledgers.specs.Caused.{IsUnresumed};
+ghost use Rattle.rack_ledgers.specs.Racked.{AreBack};
+ghost use Rattle.rack_ledgers.specs.Caused.{IsUnresumed};
 ghost use Rattle.rack_laws.specs.Shown.{OfShown};
-ghost use Rattle.ledger_nodes.specs.Ledgers.{journals};
+ghost use Rattle.file_runs.specs.Ledgers.{journals};
 ghost use Rattle.ledger_runs.specs.Least.{IsLeastOpen};
 ghost use Rattle.rack_runs.specs.Endings.{EndsRun};
 ghost use Rattle.rack_runs.specs.Resuming.{HasResumed};
@@ -20,19 +20,17 @@ use crate::nodes::{ledger_of, nodes_of, told_of};
 use crate::resuming::{ResumeRun, resume_ledger};
 use crate::told::Told;
 use crate::works::{Begun, Work, Worked};
-use caused_ledgers::open_caused;
 use cbdc_types::{Answer, FullTx, List};
-use file_runs::{Ran, Wave};
+use file_runs::{Ledger, Ran, Wave};
 use lane_driver::LaneFault;
-use ledger_nodes::Ledger;
 use outside::{Gate, Rack};
-use rack_ledgers::close_nodes;
+use rack_ledgers::{close_nodes, open_caused};
 use recovery::ResumedBatch;
 use requests::RunOptions;
+use sentinel::Verifier;
 use std::alloc::Global;
 use std::sync::Wait;
 use std::thread::Threads;
-use verifier_port::Verifier;
 
 /// Opens the ledger on a rack, has the work of a command test it, and brings its open batches to their end for that work. Where that can't be done
 /// the disks are back.

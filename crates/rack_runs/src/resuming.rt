@@ -1,9 +1,9 @@
 // Batches that an earlier run left open at the nodes of a ledger.
-ghost use Rattle.ledger_nodes.specs.Ledgers.{IsChecked};
+ghost use Rattle.file_runs.specs.Ledgers.{IsChecked};
 ghost use Rattle.rack_runs.specs.Resuming.{HasResumed};
 
+use file_runs::{Ledger, lend};
 use lane_driver::LaneFault;
-use ledger_nodes::{Ledger, lend};
 use ledger_runs::resume_all;
 use outside::{Disk, Gate};
 use recovery::ResumedBatch;

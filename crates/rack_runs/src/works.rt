@@ -1,12 +1,12 @@
 // What a command that resumes does over a ledger.
 ghost use Rattle.std.specs.Prelude.{◌≡◌, ◌⊎◌, IfErr, OnOk};
-ghost use Rattle.ledger_nodes.specs.Ledgers.{journals, IsChecked};
+ghost use Rattle.file_runs.specs.Ledgers.{journals, IsChecked};
 ghost use Rattle.rack_runs.specs.Works.{Deed};
 ghost use Rattle.rack_runs.specs.Tests.{Test, no_test};
 
 use cbdc_types::Answer;
+use file_runs::Ledger;
 use lane_driver::LaneFault;
-use ledger_nodes::Ledger;
 use outside::Disk;
 use recovery::ResumedBatch;
 use std::alloc::Global;

@@ -9,15 +9,15 @@ use Rattle.cbdc_types.specs.declared.calls.NodeOpenFault.{NodeOpenFault}
 use Rattle.cbdc_types.specs.declared.calls.NodeOpenFault.TheVariants.{DiskFault, NotReady, OtherKind, Damaged, Full, Memory}
 use Rattle.cbdc_model.specs.Records.{Header, Record}
 use Rattle.cbdc_model.specs.Grammar.{IsInGrammar}
-use Rattle.record_codec.specs.Bodies.{body_of}
+use Rattle.record_log.specs.Bodies.{body_of}
 use Rattle.gate_journal.specs.Rows.{filling, row, rows, IsShut, Opens}
 use Rattle.gate_journal.specs.Opening.{IsBroken, Breaks, HasNoFirst}
 use Rattle.gate_journal.proofs.Once.{tail_is, row_once, shut_is_no_row, broken_is_no_row}
 use Rattle.record_log.specs.Held.{bodies_of, IsOpen, HasRow, CutsOff, HasNoRecord, MayHold}
-use Rattle.record_log.specs.Reading.{StopsAt, IsNoFirst, IsRead, IsUnread, IsNoLog}
+use Rattle.record_log.specs.LogReading.{StopsAt, IsNoFirst, IsRead, IsUnread, IsNoLog}
 use Rattle.record_log.specs.declared.opening.NoLog.{NoLog}
 use Rattle.record_log.specs.declared.opening.NoLog.TheVariants.{Fault, Cut}
-use Rattle.record_log.proofs.Sizes.{body_small, first_small, limits_of}
+use Rattle.record_log.proofs.LogSizes.{body_small, first_small, limits_of}
 
 short_at : (xs : List (List ℕ)) (b : List ℕ) (ys : List (List ℕ)) → AllByRecursion (λ (x : List ℕ). length x < 2 ^ 64) (xs ++ b ∷ ys) → length b < 2 ^ 64
 short_at [] b ys all = all.0

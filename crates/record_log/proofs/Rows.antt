@@ -6,12 +6,12 @@ use Rattle.std.proofs.lemmas.List.Elements.{All-push}
 use Rattle.std.proofs.Math.Seq.{take-suc}
 use Rattle.cbdc_model.specs.Records.{Header, Record}
 use Rattle.cbdc_model.specs.Grammar.{IsInGrammar}
-use Rattle.record_codec.specs.Bodies.{body_of}
-use Rattle.record_codec.specs.Exact.{IsBody, IsFirstBody}
+use Rattle.record_log.specs.Bodies.{body_of}
+use Rattle.record_log.specs.Exact.{IsBody, IsFirstBody}
 use Rattle.gate_journal.specs.Rows.{row, rows}
 use Rattle.gate_journal.proofs.RowBytes.{length-row, length-rows-push}
 use Rattle.record_log.specs.Held.{bodies_of, MayHold}
-use Rattle.record_log.specs.Reading.{StopsAt, IsNoFirst, place_behind}
+use Rattle.record_log.specs.LogReading.{StopsAt, IsNoFirst, place_behind}
 
 -- the first bodies spell these records, which end at this place
 pub record SoFar (h : Header) (records : List Record) (at i : ℕ) (bodies : List (List ℕ)) : Type 0 where

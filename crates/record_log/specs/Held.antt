@@ -2,8 +2,8 @@
 use Rattle.std.specs.Prelude.{◌≡◌, ℕ, ◌≤◌, List, [], ◌∷◌, ◌++◌, length, map, All, Option, Some, None}
 use Rattle.cbdc_model.specs.Records.{Header, Record}
 use Rattle.cbdc_model.specs.Grammar.{IsInGrammar}
-use Rattle.record_codec.specs.Bodies.{body_of}
-use Rattle.record_codec.specs.Exact.{IsFirst}
+use Rattle.record_log.specs.Bodies.{body_of}
+use Rattle.record_log.specs.Exact.{IsFirst}
 use Rattle.gate_journal.specs.Rows.{row, rows, Opens, OpensWithOrWithout}
 use Rattle.gate_journal.specs.Stands.{StandsFor}
 

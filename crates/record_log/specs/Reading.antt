@@ -1,52 +1,129 @@
--- What is read of bodies.
-use Rattle.std.specs.Prelude.{◌≡◌, ℕ, ◌-◌, ◌^◌, min, List, [], ◌∷◌, ◌++◌, length, Option, Some, None}
-use Rattle.cbdc_types.specs.declared.calls.NodeOpenFault.{NodeOpenFault}
-use Rattle.cbdc_types.specs.declared.calls.NodeOpenFault.TheVariants.{DiskFault, NotReady, Memory}
-use Rattle.cbdc_model.specs.Records.{Header, Record}
-use Rattle.cbdc_model.specs.Grammar.{IsInGrammar}
-use Rattle.record_codec.specs.Exact.{IsBody, IsFirstBody}
-use Rattle.gate_journal.specs.Rows.{rows}
-use Rattle.record_log.specs.Held.{bodies_of, CutsOff, HasNoRecord, MayHold}
-use Rattle.record_log.specs.declared.opening.NoLog.{NoLog}
-use Rattle.record_log.specs.declared.opening.NoLog.TheVariants.{Fault, Cut}
+-- Reading a record's body from left to right, whatever the journal.
+use Rattle.std.specs.Prelude.{ℕ, Bool, ◌&&◌, List, Result, Ok, Err, nat_eq, nat_le, if◌then◌else◌, bytes_eq}
+use Rattle.cbdc_types.specs.Limits.{ShapeOf}
+use Rattle.cbdc_types.specs.declared.record.Header.{Header}
+use Rattle.cbdc_types.specs.declared.record.Record.{Record}
+use Rattle.cbdc_types.specs.declared.record.Record.TheVariants.{Genesis, Lock, Finish, Forget, Start, Prepare, Commit, Discard, Done}
+use Rattle.base_types.specs.declared.faults.InputKind.TheVariants.{Form}
+use Rattle.byte_fields.specs.declared.fault.Fault.{Fault}
+use Rattle.byte_fields.specs.Faults.{◌>>=◌, fault}
+use Rattle.byte_fields.specs.Reading.{field_at, number_at, hash_at, list_at}
+use Rattle.byte_fields.specs.Records.{byte_at, small_at, batch_at, compact_at, answered_at, outcome_at, decision_at}
+use Rattle.record_log.specs.declared.reading.Head.{Head}
+use Rattle.record_log.specs.Bodies.{magic}
 
--- bytes of rows, as far as a number tells them
-abbrev pub place_behind : List Record → ℕ
-place_behind records = min (length (rows (bodies_of records))) (2 ^ 64 - 1)
+-- `magic_at`, `is_to`, `is_shape`, `sizes_at`, `shape_at`, `header_at`, `zero_at`, `head_at`, `genesis_at`, `lock_at`, `finish_at`, `forget_at`,
+-- `start_at`, `prepare_at`, `commit_at`, `discard_at`, `done_at`, `body_at`: a record's body read from left to right, whatever the journal: its
+-- kind first, lists within the greatest limits of any ledger
+unfoldable pub magic_at : List ℕ → Result (List ℕ × List ℕ) Fault
+magic_at bytes = do
+  m ← field_at 8 (λ b. b) bytes
+  if bytes_eq m.0 magic then Ok (m.0, m.1) else Err (fault Form bytes)
 
--- behind these records stands a body of none, at this place
-pub record StopsAt (h : Header) (records : List Record) (at : ℕ) (bodies : List (List ℕ)) : Type 0 where
-  pub next : List ℕ
-  pub rest : List (List ℕ)
-  pub parts : bodies ≡ bodies_of records ++ next ∷ rest
-  pub none : (r : Record) → IsBody h next r → ⊥
-  pub place : at ≡ place_behind records
+abbrev pub is_to : ℕ → ℕ → Bool
+is_to limit n = nat_le 1 n && nat_le n limit
 
--- the bodies spell these records; or they do up to a place
-abbrev pub IsRead : Header → List Record → Option ℕ → List (List ℕ) → Type 0
-IsRead h records None bodies = bodies ≡ bodies_of records
-IsRead h records (Some at) bodies = StopsAt h records at bodies
+-- whether each number of a shape is within its limit
+abbrev pub is_shape : ShapeOf → Bool
+is_shape s = is_to 64 s.shards && (is_to 16 s.coordinators && (is_to 16 s.lanes && is_to 1024 s.batch))
 
--- the first body is no first record, or there is none
-abbrev pub IsNoFirst : List (List ℕ) → Type 0
-IsNoFirst [] = Unit {0}
-IsNoFirst (b ∷ bodies) = (r : Record) → IsFirstBody b r → ⊥
+unfoldable pub sizes_at : List ℕ → Result (ShapeOf × List ℕ) Fault
+sizes_at bytes = do
+  shards ← small_at bytes
+  coordinators ← small_at shards.1
+  lanes ← small_at coordinators.1
+  batch ← small_at lanes.1
+  Ok (record { shards = shards.0; coordinators = coordinators.0; lanes = lanes.0; batch = batch.0 }, batch.1)
 
--- why bodies spell no journal
-abbrev pub IsUnread : List (List ℕ) → NodeOpenFault → Type 0
-IsUnread bodies NotReady = IsNoFirst bodies
-IsUnread bodies Memory = Unit {0}
-IsUnread bodies other = ⊥
+unfoldable pub shape_at : List ℕ → Result (ShapeOf × List ℕ) Fault
+shape_at bytes = do
+  s ← sizes_at bytes
+  if is_shape s.0 then Ok (s.0, s.1) else Err (fault Form bytes)
 
--- why a disk's bytes are no journal of records
-abbrev pub IsNoLog : List ℕ → NoLog → Type 0
-IsNoLog bytes (Fault NotReady) = HasNoRecord bytes
-IsNoLog bytes (Fault DiskFault) = Unit {0}
-IsNoLog bytes (Fault Memory) = Unit {0}
-IsNoLog bytes (Fault other) = ⊥
-IsNoLog bytes (Cut h records at) = MayHold h records.items × CutsOff (IsInGrammar h) records.items at bytes
+unfoldable pub header_at : List ℕ → Result (Header × List ℕ) Fault
+header_at bytes = do
+  m ← magic_at bytes
+  node ← small_at m.1
+  shape ← shape_at node.1
+  genesis ← hash_at shape.1
+  Ok (record { node = node.0; shape = shape.0; genesis = genesis.0 }, genesis.1)
 
--- the records before a cut are those of a journal
-abbrev pub HoldsBefore : NoLog → Type 0
-HoldsBefore (Cut h records at) = MayHold h records.items
-HoldsBefore (Fault fault) = Unit {0}
+-- the stamp of a first record
+unfoldable pub zero_at : List ℕ → Result (ℕ × List ℕ) Fault
+zero_at bytes = do
+  n ← number_at bytes
+  if nat_eq n.0 0 then Ok (n.0, n.1) else Err (fault Form bytes)
+
+-- the stamp and the batch of another
+unfoldable pub head_at : List ℕ → Result (Head × List ℕ) Fault
+head_at bytes = do
+  stamp ← number_at bytes
+  b ← batch_at stamp.1
+  Ok (record { stamp = stamp.0; batch = b.0 }, b.1)
+
+unfoldable pub genesis_at : List ℕ → Result (Record × List ℕ) Fault
+genesis_at bytes = do
+  stamp ← zero_at bytes
+  h ← header_at stamp.1
+  hs ← list_at 1000000 hash_at h.1
+  Ok (Genesis h.0 hs.0, hs.1)
+
+unfoldable pub start_at : List ℕ → Result (Record × List ℕ) Fault
+start_at bytes = do
+  stamp ← zero_at bytes
+  h ← header_at stamp.1
+  Ok (Start h.0, h.1)
+
+unfoldable pub lock_at : List ℕ → Result (Record × List ℕ) Fault
+lock_at bytes = do
+  h ← head_at bytes
+  es ← list_at 1024 answered_at h.1
+  Ok (Lock h.0.stamp h.0.batch es.0, es.1)
+
+unfoldable pub finish_at : List ℕ → Result (Record × List ℕ) Fault
+finish_at bytes = do
+  h ← head_at bytes
+  ds ← list_at 1024 decision_at h.1
+  Ok (Finish h.0.stamp h.0.batch ds.0, ds.1)
+
+unfoldable pub forget_at : List ℕ → Result (Record × List ℕ) Fault
+forget_at bytes = do
+  h ← head_at bytes
+  Ok (Forget h.0.stamp h.0.batch, h.1)
+
+unfoldable pub prepare_at : List ℕ → Result (Record × List ℕ) Fault
+prepare_at bytes = do
+  h ← head_at bytes
+  txs ← list_at 1024 compact_at h.1
+  Ok (Prepare h.0.stamp h.0.batch txs.0, txs.1)
+
+unfoldable pub commit_at : List ℕ → Result (Record × List ℕ) Fault
+commit_at bytes = do
+  h ← head_at bytes
+  os ← list_at 1024 outcome_at h.1
+  Ok (Commit h.0.stamp h.0.batch os.0, os.1)
+
+unfoldable pub discard_at : List ℕ → Result (Record × List ℕ) Fault
+discard_at bytes = do
+  h ← head_at bytes
+  Ok (Discard h.0.stamp h.0.batch, h.1)
+
+unfoldable pub done_at : List ℕ → Result (Record × List ℕ) Fault
+done_at bytes = do
+  h ← head_at bytes
+  Ok (Done h.0.stamp h.0.batch, h.1)
+
+-- the first byte tells which record it is
+unfoldable pub body_at : List ℕ → Result (Record × List ℕ) Fault
+body_at bytes = do
+  kind ← byte_at bytes
+  if nat_eq kind.0 1 then genesis_at kind.1
+      else if nat_eq kind.0 2 then lock_at kind.1
+      else if nat_eq kind.0 3 then finish_at kind.1
+      else if nat_eq kind.0 4 then forget_at kind.1
+      else if nat_eq kind.0 5 then start_at kind.1
+      else if nat_eq kind.0 6 then prepare_at kind.1
+      else if nat_eq kind.0 7 then commit_at kind.1
+      else if nat_eq kind.0 8 then discard_at kind.1
+      else if nat_eq kind.0 9 then done_at kind.1
+      else Err (fault Form bytes)

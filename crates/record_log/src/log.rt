@@ -5,13 +5,13 @@ ghost use Rattle.outside.specs.Images.{Leaves};
 ghost use Rattle.gate_journal.specs.Shown.{disk_of, gate_of, broken_of};
 ghost use Rattle.gate_journal.specs.Rows.{OpensWithOrWithout};
 ghost use Rattle.gate_journal.specs.Appending.{refusal};
-ghost use Rattle.record_codec.specs.Bodies.{body_of};
+ghost use Rattle.record_log.specs.Bodies.{body_of};
 ghost use Rattle.record_log.specs.Held.{bodies_of};
 
+use crate::write_record;
 use cbdc_types::{Header, Record};
 use gate_journal::{AppendFault, Journal};
 use outside::Disk;
-use record_codec::write_record;
 use std::alloc::AllocError;
 use thiserror::Error;
 

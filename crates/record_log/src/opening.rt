@@ -6,17 +6,16 @@ ghost use Rattle.gate_journal.specs.Shown.{disk_of, gate_of, broken_of};
 ghost use Rattle.gate_journal.specs.Rows.{row, rows};
 ghost use Rattle.gate_journal.specs.Opening.{IsRefusal, Breaks};
 ghost use Rattle.cbdc_model.specs.Room.{size_of};
-ghost use Rattle.record_codec.specs.Bodies.{body_of};
-ghost use Rattle.record_codec.specs.Exact.{IsFirst};
+ghost use Rattle.record_log.specs.Bodies.{body_of};
+ghost use Rattle.record_log.specs.Exact.{IsFirst};
 ghost use Rattle.record_log.specs.Held.{OpensTo, MayHold};
-ghost use Rattle.record_log.specs.Reading.{IsRead, IsUnread, IsNoLog, HoldsBefore};
+ghost use Rattle.record_log.specs.LogReading.{IsRead, IsUnread, IsNoLog, HoldsBefore};
 ghost use Rattle.record_log.specs.Logs.{HoldsAll};
 
-use crate::RecordLog;
+use crate::{RecordFault, RecordLog, read_first, read_record};
 use cbdc_types::{Header, NodeOpenFault, Record};
 use gate_journal::{Bodies, Journal, OpenFault};
 use outside::Disk;
-use record_codec::{RecordFault, read_first, read_record};
 use std::alloc::Global;
 use thiserror::Error;
 

@@ -1,9 +1,9 @@
 // Calls at a shard as rows spell them.
 use crate::known::Known;
 use crate::records::part;
+use crate::rest;
 use crate::told::Told;
 use cbdc_types::{FinishCall, ForgetCall, LockCall, Stamp};
-use row_text::rest;
 
 // The cause behind the word `cause`, which stands behind the batch of a call.
 fn cause_of(words: &[&str], told: &mut Told) -> Stamp {

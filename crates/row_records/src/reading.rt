@@ -1,8 +1,8 @@
 // The words of a step. Where one is none that the step may have, that is kept, and 0 or nothing stands for it.
 use crate::told::Told;
 use crate::words::{hash, small};
+use crate::{number, words_around};
 use cbdc_types::{BatchId, Hash, LaneId, List};
-use row_text::{number, words_around};
 
 impl Told {
     /// The word at a place.

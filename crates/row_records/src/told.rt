@@ -1,7 +1,7 @@
 // What a step is answered, and how it is compared.
 use crate::refusals::word_of_refusal;
+use crate::{Wrong, check_text, differ, put_word};
 use cbdc_types::{BatchId, Hash, Outcome, Record, Refusal, Reply, Status};
-use row_text::{Wrong, check_text, differ, put_word};
 use std::alloc::Global;
 use std::fmt::{Display, Write};
 

@@ -1,11 +1,11 @@
 -- What a run prints, by what its waves tell.
 use Rattle.std.proofs.Common.{ℕ, ◌≤◌, List, ◌++◌, Option}
 use Rattle.cbdc_model.specs.Coins.{FullTx}
-use Rattle.sound_laws.specs.SoundTest.{sound_by}
-use Rattle.sound_laws.proofs.Telling.{is_sound_law}
+use Rattle.submissions.specs.SoundTest.{sound_by}
+use Rattle.submissions.proofs.Telling.{is_sound_law}
 use Rattle.submissions.specs.Checks.{VerdictsOf}
 use Rattle.requests.specs.declared.FileWord.{FileWord}
-use Rattle.verifier_port.specs.Files.{told as of_file}
+use Rattle.sentinel.specs.Files.{told as of_file}
 use Rattle.input_files.specs.Contents.{all_txs}
 use Rattle.line_text.specs.Lines.{Text}
 use Rattle.file_runs.specs.Runs.{joined}
@@ -16,8 +16,8 @@ use Rattle.rack_laws.specs.Shown.{OfShown}
 use Rattle.file_runs.specs.declared.ran.Ran.{Ran}
 use Rattle.rack_runs.specs.Telling.{IsTold}
 use Rattle.run_command.specs.Outcomes.{DidRun, PrintsRun, WasRun}
-use Rattle.run_report.specs.Told.{IsCountable, ran_text}
-use Rattle.run_report.proofs.Numbers.{lanes_there, run_text, countable}
+use Rattle.run_command.specs.Told.{IsCountable, ran_text}
+use Rattle.run_command.proofs.Numbers.{lanes_there, run_text, countable}
 
 pub prints_run : {D : Type 0} (content : D → Option (List ℕ)) (images : D → List ℕ → Type 0) (limit : D → ℕ) (before now : ℕ → Option D) (printed : Text → Type 0) (verdicts : VerdictsOf) (files : List (List FullTx)) (ran : Ran) → all_txs files ≤ 1000000
     → OfShown content before (IsTold images limit now verdicts files ran) → (IsCountable ran → printed (ran_text ran)) → PrintsRun content images limit before now printed verdicts files

@@ -1,2 +1,6 @@
+pub mod Told
+pub mod Pages
+pub mod Texts
+pub mod RecoverOutcomes
 pub mod Outcomes
 pub mod Reports

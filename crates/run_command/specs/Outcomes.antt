@@ -6,15 +6,15 @@ use Rattle.printed_lines.specs.Runs.{IsRunText}
 use Rattle.cbdc_model.specs.Coins.{FullTx, Output}
 use Rattle.requests.specs.declared.FileWord.{FileWord}
 use Rattle.input_files.specs.Contents.{AreRead, AreVerdicts, all_txs, FirstNotRead, IsNoVerdicts}
-use Rattle.verifier_port.specs.Files.{told}
-use Rattle.verifier_port.specs.declared.file.VerdictFile.{VerdictFile}
+use Rattle.sentinel.specs.Files.{told}
+use Rattle.sentinel.specs.declared.file.VerdictFile.{VerdictFile}
 use Rattle.rack_laws.specs.Shown.{OfShown}
 use Rattle.rack_runs.specs.Runs.{TookLedger, IsRun, PieceNext, PiecesPrepared}
 use Rattle.rack_runs.specs.Telling.{IsTold}
 use Rattle.file_runs.specs.declared.ran.Ran.{Ran}
 use Rattle.cbdc_types.specs.declared.answer.Answer.{Answer}
 use Rattle.submissions.specs.Checks.{VerdictsOf}
-use Rattle.sound_laws.specs.SoundTest.{sound_by}
+use Rattle.submissions.specs.SoundTest.{sound_by}
 use Rattle.submission_laws.specs.Settled.{AreSettled}
 use Rattle.submission_laws.specs.Free.{AreFreeConfirmed}
 use Rattle.rack_runs.specs.Endings.{EndsRun}

@@ -3,7 +3,7 @@ use Rattle.std.specs.Prelude.{List, ℕ, Option, Result}
 use Rattle.line_text.specs.Lines.{Prints, Text}
 use Rattle.line_text.specs.declared.WriteFault.{WriteFault}
 use Rattle.file_runs.specs.declared.ran.Ran.{Ran}
-use Rattle.run_report.specs.Told.{IsCountable, ran_text}
+use Rattle.run_command.specs.Told.{IsCountable, ran_text}
 
 -- the lines of a run whose numbers fit their fields are written, or a beginning of them
 pub record Reports (before now : Option Text) (ran : Ran) (result : Result (Unit {0}) WriteFault) : Type 0 where

@@ -8,6 +8,7 @@ ghost use Rattle.command_answers.specs.Texts.{IsPrinted, IsSilent};
 ghost use Rattle.line_text.specs.Lines.{Text};
 ghost use Rattle.command_answers.specs.Left.{IsBeforeDisks};
 
+use crate::write_report;
 use cbdc_types::{Answer, FullTx, List};
 use file_runs::Ran;
 use input_files::{Inputs, inputs_in};
@@ -15,7 +16,6 @@ use line_text::WriteFault;
 use outside::{Gate, Inbox, Rack, Sink};
 use rack_runs::run_on;
 use requests::{FileWord, RunOptions};
-use run_report::write_report;
 use std::alloc::Global;
 use std::sync::Wait;
 use std::thread::{Threads, join_mut};

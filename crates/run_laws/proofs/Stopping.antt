@@ -22,9 +22,9 @@ use Rattle.cbdc_model.specs.Sights.{Sight, HasRisen}
 use Rattle.lane_laws.specs.Calls.{is_concerned}
 use Rattle.lane_laws.specs.Faults.{IsAnswered, IsCallFault, to_lock, to_decide, to_finish, to_discard, to_forget, to_done, HaveBelow, AreSeenBelow, IsOpenFault, IsBatchFault, latest_at}
 use Rattle.lane_laws.proofs.Dues.{ok, err, late_full, stamp_full, lock_new, finish_new, forget_new}
-use Rattle.world_laws.specs.Laws.{late_records}
-use Rattle.world_laws.proofs.Stamps.{found_le}
-use Rattle.world_laws.proofs.Few.{low, few_enough}
+use Rattle.run_laws.specs.Laws.{late_records}
+use Rattle.run_laws.proofs.WorldStamps.{found_le}
+use Rattle.run_laws.proofs.Few.{low, few_enough}
 use Rattle.run_laws.specs.Checked.{CheckedJournals}
 use Rattle.run_laws.specs.Runs.{seen_by}
 use Rattle.run_laws.specs.Faults.{IsNext, next_prepare, next_lock, awaited, HasHeard, IsAsked, asks_prepare, asks_log, asks_shard, HasFailed, IsStopBy, opened_by, faults_by, capacity_by, StopLaw}

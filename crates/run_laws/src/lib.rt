@@ -1,11 +1,17 @@
-//! Laws that take what lanes say of their turns to the journals of the whole ledger. They have no body that runs.
+//! Laws of whole runs: what lanes say of their turns, taken to the journals of the whole ledger; of whole waves; of room and stamps for all that is
+//! still to come; and further laws of every kept world. They have no body that runs.
 //!
-//! - What joins what lanes do into a run. They have no body that runs.
-//! - `ledger_nodes`, `file_runs` and `rack_runs` rest on these laws.
+//! - Of the laws of every kept world `once_law`, `spent_law` and `none_open_law` hold where no hashes clash (`Clean`), the
+//!   others ask nothing of hashes. No crate of the program rests on them, but that late stamps are few is used by `stop_law`.
 //! - `kept_is_checked_law`, `checked_turn_law`, `checked_rest_law`, `checked_resume_law`: No contract of a public function cites them; the proofs
-//!   of `ledger_nodes` use the last two, those of `thread_laws` that of idle lanes.
-//! - `proper_law`, `grant_law`, `stop_law`: No contract of a public function cites them; the proofs of `turn_laws` use `stop_law`.
+//!   of `file_runs` use the last two, those of `thread_laws` that of idle lanes.
+//! - `proper_law`, `grant_law`, `stop_law`: No contract of a public function cites them; the proofs of `thread_laws` use `stop_law`.
+//! - Open: the laws of kept worlds write all Locks first; the program brings one lane after another to its end, and what stops it is said of its own calls.
 #![tactic(auto)]
+
+mod ample;
+mod waves;
+mod worlds;
 
 ghost use Rattle.run_laws.specs.Checked.{KeptIsCheckedLaw};
 ghost use Rattle.run_laws.specs.Faults.{GrantLaw, StopLaw};
@@ -15,6 +21,13 @@ ghost use Rattle.run_laws.specs.Open.{ResumeLaw, CheckedResumeLaw};
 ghost use Rattle.run_laws.specs.Runs.{TurnLaw, CheckedTurnLaw, RestLaw, CheckedRestLaw, OthersLaw, NodesLaw, SoundLaw, ProperLaw, GrowLaw, EndLaw, PartLaw};
 ghost use Rattle.run_laws.specs.Turns.{TakenLaw, SeenLaw, EndsLaw, PreparedLaw, OpenTurnLaw, ResumedTurnLaw};
 ghost use Rattle.run_laws.specs.WaveSteps.{ResumingBeginsLaw, ResumingStepLaw, ResumingSkipLaw, ResumingEndsLaw, WavesBeginLaw, WavesStepLaw};
+
+pub use ample::{idle_room_law, kept_room_law, lock_room_law, prepare_room_law, row_law};
+pub use waves::{begin_law, between_law, free_law, free_run_law, place_law};
+pub use worlds::{
+    checked_law, counted_law, few_late_law, longer_law, none_open_law, none_refused_law, once_law,
+    pass_law, recovery_law, shard_kinds_law, spent_law, stuck_law,
+};
 
 /// A lane's turn keeps the journals, whatever it came to.
 pub fn turn_law()

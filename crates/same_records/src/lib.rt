@@ -1,14 +1,20 @@
-//! Whether hashes, entries, replies, outcomes, transactions, records and journals are the same, and whether a reply or an outcome is
-//! Held. Journals are lists whose newest record comes first.
+//! Whether hashes, entries, replies, outcomes, transactions, records and journals are the same, whether a reply or an outcome is Held, and what of a
+//! batch lies on a shard. Journals are lists whose newest record comes first.
+//!
+//! - Tested in `journal_rows`.
 #![tactic(auto)]
 
 mod comparing;
+mod parts;
 mod records;
 mod same;
 mod values;
 
 pub use comparing::{
     are_same_hashes, is_same_compact, is_same_entry, is_same_output, is_same_point,
+};
+pub use parts::{
+    are_elsewhere, entry_at, hashes_on, home_of, is_concerned, is_entry_at, is_part_from, part_of,
 };
 pub use records::{are_compacts, is_compact, is_journal, is_record};
 pub use same::{

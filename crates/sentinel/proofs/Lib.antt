@@ -1,2 +1,5 @@
+mod LineLemmas
+mod KeyLemmas
+mod ReadLemmas
 pub mod PlaceLemmas
 pub mod Ranks

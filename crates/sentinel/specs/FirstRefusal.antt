@@ -4,8 +4,8 @@ use Rattle.cbdc_types.specs.declared.tx.Input.{Input}
 use Rattle.cbdc_types.specs.declared.tx.FullTx.{FullTx}
 use Rattle.base_types.specs.declared.faults.Refusal.{Refusal}
 use Rattle.base_types.specs.declared.faults.Refusal.TheVariants.{NoInputs, NoOutputs, WitnessCount, RepeatedInput, ZeroInput, ZeroOutput, InputOverflow, OutputOverflow, Unbalanced, BadWitness, Unverified}
-use Rattle.verifier_port.specs.declared.Verdict.{Verdict}
-use Rattle.verifier_port.specs.declared.Verdict.TheVariants.{Bad, Absent}
+use Rattle.sentinel.specs.declared.verifier.Verdict.{Verdict}
+use Rattle.sentinel.specs.declared.verifier.Verdict.TheVariants.{Bad, Absent}
 
 -- the verdict on the witness of each input, by place
 abbrev pub Verdicts : Type 0

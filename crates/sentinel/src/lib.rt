@@ -1,23 +1,27 @@
-//! What can be said of a transaction without the ledger: its form, its sums and the verdicts on its witnesses.
+//! What can be said of a transaction without the ledger: its form, its sums and the verdicts on its witnesses, with the verifier that is asked for
+//! these and the file that has them.
 //!
-//! Nothing here takes memory. A repeated outpoint is sought by comparing each input with those before it,
-//! at most 255 * 254 / 2 comparisons.
-//!
-//! - Tested in `piece_rows` (`refusals.rows`): every reason to refuse a transaction.
+//! - `check`: It takes no memory. A repeated outpoint is sought by comparing each input with those before it, at most 255 * 254 / 2 comparisons.
+//! - Open: that bytes of a verdict file have only one reading is not a law of its own. No signature is checked here.
+//! - Tested in `piece_rows`: every reason to refuse a transaction (`refusals.rows`); verdict files (`verdicts.rows`).
 #![tactic(auto)]
 
+mod file;
+mod line;
 mod places;
 mod steps;
+mod verifier;
 
 ghost use Rattle.std.specs.Prelude.{MatchResult};
 ghost use Rattle.sentinel.specs.FirstRefusal.{IsFirstRefusal, IsSound};
 
 use cbdc_types::{FullTx, Hash, Refusal};
+pub use file::{BadLine, VerdictFault, VerdictFile};
 use steps::{
     balances, fits_inputs, fits_outputs, has_bad, has_inputs, has_outputs, has_unverified,
     has_witnesses, has_zero_input, has_zero_output, repeats,
 };
-use verifier_port::Verifier;
+pub use verifier::{AllGood, Verdict, Verifier};
 
 /// Checks a transaction with this id. The refusal is the first reason that applies: no inputs, no outputs,
 /// another number of witnesses than of inputs, a repeated outpoint, an input of value 0, an output of value

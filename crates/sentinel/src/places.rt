@@ -2,8 +2,8 @@
 ghost use Rattle.std.specs.Prelude.{◌≡◌, ◌<◌, ◌≤◌, ◌↔◌, ℕ, length, sum_by, IsTrue, MatchOption};
 ghost use Rattle.sentinel.specs.FirstRefusal.{HasAt, HasVerdict, IsLeast, Repeats};
 
+use crate::{Verdict, Verifier};
 use cbdc_types::{Hash, Input, Output};
-use verifier_port::{Verdict, Verifier};
 
 /// The first input of value 0.
 pub(crate) fn zero_input(inputs: &[Input]) -> Option<u64>

@@ -5,8 +5,8 @@ ghost use Rattle.sentinel.specs.FirstRefusal.{AppliesAt, NoneAt, Verdicts, input
 use crate::places::{
     repeated, sum_of_inputs, sum_of_outputs, with_verdict, zero_input, zero_output,
 };
+use crate::{Verdict, Verifier};
 use cbdc_types::{FullTx, Hash, Refusal};
-use verifier_port::{Verdict, Verifier};
 
 const LIMIT: u128 = 0x1_0000_0000_0000_0000;
 

@@ -5,10 +5,10 @@ use Rattle.std.specs.Bool.{OnTrue}
 use Rattle.cbdc_model.specs.Records.{Digest, Batch, Header, Record, Entry, Reply, Answered, Genesis, Lock, Finish, Forget, lock_of, is_held}
 use Rattle.cbdc_model.specs.Status.{Status, status, has, held_inputs, taken_inputs, made_outputs, returned_inputs, Unspent, Locked, Absent}
 use Rattle.cbdc_model.specs.Replies.{entries, replies}
-use Rattle.hash_slots.specs.declared.slots.Kept.{Kept}
-use Rattle.hash_slots.specs.Entries.{lookup}
-use Rattle.dtx_replies.specs.declared.slots.Slot.{Slot as LaneSlot}
-use Rattle.dtx_replies.specs.declared.slots.Slot.TheVariants.{Idle as Free, Locked as Taken, Finished}
+use Rattle.shard_table.specs.declared.slots.Kept.{Kept}
+use Rattle.shard_table.specs.Entries.{lookup}
+use Rattle.shard_core.specs.declared.slots.Slot.{Slot as LaneSlot}
+use Rattle.shard_core.specs.declared.slots.Slot.TheVariants.{Idle as Free, Locked as Taken, Finished}
 use Rattle.shard_core.specs.Agrees.{Agrees, is_unspent, locked_by, holder_in}
 use Rattle.shard_core.specs.Memory.{HaveMemory, ArePaired, locked_entries, locked_replies}
 use Rattle.shard_core.specs.Moves.{inputs_where, outputs_where, returned_where, inputs_in, outputs_in, hashes_in, owed_by, owed_in}

@@ -6,7 +6,7 @@ use Rattle.cbdc_model.specs.Records.{Batch, Record, Entry, Reply, lock_of, recor
 use Rattle.cbdc_model.specs.Slots.{Phase, slot, Idle}
 use Rattle.cbdc_model.specs.Replies.{replies}
 use Rattle.cbdc_model.specs.Next.{next_finish, next_stamp, misfit, difference, same_decision, Kept, Append, Refuse}
-use Rattle.dtx_replies.specs.declared.slots.Slot.TheVariants.{Locked as Taken, Finished}
+use Rattle.shard_core.specs.declared.slots.Slot.TheVariants.{Locked as Taken, Finished}
 use Rattle.shard_core.specs.Slots.{SlotStands, batch_in}
 use Rattle.shard_core.specs.Places.{first_place, fits_reply}
 use Rattle.shard_core.proofs.Places.{misfit_is, difference_is}

@@ -8,7 +8,7 @@ use Rattle.cbdc_model.specs.Slots.{Slot, Phase, slot, Idle, InLock, InFinish}
 use Rattle.cbdc_model.specs.After.{FitsReplies}
 use Rattle.shard_core.specs.Places.{first_place, fits_reply}
 use Rattle.shard_core.specs.Slots.{SlotStands, batch_in}
-use Rattle.dtx_replies.specs.declared.slots.Slot.TheVariants.{Locked as Taken}
+use Rattle.shard_core.specs.declared.slots.Slot.TheVariants.{Locked as Taken}
 
 pub entries_answered : (es : List Entry) (past : List Record) (b : Batch) (claimed : List Digest) → entries (answered past b claimed es) ≡ es
 entries_answered [] past b claimed = refl

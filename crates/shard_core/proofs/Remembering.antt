@@ -8,7 +8,7 @@ use Rattle.shard_core.specs.Remembers.{has_id, fate_of, told, as_fate}
 use Rattle.shard_core.specs.declared.plans.Remembered.{Remembered}
 use Rattle.shard_core.specs.Slots.{SlotStands, batch_in}
 use Rattle.shard_core.proofs.Applies.{Yes, No, same_nat}
-use Rattle.dtx_replies.specs.declared.slots.Slot.TheVariants.{Idle as Free, Locked as Taken, Finished}
+use Rattle.shard_core.specs.declared.slots.Slot.TheVariants.{Idle as Free, Locked as Taken, Finished}
 
 has_id-entries : (es : List Answered) (id : Digest) → has_id (entries es) id ≡ names es id
 has_id-entries [] id = refl

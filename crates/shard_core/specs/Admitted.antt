@@ -2,7 +2,7 @@
 use Rattle.std.specs.Prelude.{◌≡◌, ℕ, ◌*◌, ◌<◌, ◌^◌, Bool, List, length, Some, slice_get}
 use Rattle.cbdc_model.specs.Records.{Batch, Entry, Reply, Record, Lock, Finish, Forget}
 use Rattle.cbdc_model.specs.Replies.{entries, replies}
-use Rattle.dtx_replies.specs.declared.slots.Slot.TheVariants.{Locked as Taken}
+use Rattle.shard_core.specs.declared.slots.Slot.TheVariants.{Locked as Taken}
 use Rattle.shard_core.specs.declared.core_state.ShardCore.{ShardCore}
 use Rattle.shard_core.specs.Stands.{IsReady, IsFree, IsDone}
 

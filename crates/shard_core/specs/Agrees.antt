@@ -2,8 +2,8 @@
 use Rattle.std.specs.Prelude.{◌≡◌, ℕ, Bool, true, false, List, Option, Some, None, option_map}
 use Rattle.cbdc_model.specs.Records.{Digest, Batch, Record}
 use Rattle.cbdc_model.specs.Status.{Status, status, has, Unspent, Locked, Absent}
-use Rattle.hash_slots.specs.declared.slots.Kept.{Kept}
-use Rattle.hash_slots.specs.Entries.{lookup}
+use Rattle.shard_table.specs.declared.slots.Kept.{Kept}
+use Rattle.shard_table.specs.Entries.{lookup}
 
 -- whether a status is Unspent
 abbrev pub is_unspent : Status → Bool

@@ -3,8 +3,8 @@ use Rattle.std.specs.Prelude.{◌≡◌, ℕ, Bool, List, [], length}
 use Rattle.cbdc_model.specs.Records.{Batch, Record, Entry, record_of, lock_of, stamp_in}
 use Rattle.cbdc_model.specs.Replies.{answered, replies}
 use Rattle.cbdc_model.specs.Next.{RepliesAt, next_lock, next_stamp, Kept, Append, Refuse}
-use Rattle.dtx_replies.specs.declared.slots.Slot.{Slot as LaneSlot}
-use Rattle.dtx_replies.specs.declared.slots.Slot.TheVariants.{Idle as Free, Locked as Taken, Finished}
+use Rattle.shard_core.specs.declared.slots.Slot.{Slot as LaneSlot}
+use Rattle.shard_core.specs.declared.slots.Slot.TheVariants.{Idle as Free, Locked as Taken, Finished}
 use Rattle.shard_core.specs.declared.plans.StampPlan.{StampPlan}
 use Rattle.shard_core.specs.declared.plans.StampPlan.TheVariants.{Kept as StampKept, Append as StampNext, Refused as StampRefused}
 use Rattle.shard_core.specs.declared.judging.LockAnswer.{LockAnswer}

@@ -1,8 +1,8 @@
 -- The memory for the decisions of locked batches.
 use Rattle.std.specs.Prelude.{◌≡◌, ℕ, ◌≤◌, Bool, List, length, vec_capacity, Some, slice_get}
 use Rattle.std.specs.Global.{Vec}
-use Rattle.dtx_replies.specs.declared.slots.Slot.{Slot as LaneSlot}
-use Rattle.dtx_replies.specs.declared.slots.Slot.TheVariants.{Idle as Free, Locked as Taken, Finished}
+use Rattle.shard_core.specs.declared.slots.Slot.{Slot as LaneSlot}
+use Rattle.shard_core.specs.declared.slots.Slot.TheVariants.{Idle as Free, Locked as Taken, Finished}
 
 -- how many entries and replies a locked batch has
 abbrev pub locked_entries : LaneSlot → ℕ

@@ -3,8 +3,8 @@ use Rattle.std.specs.Prelude.{◌≡◌, ℕ, List}
 use Rattle.cbdc_model.specs.Records.{Batch, Record, record_of, lock_of, decisions_in, stamp_in}
 use Rattle.cbdc_model.specs.Slots.{slot, slot_stamp, Idle, InLock, InFinish}
 use Rattle.cbdc_model.specs.Replies.{entries, replies}
-use Rattle.dtx_replies.specs.declared.slots.Slot.{Slot as LaneSlot}
-use Rattle.dtx_replies.specs.declared.slots.Slot.TheVariants.{Idle as Free, Locked as Taken, Finished}
+use Rattle.shard_core.specs.declared.slots.Slot.{Slot as LaneSlot}
+use Rattle.shard_core.specs.declared.slots.Slot.TheVariants.{Idle as Free, Locked as Taken, Finished}
 
 -- the batch of this lane with this number
 abbrev pub batch_in : ℕ → ℕ → Batch

@@ -2,8 +2,8 @@
 use Rattle.std.specs.Prelude.{◌≡◌, ℕ, ◌+◌, ◌<◌, ◌≤◌, ◌^◌, List, length, vec_capacity, Option, Some, None, slice_get}
 use Rattle.cbdc_model.specs.Records.{Digest, Batch, Record, Entry, Reply, last_stamp}
 use Rattle.cbdc_model.specs.Status.{has}
-use Rattle.hash_slots.specs.Entries.{lookup}
-use Rattle.dtx_replies.specs.declared.slots.Slot.{Slot as LaneSlot}
+use Rattle.shard_table.specs.Entries.{lookup}
+use Rattle.shard_core.specs.declared.slots.Slot.{Slot as LaneSlot}
 use Rattle.shard_core.specs.declared.core_state.Ready.{Ready}
 use Rattle.shard_core.specs.Judged.{IsIdle, IsPast}
 use Rattle.shard_core.specs.Agrees.{Agrees}

@@ -2,14 +2,13 @@
 ghost use Rattle.std.specs.Prelude.{◌≡◌, ◌+◌, ◌≤◌, ◌^◌, ◌-◌, min, not, ◌&&◌, ◌||◌, length, Some, None, if◌then◌else◌};
 ghost use Rattle.cbdc_model.specs.Records.{Digest, is_held as reply_is_held};
 ghost use Rattle.cbdc_model.specs.Status.{has, held_inputs};
-ghost use Rattle.hash_slots.specs.Entries.{lookup};
+ghost use Rattle.shard_table.specs.Entries.{lookup};
 ghost use Rattle.shard_core.specs.Agrees.{holder_in};
 ghost use Rattle.shard_core.specs.Moves.{inputs_where, outputs_where, returned_where, inputs_in, outputs_in, hashes_in};
 
 use crate::comparing::is_held;
 use cbdc_types::{Answered, BatchId, Entry, Hash, Reply};
-use shard_locks::Locks;
-use shard_table::Table;
+use shard_table::{Locks, Table};
 
 /// How many inputs and outputs a part has.
 pub fn hash_count(entries: &[Entry]) -> u64

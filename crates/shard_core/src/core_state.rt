@@ -16,14 +16,13 @@ use crate::copying::{copy_of, entries_of, same_replies};
 use crate::judging::{LockAnswer, judge_finish, judge_forget, judge_lock, kept_replies};
 use crate::plans::{LockPlan, Remembered, StampPlan};
 use crate::replying::{replies_to, status_of};
+use crate::{Slot, Slots};
 use cbdc_types::{
     Answered, BatchId, Decisions, Entry, FinishCall, ForgetCall, Hash, Header, LaneId, List,
     LockCall, Part, Record, Refused, Replied, Reply, Stamp, Status,
 };
-use dtx_replies::{Slot, Slots};
 use record_grammar::is_in_grammar;
-use shard_locks::Locks;
-use shard_table::Table;
+use shard_table::{Locks, Table};
 use std::alloc::{AllocError, Global};
 use std::mem;
 

@@ -10,12 +10,12 @@ ghost use Rattle.shard_core.specs.Slots.{SlotStands, number_in, batch_in};
 ghost use Rattle.shard_core.specs.Judged.{IsJudged, IsNextLock, IsNextFinish, IsNextForget, Remembers, RemembersAgain, kept_at};
 ghost use Rattle.shard_core.specs.Plans.{stamp_plan, replies_at};
 
+use crate::Slot;
 use crate::comparing::{misfit, other_decisions, other_part};
 use crate::plans::StampPlan;
 use cbdc_types::{
     Entry, FinishCall, ForgetCall, List, LockCall, Part, Refused, Replied, Reply, Stamp,
 };
-use dtx_replies::Slot;
 use std::alloc::{AllocError, Global};
 
 // What a Lock is answered, before any memory is taken.

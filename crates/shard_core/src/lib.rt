@@ -1,4 +1,4 @@
-//! A shard without its disk: what each call answers, and what each record changes.
+//! A shard without its disk: what each call answers, what each record changes, and what it remembers of each lane's last batch.
 //!
 //! - `Stands` ties the unspent hashes and the locks at each hash to the status, the slot of each lane and the last stamp to a list of records.
 //! - Tested in `journal_rows`, in which the same rows are done by the definitions: each refusal with what was kept, what a batch leaves at its
@@ -13,7 +13,9 @@ mod core_state;
 mod judging;
 mod plans;
 mod replying;
+mod slots;
 
 pub use copying::answered;
 pub use core_state::ShardCore;
 pub use plans::{LockPlan, Remembered, StampPlan};
+pub use slots::{Slot, Slots};

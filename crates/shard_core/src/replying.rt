@@ -9,8 +9,7 @@ use crate::applying::hash_count;
 use crate::claiming::Claims;
 use crate::comparing::is_held;
 use cbdc_types::{BatchId, Entry, Hash, Reply, Status};
-use shard_locks::Locks;
-use shard_table::Table;
+use shard_table::{Locks, Table};
 use std::alloc::{AllocError, Global};
 
 /// What the table and the locks say of a hash.

@@ -13,8 +13,8 @@ use Rattle.cbdc_model.specs.Sights.{IsBrokenSince, Stays, Appends, Fails}
 use Rattle.outside.specs.declared.disk.Disk.{Ghosts}
 use Rattle.gate_journal.specs.Shown.{disk_of, gate_of, broken_of}
 use Rattle.record_log.specs.Logs.{HasRoom}
-use Rattle.record_log.proofs.Sizes.{size_is}
-use Rattle.dtx_replies.specs.declared.slots.Slot.{Slot as LaneSlot}
+use Rattle.record_log.proofs.LogSizes.{size_is}
+use Rattle.shard_core.specs.declared.slots.Slot.{Slot as LaneSlot}
 use Rattle.shard_core.specs.declared.core_state.ShardCore.{ShardCore}
 use Rattle.shard_core.specs.Stands.{Stands, IsSameState}
 use Rattle.shard_node.specs.declared.parts.Parts.{Parts}

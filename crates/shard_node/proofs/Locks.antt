@@ -19,10 +19,10 @@ use Rattle.cbdc_model.specs.Next.{Append, next_lock, next_stamp}
 use Rattle.cbdc_model.specs.Sights.{IsBrokenSince, Meets, MeetsFault, Appends, Fails}
 use Rattle.outside.specs.declared.disk.Disk.{Ghosts}
 use Rattle.gate_journal.specs.Shown.{disk_of, gate_of, broken_of}
-use Rattle.record_codec.specs.Bodies.{body_of}
+use Rattle.record_log.specs.Bodies.{body_of}
 use Rattle.record_log.specs.declared.log.RecordLog.{RecordLog}
 use Rattle.record_log.specs.Logs.{HasRoom, KeepsRoom, IsUntouched}
-use Rattle.record_log.proofs.Sizes.{size_is, size_small}
+use Rattle.record_log.proofs.LogSizes.{size_is, size_small}
 use Rattle.shard_core.specs.Plans.{replies_at}
 use Rattle.shard_core.specs.Stands.{Stands}
 use Rattle.shard_core.proofs.Applies.{Yes, No, same_nat}

@@ -17,7 +17,7 @@ use Rattle.gate_journal.specs.Shown.{disk_of, gate_of, broken_of}
 use Rattle.record_log.specs.declared.log.RecordLog.{RecordLog}
 use Rattle.record_log.specs.Held.{MayHold, OpensTo, Holds}
 use Rattle.record_log.specs.Logs.{HoldsAll, HasRoom, IsUntouched}
-use Rattle.record_log.proofs.Sizes.{limits_of}
+use Rattle.record_log.proofs.LogSizes.{limits_of}
 use Rattle.shard_core.specs.declared.core_state.ShardCore.{ShardCore}
 use Rattle.shard_core.specs.Stands.{Stands}
 use Rattle.shard_node.specs.declared.parts.Parts.{Parts}

@@ -15,10 +15,10 @@ use Rattle.cbdc_model.specs.Next.{Append, next_finish, next_forget}
 use Rattle.cbdc_model.specs.Sights.{Meets, MeetsFault}
 use Rattle.outside.specs.declared.disk.Disk.{Ghosts}
 use Rattle.gate_journal.specs.Shown.{disk_of, gate_of, broken_of}
-use Rattle.record_codec.specs.Bodies.{body_of}
+use Rattle.record_log.specs.Bodies.{body_of}
 use Rattle.record_log.specs.declared.log.RecordLog.{RecordLog}
 use Rattle.record_log.specs.Logs.{HasRoom}
-use Rattle.record_log.proofs.Sizes.{size_is}
+use Rattle.record_log.proofs.LogSizes.{size_is}
 use Rattle.shard_core.proofs.Applies.{Yes, No, same_nat}
 use Rattle.shard_node.specs.declared.parts.Parts.{Parts}
 use Rattle.cbdc_model.specs.Calls.{IsFinishCall, IsForgetCall}

@@ -14,12 +14,12 @@ use Rattle.cbdc_model.specs.After.{After}
 use Rattle.cbdc_model.specs.Room.{size_of, kept_room}
 use Rattle.gate_journal.specs.Rows.{row, rows, filling}
 use Rattle.gate_journal.proofs.Once.{tail_is, row_once, end_len}
-use Rattle.record_codec.specs.Bodies.{body_of}
-use Rattle.record_codec.proofs.Grammar.{one_body}
+use Rattle.record_log.specs.Bodies.{body_of}
+use Rattle.record_log.proofs.Grammar.{one_body}
 use Rattle.record_log.specs.Held.{bodies_of, OpensTo, IsOpen, HasRow, CutsOff, MayHold}
-use Rattle.record_log.specs.Reading.{IsNoLog}
+use Rattle.record_log.specs.LogReading.{IsNoLog}
 use Rattle.record_log.specs.declared.opening.NoLog.TheVariants.{Fault}
-use Rattle.record_log.proofs.Sizes.{body_small, limits_of, grammar_of, rows_size}
+use Rattle.record_log.proofs.LogSizes.{body_small, limits_of, grammar_of, rows_size}
 use Rattle.shard_core.specs.declared.core_state.ShardCore.{ShardCore}
 use Rattle.shard_core.specs.Next.{StandsFor}
 use Rattle.shard_node.specs.Opening.{IsPlayed, IsStart, IsUnbegun, IsUnplayed, StopsBefore, IsDamagedAt, IsNoShard}

@@ -8,7 +8,7 @@ use Rattle.cbdc_model.specs.After.{After, IsJournal}
 use Rattle.cbdc_model.specs.Grammar.{IsShard}
 use Rattle.cbdc_model.specs.Room.{size_of, kept_room}
 use Rattle.cbdc_model.specs.Due.{used_of}
-use Rattle.record_codec.specs.Exact.{IsFirst}
+use Rattle.record_log.specs.Exact.{IsFirst}
 use Rattle.record_log.specs.Held.{OpensTo, HasRow, CutsOff, HasNoRecord}
 use Rattle.shard_core.specs.declared.core_state.ShardCore.{ShardCore}
 use Rattle.shard_core.specs.Stands.{Stands}

@@ -17,7 +17,7 @@ use Rattle.gate_journal.specs.Shown.{disk_of, gate_of, broken_of}
 use Rattle.record_log.specs.declared.log.RecordLog.{RecordLog}
 use Rattle.record_log.specs.Logs.{HasRoom}
 use Rattle.outside.specs.Counts.{Rose}
-use Rattle.record_codec.specs.Bodies.{body_of}
+use Rattle.record_log.specs.Bodies.{body_of}
 use Rattle.shard_core.specs.Stands.{Stands}
 use Rattle.shard_node.specs.declared.parts.Parts.{Parts}
 use Rattle.shard_node.specs.Shards.{ShardOf}

@@ -6,7 +6,7 @@ use Rattle.cbdc_model.specs.Records.{Header, Record}
 use Rattle.cbdc_model.specs.Sights.{Sight}
 use Rattle.outside.specs.Images.{Leaves}
 use Rattle.gate_journal.specs.Rows.{OpensWithOrWithout}
-use Rattle.record_codec.specs.Bodies.{body_of}
+use Rattle.record_log.specs.Bodies.{body_of}
 use Rattle.record_log.specs.Held.{bodies_of, Holds, OpensToEither}
 
 -- its header, its journal, newest first, a record that a failed call may have left on its disk or not, how often the disk had failed when it

@@ -16,8 +16,7 @@ use crate::parts::Parts;
 use crate::writing::write;
 use cbdc_types::{LaneId, List, LockCall, NodeFault, Record, Replied};
 use outside::Disk;
-use record_codec::size_of_record;
-use record_log::RecordLog;
+use record_log::{RecordLog, size_of_record};
 use shard_core::{LockPlan, answered};
 use std::alloc::{AllocError, Global};
 

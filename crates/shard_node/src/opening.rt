@@ -9,7 +9,7 @@ ghost use Rattle.cbdc_model.specs.Grammar.{IsInGrammar, IsShard};
 ghost use Rattle.cbdc_model.specs.Room.{size_of, kept_room};
 ghost use Rattle.cbdc_model.specs.Due.{used_of};
 ghost use Rattle.record_log.specs.Held.{MayHold, OpensTo, CutsOff};
-ghost use Rattle.record_log.specs.Reading.{HoldsBefore, IsNoLog};
+ghost use Rattle.record_log.specs.LogReading.{HoldsBefore, IsNoLog};
 ghost use Rattle.record_log.specs.Logs.{IsUntouched};
 ghost use Rattle.shard_node.specs.Shards.{HoldsJournal};
 ghost use Rattle.shard_node.specs.Opening.{IsShardJournal, IsPlayed, IsUnbegun, IsUnplayed, IsNoShard};
@@ -21,8 +21,7 @@ use crate::parts::Parts;
 use crate::writing::apply;
 use cbdc_types::{Header, NodeOpenFault, Record};
 use outside::Disk;
-use record_codec::size_of_record;
-use record_log::{NoLog, RecordLog, open_records};
+use record_log::{NoLog, RecordLog, open_records, size_of_record};
 use shard_core::ShardCore;
 use std::alloc::{AllocError, Global};
 

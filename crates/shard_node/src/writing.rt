@@ -2,7 +2,7 @@
 ghost use Rattle.std.specs.Prelude.{◌≡◌, ◌+◌, ◌≤◌, ◌∷◌, List as Items, None, length, OnOk, OnErr, IfErr};
 ghost use Rattle.gate_journal.specs.Shown.{disk_of, gate_of, broken_of};
 ghost use Rattle.cbdc_model.specs.Records.{Record as AnyRecord};
-ghost use Rattle.record_codec.specs.Bodies.{body_of};
+ghost use Rattle.record_log.specs.Bodies.{body_of};
 ghost use Rattle.record_log.specs.Logs.{HasRoom};
 ghost use Rattle.shard_core.specs.Admitted.{IsAdmitted};
 ghost use Rattle.shard_core.specs.Stands.{Stands};

@@ -2,9 +2,9 @@
 use Rattle.std.proofs.Common.{ℕ, arith, ◌≡◌, ◌+◌, Bool, true, false, not, ◌&&◌, ◌||◌, List, [], ◌∷◌, length, map, Option, Some, None, is_some, if◌then◌else◌, refl, ap, sym, ◌∙◌, subst}
 use Rattle.cbdc_model.specs.Records.{Digest, same_digest}
 use Rattle.cbdc_model.specs.Status.{has}
-use Rattle.hash_slots.specs.declared.slots.Kept.{Kept}
-use Rattle.hash_slots.specs.Entries.{lookup, IsOnce}
-use Rattle.hash_slots.proofs.Gathers.{same_is}
+use Rattle.shard_table.specs.declared.slots.Kept.{Kept}
+use Rattle.shard_table.specs.Entries.{lookup, IsOnce}
+use Rattle.shard_table.proofs.Gathers.{same_is}
 use Rattle.shard_table.specs.Members.{IsSet}
 
 -- the hashes alone

@@ -1,1 +1,4 @@
+pub mod Entries
+pub mod Slots
 pub mod Members
+pub mod LockMembers

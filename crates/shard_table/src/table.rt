@@ -4,8 +4,8 @@ ghost use Rattle.cbdc_model.specs.Records.{Digest, same_digest};
 ghost use Rattle.cbdc_model.specs.Status.{has};
 ghost use Rattle.shard_table.specs.Members.{IsSet};
 
+use crate::HashSlots;
 use cbdc_types::Hash;
-use hash_slots::HashSlots;
 use std::alloc::{AllocError, Global};
 use std::marker::Model;
 

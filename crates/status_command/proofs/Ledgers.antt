@@ -12,12 +12,12 @@ use Rattle.coord_log.specs.Logs.{LogOf}
 use Rattle.line_text.specs.Lines.{Text}
 use Rattle.line_text.specs.Reports.{status_line}
 use Rattle.ledger_init.specs.Made.{node_count}
-use Rattle.caused_ledgers.proofs.Closed.{all_same, log_holds, shard_holds}
+use Rattle.rack_ledgers.proofs.Closed.{all_same, log_holds, shard_holds}
 use Rattle.printed_lines.specs.Reports.{status_lines, status_at}
 use Rattle.rack_ledgers.specs.Ledgers.{AreOpened, ByPlace}
-use Rattle.rack_nodes.specs.Racked.{OfTold, AreUnchanged, AreBack, StillHolds}
-use Rattle.rack_nodes.specs.Refused.{IsNodeJournal}
-use Rattle.rack_nodes.proofs.Told.{same_back}
+use Rattle.rack_ledgers.specs.Racked.{OfTold, AreUnchanged, AreBack, StillHolds}
+use Rattle.rack_ledgers.specs.Refused.{IsNodeJournal}
+use Rattle.rack_ledgers.proofs.Told.{same_back}
 use Rattle.shard_node.specs.Shards.{ShardOf}
 use Rattle.status_command.specs.Outcomes.{DidStatus}
 use Rattle.status_command.specs.Texts.{told_lines, journal_there, journals_at, status_among}

@@ -10,8 +10,8 @@ use Rattle.cbdc_model.specs.Room.{kept_room}
 use Rattle.cbdc_model.specs.Due.{used_of}
 use Rattle.ledger_init.specs.Made.{node_count}
 use Rattle.printed_lines.specs.Reports.{status_lines}
-use Rattle.rack_nodes.specs.Racked.{OfTold, AreUnchanged, AreBack, StillHolds}
-use Rattle.rack_nodes.specs.Refused.{IsNodeJournal}
+use Rattle.rack_ledgers.specs.Racked.{OfTold, AreUnchanged, AreBack, StillHolds}
+use Rattle.rack_ledgers.specs.Refused.{IsNodeJournal}
 use Rattle.rack_ledgers.specs.Ledgers.{IsUnopened}
 
 -- what the disks told opened to journals of all nodes of a ledger, each disk having room for its journal and for what is kept for the batches that are

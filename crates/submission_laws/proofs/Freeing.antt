@@ -17,17 +17,17 @@ use Rattle.cbdc_model.specs.Places.{sized_onto, place_of}
 use Rattle.ledger_laws.proofs.Cuts.{end_trans}
 use Rattle.ledger_laws.proofs.Ledger.{steady}
 use Rattle.submissions.specs.Checks.{VerdictsOf}
-use Rattle.sound_laws.specs.SoundTest.{sound_by}
-use Rattle.sound_laws.proofs.Telling.{is_sound_law}
+use Rattle.submissions.specs.SoundTest.{sound_by}
+use Rattle.submissions.proofs.Telling.{is_sound_law}
 use Rattle.printed_lines.specs.Decided.{added, decided_there, decided_at}
 use Rattle.printed_lines.specs.Runs.{lane_at, turn, sent_before}
-use Rattle.wave_laws.specs.Between.{BeginsWave}
-use Rattle.wave_laws.specs.Free.{IsAlone, lane_behind, sound_behind}
-use Rattle.wave_laws.specs.FreeRuns.{IsWonAt}
-use Rattle.wave_laws.specs.Placing.{sent_of_all}
-use Rattle.wave_laws.proofs.Between.{files_grow, between_law, next_wave}
-use Rattle.wave_laws.proofs.FreeRuns.{free_run_law}
-use Rattle.wave_laws.proofs.Sharing.{told_in, size_told, sized_told}
+use Rattle.run_laws.specs.Between.{BeginsWave}
+use Rattle.run_laws.specs.Free.{IsAlone, lane_behind, sound_behind}
+use Rattle.run_laws.specs.FreeRuns.{IsWonAt}
+use Rattle.run_laws.specs.Placing.{sent_of_all}
+use Rattle.run_laws.proofs.Between.{files_grow, between_law, next_wave}
+use Rattle.run_laws.proofs.FreeRuns.{free_run_law}
+use Rattle.run_laws.proofs.Sharing.{told_in, size_told, sized_told}
 use Rattle.submission_laws.specs.Sent.{IsSent}
 use Rattle.submission_laws.specs.Free.{IsUncontended, IsConfirmed, FreeConfirmedLaw}
 use Rattle.submission_laws.proofs.Lists.{split_get, before_get, added_is}

@@ -4,3 +4,13 @@ pub mod NewPlaces
 pub mod Replying
 pub mod Settling
 pub mod Freeing
+pub mod Ranges
+pub mod Sound
+pub mod Coins
+pub mod Worlds
+pub mod Sets
+pub mod Committed
+pub mod FirstFile
+pub mod SecondFile
+pub mod Books
+pub mod Whole

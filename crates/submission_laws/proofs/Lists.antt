@@ -6,7 +6,7 @@ use Rattle.std.proofs.lemmas.List.{length-append, length-take-le, take-append-le
 use Rattle.std.proofs.lemmas.Option.{slice_get_within, get_or_from_slice_get}
 use Rattle.cbdc_model.specs.Records.{Compact, Record}
 use Rattle.printed_lines.specs.Decided.{added}
-use Rattle.wave_laws.specs.Placing.{tx_at}
+use Rattle.run_laws.specs.Placing.{tx_at}
 
 pub split_get : {A : Type 0} (xs : List A) (j : ℕ) (x : A) → slice_get xs j ≡ Some x → xs ≡ take j xs ++ x ∷ drop (suc j) xs
 split_get xs j x e = split_at xs j x (slice_get_within xs j x e) ∙ ap (λ y. take j xs ++ y ∷ drop (suc j) xs) (get_or_from_slice_get xs j x x e)

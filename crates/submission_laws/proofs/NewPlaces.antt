@@ -13,10 +13,10 @@ use Rattle.ledger_laws.proofs.Cuts.{cut}
 use Rattle.ledger_laws.proofs.Finds.{stands}
 use Rattle.run_laws.proofs.LastRecords.{prepare_stands}
 use Rattle.run_laws.proofs.NewRecords.{in_journal, still_found}
-use Rattle.wave_laws.specs.Placing.{tx_at}
-use Rattle.wave_laws.proofs.Sharing.{joined, Told, told_before, told_in, txs_all, size_told, place_found}
-use Rattle.wave_laws.proofs.Told.{AllTold, told_append, told_reversed, all_told}
-use Rattle.wave_laws.proofs.NewRecords.{never_twice, found_at}
+use Rattle.run_laws.specs.Placing.{tx_at}
+use Rattle.run_laws.proofs.Sharing.{joined, Told, told_before, told_in, txs_all, size_told, place_found}
+use Rattle.run_laws.proofs.Told.{AllTold, told_append, told_reversed, all_told}
+use Rattle.run_laws.proofs.WaveRecords.{never_twice, found_at}
 use Rattle.submission_laws.proofs.Lists.{tx_behind, tx_front, tx_low}
 
 itself : (kind : ℕ) (c : Batch) → ((kind == kind) && same_batch c c) ≡ true

@@ -20,8 +20,8 @@ use Rattle.ledger_laws.proofs.Recovered.{all_dones, all_phases}
 use Rattle.ledger_laws.proofs.Together.{lists_of}
 use Rattle.run_laws.proofs.LastRecords.{commit_stands}
 use Rattle.run_laws.proofs.NewRecords.{in_journal}
-use Rattle.wave_laws.specs.Placing.{tx_at}
-use Rattle.wave_laws.proofs.FreeReplies.{IsGood, all_good}
+use Rattle.run_laws.specs.Placing.{tx_at}
+use Rattle.run_laws.proofs.FreeReplies.{IsGood, all_good}
 use Rattle.submission_laws.specs.Replied.{Concerns, reply_of, IsLocked, HeldBelow, IsOutcome, IsReplied}
 
 some_tx : (u t : Compact) → Some u ≡ Some t → u ≡ t

@@ -20,17 +20,17 @@ use Rattle.run_laws.proofs.NewRecords.{still_found}
 use Rattle.run_laws.proofs.WaveTurns.{one_batch}
 use Rattle.sentinel.specs.FirstRefusal.{IsSound}
 use Rattle.submissions.specs.Checks.{VerdictsOf}
-use Rattle.sound_laws.specs.SoundTest.{sound_by}
-use Rattle.sound_laws.proofs.Telling.{is_sound_law}
+use Rattle.submissions.specs.SoundTest.{sound_by}
+use Rattle.submissions.proofs.Telling.{is_sound_law}
 use Rattle.printed_lines.specs.declared.report.Report.{Report}
 use Rattle.printed_lines.specs.declared.report.Report.TheVariants.{Refused, Decided}
 use Rattle.printed_lines.specs.Decided.{decided_there, decided_at}
 use Rattle.printed_lines.specs.Runs.{lane_at, turn, IsReport}
-use Rattle.wave_laws.specs.Placing.{sent_of_all, tx_at, IsPlaced}
-use Rattle.wave_laws.proofs.Between.{files_grow, between_law}
-use Rattle.wave_laws.proofs.Placed.{place_law, told_joined}
-use Rattle.wave_laws.proofs.Sharing.{Told, told_before, told_in, size_told, sized_told}
-use Rattle.wave_laws.proofs.NewRecords.{never_twice}
+use Rattle.run_laws.specs.Placing.{sent_of_all, tx_at, IsPlaced}
+use Rattle.run_laws.proofs.Between.{files_grow, between_law}
+use Rattle.run_laws.proofs.Placed.{place_law, told_joined}
+use Rattle.run_laws.proofs.Sharing.{Told, told_before, told_in, size_told, sized_told}
+use Rattle.run_laws.proofs.WaveRecords.{never_twice}
 use Rattle.submission_laws.specs.Sent.{IsSent, new_place, place_at, IsPrepared}
 use Rattle.submission_laws.specs.Replied.{IsReplied}
 use Rattle.submission_laws.specs.Settled.{IsSettled, AreSettled, SettledLaw}

@@ -9,8 +9,8 @@ use Rattle.cbdc_model.specs.Records.{Shape, Compact}
 use Rattle.cbdc_model.specs.Coins.{FullTx, compact}
 use Rattle.cbdc_model.specs.Waves.{share, sent_to}
 use Rattle.printed_lines.specs.Runs.{lane_at, sent_before, turn}
-use Rattle.wave_laws.specs.Placing.{sent_of_all, tx_at}
-use Rattle.wave_laws.proofs.Sharing.{got, got-append, got_here}
+use Rattle.run_laws.specs.Placing.{sent_of_all, tx_at}
+use Rattle.run_laws.proofs.Sharing.{got, got-append, got_here}
 use Rattle.submission_laws.proofs.Lists.{split_get, before_get, taken_get, taken_twice, tx_behind, tx_front}
 
 from_zero : (n : ℕ) → 0 + n ≡ n

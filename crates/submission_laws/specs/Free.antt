@@ -6,12 +6,12 @@ use Rattle.cbdc_model.specs.Coins.{Output, FullTx, compact, tx_id}
 use Rattle.cbdc_model.specs.World.{KeptJournals, IsUnspent}
 use Rattle.sentinel.specs.FirstRefusal.{IsSound}
 use Rattle.submissions.specs.Checks.{VerdictsOf}
-use Rattle.sound_laws.specs.SoundTest.{sound_by}
+use Rattle.submissions.specs.SoundTest.{sound_by}
 use Rattle.printed_lines.specs.declared.report.Report.{Report}
 use Rattle.printed_lines.specs.declared.report.Report.TheVariants.{Decided}
 use Rattle.printed_lines.specs.Decided.{decided_at}
 use Rattle.printed_lines.specs.Runs.{lane_at, turn, IsReport}
-use Rattle.wave_laws.specs.Between.{BeginsWave}
+use Rattle.run_laws.specs.Between.{BeginsWave}
 use Rattle.submission_laws.specs.Sent.{IsSent}
 
 -- no other sound submission of the file spends an input of the one at place j

@@ -2,3 +2,5 @@ pub mod Sent
 pub mod Replied
 pub mod Settled
 pub mod Free
+pub mod Files
+pub mod Whole

@@ -7,10 +7,10 @@ use Rattle.cbdc_model.specs.Waves.{has_prepare}
 use Rattle.cbdc_model.specs.Places.{PlaceIn, sized_onto, place_of}
 use Rattle.sentinel.specs.FirstRefusal.{IsSound}
 use Rattle.submissions.specs.Checks.{VerdictsOf}
-use Rattle.sound_laws.specs.SoundTest.{sound_by}
+use Rattle.submissions.specs.SoundTest.{sound_by}
 use Rattle.printed_lines.specs.Decided.{added}
 use Rattle.printed_lines.specs.Runs.{lane_at, turn}
-use Rattle.wave_laws.specs.Placing.{tx_at}
+use Rattle.run_laws.specs.Placing.{tx_at}
 
 -- a sound submission of a run: the transaction at place j of the file numbered k
 pub record IsSent (verdicts : VerdictsOf) (files : List (List FullTx)) (k j : ℕ) (t : FullTx) : Type 0 where

@@ -7,7 +7,7 @@ use Rattle.cbdc_model.specs.Waves.{Waves}
 use Rattle.cbdc_model.specs.Ranges.{home_of}
 use Rattle.cbdc_model.specs.Places.{PlaceIn, outcome_in}
 use Rattle.submissions.specs.Checks.{VerdictsOf}
-use Rattle.sound_laws.specs.SoundTest.{sound_by}
+use Rattle.submissions.specs.SoundTest.{sound_by}
 use Rattle.printed_lines.specs.declared.report.Report.{Report}
 use Rattle.printed_lines.specs.declared.report.Report.TheVariants.{Decided}
 use Rattle.printed_lines.specs.Runs.{lane_at, IsReport}

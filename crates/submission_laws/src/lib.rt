@@ -1,8 +1,13 @@
-//! What becomes of the sound submissions of a run: laws, which have no body that runs.
+//! What becomes of the sound submissions of a run, and what a run of a workload comes to where no two of its outputs share a hash: laws, which have no
+//! body that runs.
 #![tactic(auto)]
+
+mod workload_run;
 
 ghost use Rattle.submission_laws.specs.Free.{FreeConfirmedLaw};
 ghost use Rattle.submission_laws.specs.Settled.{SettledLaw};
+
+pub use workload_run::whole_law;
 
 /// Each sound submission has its one place in one new Prepare and nothing else has one. It is told as confirmed exactly where
 /// every shard held it, else with the least shard that refused it, and the hash and the cause of that shard's reply.

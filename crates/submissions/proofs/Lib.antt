@@ -1,3 +1,5 @@
 pub mod Shares
 pub mod Placing
 pub mod Turning
+pub mod Parts
+pub mod Telling

@@ -6,7 +6,7 @@ use Rattle.cbdc_model.specs.Records.{Shape}
 use Rattle.cbdc_model.specs.Coins.{FullTx, compact, tx_id}
 use Rattle.cbdc_model.specs.Waves.{sent_to}
 use Rattle.base_types.specs.declared.faults.Refusal.{Refusal}
-use Rattle.verifier_port.specs.declared.Verdict.{Verdict}
+use Rattle.sentinel.specs.declared.verifier.Verdict.{Verdict}
 use Rattle.sentinel.specs.FirstRefusal.{IsSound, IsFirstRefusal}
 use Rattle.submissions.specs.declared.Checked.{Checked}
 use Rattle.submissions.specs.declared.Judgement.{Judgement}

@@ -1,5 +1,10 @@
 //! What sentinels make of a file's submissions: an id for each, and a refusal or a place on a lane.
+//!
+//! - `is_sound_law`, `sound_test_law`, `one_test_law`: There is one test that says yes exactly for the sound transactions. No contract of a public
+//!   function cites these laws: what `check_all`, `run_file` and `process` say of every such test is, by them, said of one.
 #![tactic(auto)]
+
+mod sound;
 
 ghost use Rattle.std.specs.Prelude.{◌≡◌, ◌+◌, ◌%◌, ◌<◌, ℕ, List, length, IfOk, IfErr};
 ghost use Rattle.std.specs.List.{AllZip};
@@ -8,11 +13,10 @@ ghost use Rattle.sentinel.specs.FirstRefusal.{IsSound};
 ghost use Rattle.submissions.specs.Checks.{VerdictsOf, AllEmpty, IsJudged, IsRuled, IsDealt, IsDealtAt, AreSubmitted};
 
 use cbdc_types::{CompactTx, FullTx, Hash, Refusal, Shape};
-use compact_tx::compact_as;
-use identifiers::tx_id;
-use sentinel::check;
+use compact_tx::{compact_as, tx_id};
+use sentinel::{Verifier, check};
+pub use sound::{is_sound_law, one_test_law, sound_test_law};
 use std::alloc::{AllocError, Global};
-use verifier_port::Verifier;
 
 /// What a sentinel says of a submission.
 #[derive(Clone, Copy, Debug)]
@@ -176,8 +180,8 @@ fn deal(alloc: Global, ruled: Vec<Ruled>, shape: &Shape) -> Result<Submitted, Al
 /// Checks the submissions of a file. The one at place j goes to lane j modulo the number of lanes.
 ///
 /// Each submission's id, with the first reason to refuse it, or its lane and place; each lane gets the compact forms of the sound ones that go to
-/// it, in order (said by every test that says yes exactly for the sound ones; that there is one, and one alone, is a law: `sound_laws`), and
-/// nothing else (said outright) ((`AreSubmitted`)).
+/// it, in order (said by every test that says yes exactly for the sound ones; that there is one, and one alone, is a law: `sound_test_law`,
+/// `one_test_law`), and nothing else (said outright) ((`AreSubmitted`)).
 pub fn check_all<V: Verifier>(
     alloc: Global,
     txs: &[FullTx],

@@ -13,7 +13,7 @@ use Rattle.run_laws.specs.Faults.{opened_by, faults_by, capacity_by}
 use Rattle.run_laws.specs.Flights.{flying}
 use Rattle.run_laws.proofs.Seen.{seen_log, seen_shard}
 use Rattle.run_laws.proofs.Rests.{checked_rest_law}
-use Rattle.turn_laws.proofs.Flying.{after_here}
+use Rattle.thread_laws.proofs.TurnFlying.{after_here}
 use Rattle.ledger_runs.specs.Lanes.{LaneOf}
 use Rattle.ledger_runs.proofs.WaveKeeping.{at_place}
 use Rattle.node_lock.specs.declared.views.Hand.{Hand}

@@ -12,7 +12,7 @@ use Rattle.run_laws.specs.Checked.{CheckedJournals}
 use Rattle.run_laws.specs.Runs.{seen_by}
 use Rattle.run_laws.specs.Faults.{opened_by, faults_by, capacity_by}
 use Rattle.run_laws.specs.Flights.{flying}
-use Rattle.turn_laws.specs.Nodes.{AreNodes, AreNext}
+use Rattle.thread_laws.specs.Nodes.{AreNodes, AreNext}
 use Rattle.ledger_runs.specs.Turning.{IsLaneOf}
 use Rattle.ledger_runs.specs.Lanes.{LaneOf}
 use Rattle.node_lock.specs.declared.views.Hand.{Hand}

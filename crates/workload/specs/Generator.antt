@@ -4,7 +4,7 @@ use Rattle.std.specs.List.{flat_map, range_with_len}
 use Rattle.byte_spelling.specs.Spelling.{number}
 use Rattle.cbdc_model.specs.Records.{Digest}
 use Rattle.cbdc_model.specs.Coins.{Output, FullTx, tx_id, genesis_id}
-use Rattle.verifier_port.specs.Lines.{spelled}
+use Rattle.sentinel.specs.Lines.{spelled}
 use Rattle.workload.specs.declared.Workload.{Workload}
 
 -- the program numbered k: the number and 24 zero bytes

@@ -1,6 +1,6 @@
 use Rattle.std.proofs.Common.{◌∙◌, subst}
 use Rattle.std.specs.Prelude.{MatchOption}
-use Rattle.history.specs.Rows.{read, rows_at}
+use Rattle.audit.specs.Rows.{read, rows_at}
 use Rattle.audit.specs.Walks.{AllDone, IsFirstOpen}
 use Rattle.audit.specs.Verdicts.{journals_of}
 use Rattle.audit.specs.Keeping.{IsWalked}

@@ -1,7 +1,7 @@
 use Rattle.std.proofs.Common.{◌≡◌, Bool, true, false, get_or, refl, subst}
 use Rattle.std.proofs.lemmas.List.{take_all}
-use Rattle.history.specs.declared.place.Place.{Place}
-use Rattle.history.specs.Rows.{read, rows_at}
+use Rattle.audit.specs.declared.place.Place.{Place}
+use Rattle.audit.specs.Rows.{read, rows_at}
 use Rattle.audit.specs.Walks.{AllDone}
 use Rattle.audit.proofs.Steps.{first_open_at, done_more}
 use Rattle.audit.proofs.auditing.first_open.Goals as goal

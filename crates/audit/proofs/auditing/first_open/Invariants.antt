@@ -1,6 +1,6 @@
 use Rattle.std.proofs.Common.{ℕ, List, take}
 use Rattle.cbdc_model.specs.Records.{Record}
-use Rattle.history.specs.Rows.{read, rows_at}
+use Rattle.audit.specs.Rows.{read, rows_at}
 use Rattle.audit.specs.Knowing.{Knows}
 use Rattle.audit.specs.Walks.{AllDone}
 use Rattle.audit.proofs.auditing.first_open.Given as goal

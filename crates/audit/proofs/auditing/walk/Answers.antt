@@ -5,8 +5,8 @@ use Rattle.std.proofs.lemmas.List.Elements.{All-get_or}
 use Rattle.cbdc_types.specs.declared.answer.UnsoundKind.TheVariants.{Cause}
 use Rattle.cbdc_model.specs.Records.{Record, journal}
 use Rattle.cbdc_model.specs.History.{committed, newly_won}
-use Rattle.history.specs.declared.place.Place.{Place}
-use Rattle.history.specs.Rows.{read, newest_first, IsPlace}
+use Rattle.audit.specs.declared.place.Place.{Place}
+use Rattle.audit.specs.Rows.{read, newest_first, IsPlace}
 use Rattle.audit.specs.Knowing.{Knows}
 use Rattle.audit.specs.Walks.{AllCaused}
 use Rattle.audit.specs.Spending.{IsFirstWrong}

@@ -2,7 +2,7 @@ use Rattle.std.proofs.Common.{List, [], take}
 use Rattle.cbdc_model.specs.Records.{journal}
 use Rattle.cbdc_model.specs.Coins.{Output}
 use Rattle.cbdc_model.specs.History.{committed}
-use Rattle.history.specs.Rows.{read, newest_first}
+use Rattle.audit.specs.Rows.{read, newest_first}
 use Rattle.audit.specs.Knowing.{Knows}
 use Rattle.audit.specs.Walks.{AllCaused}
 use Rattle.audit.specs.Keeping.{IsIndex, HasSpent}

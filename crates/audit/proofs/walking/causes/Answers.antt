@@ -1,8 +1,8 @@
 use Rattle.std.proofs.Common.{◌≡◌, ℕ, Bool, true, false, List, get_or, take, sym, refl}
 use Rattle.std.proofs.lemmas.List.Elements.{All-get_or}
 use Rattle.cbdc_model.specs.Records.{Record, journal}
-use Rattle.history.specs.declared.place.Place.{Place}
-use Rattle.history.specs.Rows.{read, newest_first, IsPlace}
+use Rattle.audit.specs.declared.place.Place.{Place}
+use Rattle.audit.specs.Rows.{read, newest_first, IsPlace}
 use Rattle.audit.proofs.Steps.{known_next, first_uncaused}
 use Rattle.audit.proofs.walking.causes.Goals as goal
 

@@ -1,6 +1,6 @@
 use Rattle.std.proofs.Common.{take}
 use Rattle.cbdc_model.specs.Records.{journal}
-use Rattle.history.specs.Rows.{read, newest_first}
+use Rattle.audit.specs.Rows.{read, newest_first}
 use Rattle.audit.specs.Knowing.{Knows}
 use Rattle.audit.specs.Walks.{AllCaused}
 use Rattle.audit.proofs.walking.causes.Given as goal

@@ -2,7 +2,7 @@ use Rattle.std.proofs.Common.{◌≡◌, ◌⊎◌, inl, inr, subst}
 use Rattle.outside.specs.Counts.{Rose}
 use Rattle.audit.specs.declared.verdict.Verdict.TheVariants.{Sound}
 use Rattle.file_runs.specs.Runs.{joined}
-use Rattle.audited_ledgers.proofs.Histories.{verdicts_account}
+use Rattle.rack_ledgers.proofs.AuditHistories.{verdicts_account}
 use Rattle.audit_command.specs.Audits.{WasAudited, WhyNoAudit}
 use Rattle.command_answers.specs.Causes.{OnePlace, OneRose, FileRose}
 use Rattle.command_answers.proofs.Answers.{told, well_told, fault_done}

@@ -1,7 +1,7 @@
 use Rattle.std.proofs.Common.{arith}
 use Rattle.gate_journal.proofs.RowBytes.{length-row}
-use Rattle.record_codec.specs.Bodies.{body_of}
-use Rattle.record_log.proofs.Sizes.{size_small, size_is}
+use Rattle.record_log.specs.Bodies.{body_of}
+use Rattle.record_log.proofs.LogSizes.{size_small, size_is}
 use Rattle.byte_laws.proofs.sizes.bytes_in_the_journal.Goals as goal
 
 pub returns : goal.returns

@@ -2,8 +2,8 @@ use Rattle.std.proofs.Common.{ℕ, ◌≤◌, List, length, if◌then◌else◌}
 use Rattle.std.specs.Prelude.{is_some}
 use Rattle.command_line.specs.Words.{texts}
 use Rattle.mem_devices.specs.Named.{file_of}
-use Rattle.plain_rack.specs.Places.{faults_at}
-use Rattle.plain_rack.specs.Racks.{bytes_told, room_of, disk_at}
+use Rattle.mem_devices.specs.Places.{faults_at}
+use Rattle.mem_devices.specs.PlainRacks.{bytes_told, room_of, disk_at}
 use Rattle.gen_command.proofs.Memory.{none_rose}
 use Rattle.commands.proofs.InMemory.{unhindered, steady_file, rose_full, ended}
 use Rattle.commands.proofs.in_memory.process_in_memory.Goals as goal

@@ -9,7 +9,7 @@ use Rattle.commands.proofs.Named.{answered}
 use Rattle.commands.proofs.Naming.{asked_name}
 use Rattle.commands.proofs.Spared.{of_no_rack, of_no_file}
 use Rattle.outside.specs.Counts.{Rose}
-use Rattle.word_laws.proofs.Refused.{asked_law}
+use Rattle.command_line.proofs.Refused.{asked_law}
 use Rattle.commands.proofs.top.answer_words.Goals as goal
 
 pub returns-in-Ok-clause-cause : goal.returns-in-Ok-clause-cause

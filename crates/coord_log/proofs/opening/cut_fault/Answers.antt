@@ -1,5 +1,5 @@
 use Rattle.std.proofs.Common.{arith}
-use Rattle.record_log.proofs.Sizes.{limits_of}
+use Rattle.record_log.proofs.LogSizes.{limits_of}
 use Rattle.coord_log.proofs.Stops.{all_played, cut_unplayed}
 use Rattle.coord_log.proofs.opening.cut_fault.Goals as goal
 use Rattle.coord_log.proofs.opening.cut_fault.Goals.{in-Ok, in-Err}

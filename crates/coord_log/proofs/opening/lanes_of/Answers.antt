@@ -5,7 +5,7 @@ use Rattle.cbdc_model.specs.Due.{used_of}
 use Rattle.cbdc_model.specs.Room.{kept_room}
 use Rattle.gate_journal.specs.Shown.{disk_of, gate_of}
 use Rattle.record_log.specs.Logs.{HasRoom}
-use Rattle.record_log.proofs.Sizes.{limits_of}
+use Rattle.record_log.proofs.LogSizes.{limits_of}
 use Rattle.coord_core.specs.Lanes.{kept_of}
 use Rattle.coord_log.specs.Inside.{largest}
 use Rattle.coord_log.specs.Opening.{IsPlayed}

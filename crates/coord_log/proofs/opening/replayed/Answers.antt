@@ -1,7 +1,7 @@
 use Rattle.std.proofs.Common.{◌≡◌, ◌+◌, ◌∷◌, reverse, take, sym, subst}
 use Rattle.cbdc_model.specs.Records.{Record}
 use Rattle.cbdc_model.specs.Grammar.{IsInGrammar}
-use Rattle.record_log.proofs.Sizes.{grammar_of}
+use Rattle.record_log.proofs.LogSizes.{grammar_of}
 use Rattle.coord_log.specs.Opening.{IsPlayed}
 use Rattle.coord_log.proofs.Going.{went_on, stands_same}
 use Rattle.coord_log.proofs.Opened.{next_played}

@@ -1,5 +1,5 @@
 use Rattle.std.proofs.Common.{sym, subst}
-use Rattle.ledger_nodes.specs.Waving.{IsWave}
+use Rattle.file_runs.specs.Waving.{IsWave}
 use Rattle.file_runs.proofs.Holding.{can_run, run}
 use Rattle.file_runs.proofs.fed.run_held.Goals as goal
 

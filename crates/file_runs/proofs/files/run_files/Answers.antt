@@ -7,7 +7,7 @@ use Rattle.ledger_laws.proofs.Cuts.{end_self, end_trans}
 use Rattle.cbdc_model.specs.World.{AreIdle}
 use Rattle.ledger_runs.specs.Faults.{HaveFailed, MayHold, AllRest}
 use Rattle.ledger_runs.proofs.Keeping.{ledger_same, ledger_on}
-use Rattle.ledger_nodes.specs.Ledgers.{journals, flights, faults, opened, capacity}
+use Rattle.file_runs.specs.Ledgers.{journals, flights, faults, opened, capacity}
 use Rattle.file_runs.specs.Runs.{joined, IsFilesPiece}
 use Rattle.ledger_runs.proofs.Launching.{launches_begin}
 use Rattle.file_runs.proofs.Launching.{files_launch}

@@ -5,7 +5,7 @@ use Rattle.file_runs.specs.Telling.{TellFiles}
 use Rattle.file_runs.proofs.Joining.{FilesSo}
 use Rattle.file_runs.proofs.Flying.{FlyFiles}
 use Rattle.ledger_runs.specs.Flying.{Launches}
-use Rattle.ledger_nodes.specs.Ledgers.{journals, flights, IsChecked, IsQuiet, KeepsLedgerOf}
+use Rattle.file_runs.specs.Ledgers.{journals, flights, IsChecked, IsQuiet, KeepsLedgerOf}
 use Rattle.file_runs.specs.Runs.{HavePreparedFiles, IsFilesPiece}
 use Rattle.file_runs.proofs.files.run_files.Given as goal
 

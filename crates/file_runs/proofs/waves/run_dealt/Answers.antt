@@ -12,7 +12,7 @@ use Rattle.file_runs.proofs.Pieces.{file_unbegun}
 use Rattle.file_runs.proofs.Flying.{flies_none, flies_file}
 use Rattle.ledger_runs.proofs.Launching.{launches_begin}
 use Rattle.ledger_runs.proofs.Keeping.{ledger_same}
-use Rattle.ledger_nodes.specs.Ledgers.{journals, flights, faults, opened, capacity}
+use Rattle.file_runs.specs.Ledgers.{journals, flights, faults, opened, capacity}
 use Rattle.file_runs.specs.Runs.{IsSentPiece, AreLanesOf}
 use Rattle.file_runs.proofs.Launching.{file_launches}
 use Rattle.file_runs.proofs.Ending.{file_ends}

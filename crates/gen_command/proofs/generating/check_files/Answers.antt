@@ -1,7 +1,7 @@
 use Rattle.std.proofs.Common.{◌∙◌, inl, inr, refl, subst}
-use Rattle.plain_rack.specs.Racks.{disk_at, bytes_told}
+use Rattle.mem_devices.specs.PlainRacks.{disk_at, bytes_told}
 use Rattle.audit.specs.declared.verdict.Verdict.TheVariants.{Sound, Unsound}
-use Rattle.audited_ledgers.specs.Audited.{IsAudited}
+use Rattle.rack_ledgers.specs.Audited.{IsAudited}
 use Rattle.gen_command.proofs.generating.check_files.Goals as goal
 
 pub returns-in_default-clause-why : goal.returns-in_default-clause-why

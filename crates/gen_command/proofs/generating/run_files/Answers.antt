@@ -1,7 +1,7 @@
 use Rattle.std.proofs.Common.{[]}
 use Rattle.command_answers.proofs.Results.{if_ok_by}
 use Rattle.rack_runs.proofs.Lent.{if_err_by}
-use Rattle.workload_laws.specs.Files.{first_journals}
+use Rattle.submission_laws.specs.Files.{first_journals}
 use Rattle.gen_command.proofs.FirstShown.{first_kept}
 use Rattle.gen_command.proofs.Memory.{unmade_memory}
 use Rattle.gen_command.proofs.Came.{made_shown, room_still, unrun}

@@ -4,8 +4,8 @@ use Rattle.std.proofs.lemmas.Option.{slice_get_read}
 use Rattle.std.proofs.lemmas.List.Elements.{All-pop}
 use Rattle.node_lock.specs.declared.views.Hand.{Hand}
 use Rattle.node_lock.specs.Seats.{knows, opening_of}
-use Rattle.shard_fanout.specs.Nodes.{shard_sight, log_sight}
-use Rattle.wave_ends.specs.Rows.{AreDealt}
+use Rattle.port_sets.specs.Nodes.{shard_sight, log_sight}
+use Rattle.lane_waves.specs.NodeRows.{AreDealt}
 use Rattle.lane_waves.specs.Deals.{MayRun, IsWaiting, HaveSeats, IsOpenAt}
 use Rattle.lane_waves.proofs.Places.{snoc_many, all_here}
 use Rattle.lane_waves.proofs.Lists.{home_last}

@@ -2,10 +2,10 @@ use Rattle.std.proofs.Common.{◌≡◌, ◌<◌, ◌≤◌, ◌+◌, suc, Some,
 use Rattle.std.specs.Prelude.{vec_capacity}
 use Rattle.std.proofs.lemmas.List.Elements.{All-pop}
 use Rattle.node_lock.specs.Seats.{knows}
-use Rattle.shard_fanout.specs.Nodes.{shard_sight}
-use Rattle.wave_ends.specs.Rows.{AreDealt}
-use Rattle.wave_ends.proofs.Passing.{deals}
-use Rattle.wave_lanes.proofs.Fresh.{all_seated}
+use Rattle.port_sets.specs.Nodes.{shard_sight}
+use Rattle.lane_waves.specs.NodeRows.{AreDealt}
+use Rattle.lane_waves.proofs.Passing.{deals}
+use Rattle.lane_waves.proofs.Fresh.{all_seated}
 use Rattle.lane_waves.specs.Rows.{lanes_from}
 use Rattle.lane_waves.specs.Deals.{MayRun, IsEmptyRoom, EachHolds}
 use Rattle.lane_waves.proofs.Places.{snoc_many, pushed_many}

@@ -1,7 +1,7 @@
 use Rattle.std.proofs.Common.{◌≡◌, ◌≤◌, ◌+◌, ◌*◌, List, length, vec_len}
 use Rattle.std.specs.Prelude.{All, vec_capacity}
 use Rattle.node_lock.specs.declared.lock.Guarded.{Guarded}
-use Rattle.shard_fanout.specs.declared.locking.SharedShard.{SharedShard}
+use Rattle.port_sets.specs.declared.locking.SharedShard.{SharedShard}
 use Rattle.lane_waves.specs.Deals.{IsEmptyRoom}
 use Rattle.lane_waves.specs.Gathers.{MayGather, Gathered}
 use Rattle.lane_waves.proofs.Giving.{HomesGone}

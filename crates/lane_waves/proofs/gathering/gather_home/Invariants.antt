@@ -1,7 +1,7 @@
 use Rattle.std.proofs.Common.{◌≡◌, ◌≤◌, ◌+◌, List, length}
 use Rattle.std.specs.Vec.{vec_capacity, vec_len}
 use Rattle.node_lock.specs.declared.lock.Guarded.{Guarded}
-use Rattle.shard_fanout.specs.declared.locking.SharedShard.{SharedShard}
+use Rattle.port_sets.specs.declared.locking.SharedShard.{SharedShard}
 use Rattle.lane_waves.specs.Gathers.{MayGather, AreHome, Gathered}
 use Rattle.lane_waves.proofs.gathering.gather_home.Given as goal
 

@@ -1,5 +1,5 @@
 use Rattle.std.proofs.Common.{◌≡◌, suc, List, length, refl, sym, ap, ◌∙◌, subst, arith}
-use Rattle.wave_ends.specs.Dealing.{PopsEach}
+use Rattle.lane_waves.specs.Dealing.{PopsEach}
 use Rattle.lane_waves.specs.Gathers.{EachTakes, AllOver, MayKeep, IsEnd}
 use Rattle.lane_waves.proofs.Places.{snoc_many, pushed_many}
 use Rattle.lane_waves.proofs.Lists.{pops_many}

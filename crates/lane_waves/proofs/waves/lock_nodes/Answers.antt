@@ -1,6 +1,6 @@
 use Rattle.std.proofs.Common.{arith}
-use Rattle.shard_fanout.specs.Nodes.{log_sight, shard_sight}
-use Rattle.wave_ends.proofs.Locking.{locked_ready, all_still, all_same}
+use Rattle.port_sets.specs.Nodes.{log_sight, shard_sight}
+use Rattle.lane_waves.proofs.Locking.{locked_ready, all_still, all_same}
 use Rattle.lane_waves.specs.Waves.{log_goes, shard_goes}
 use Rattle.lane_waves.proofs.Places.{as_many}
 use Rattle.lane_waves.proofs.Waving.{locks_many}

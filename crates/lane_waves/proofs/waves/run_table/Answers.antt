@@ -2,7 +2,7 @@ use Rattle.std.proofs.Common.{◌≡◌, ◌<◌, ℕ, List, length, refl, sym, 
 use Rattle.std.specs.Prelude.{slice_index_or}
 use Rattle.std.specs.List.{AllZip}
 use Rattle.std.proofs.lemmas.List.Elements.{All-same}
-use Rattle.wave_lanes.specs.Held.{Begins, Ends}
+use Rattle.lane_waves.specs.Held.{Begins, Ends}
 use Rattle.lane_waves.proofs.Places.{all_anew}
 use Rattle.lane_waves.proofs.Ending.{ends_zip}
 use Rattle.lane_waves.proofs.waves.run_table.Goals as goal

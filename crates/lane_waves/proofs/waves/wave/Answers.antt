@@ -5,12 +5,12 @@ use Rattle.cbdc_model.specs.Ranges.{home_of}
 use Rattle.coord_log.specs.Logs.{sight}
 use Rattle.node_ports.specs.Nodes.{sight_at, IsLogHeld}
 use Rattle.lane_driver.specs.Stops.{IsSettled}
-use Rattle.shard_fanout.specs.Nodes.{log_sight, shard_sight}
-use Rattle.shard_fanout.specs.declared.coordinators.SharedLog.{SharedLog}
-use Rattle.shard_fanout.specs.declared.locking.SharedShard.{SharedShard}
+use Rattle.port_sets.specs.Nodes.{log_sight, shard_sight}
+use Rattle.port_sets.specs.declared.coordinators.SharedLog.{SharedLog}
+use Rattle.port_sets.specs.declared.locking.SharedShard.{SharedShard}
 use Rattle.thread_laws.specs.Running.{WaveRan}
-use Rattle.wave_records.specs.Laws.{WentOn}
-use Rattle.wave_records.proofs.Places.{past_end, same_length}
+use Rattle.lane_waves.specs.Laws.{WentOn}
+use Rattle.lane_waves.proofs.NodePlaces.{past_end, same_length}
 use Rattle.lane_waves.specs.Waves.{AreNodesOf}
 use Rattle.lane_waves.proofs.Opening.{seen_maps, map_many}
 use Rattle.lane_waves.proofs.Waving.{went_same, unrun_wave, still_itself, went_map, all_map, may_run, same_many, wave_anew}

@@ -3,10 +3,10 @@ use Rattle.std.specs.Global.{Vec}
 use Rattle.std.proofs.lemmas.List.Elements.{All-same}
 use Rattle.ledger_runs.specs.Lanes.{LaneOf}
 use Rattle.node_ports.specs.Nodes.{sight_at}
-use Rattle.shard_fanout.specs.Nodes.{log_sight, shard_sight}
+use Rattle.port_sets.specs.Nodes.{log_sight, shard_sight}
 use Rattle.thread_laws.specs.Running.{WaveRan}
-use Rattle.wave_ends.specs.Rows.{AreReady, AreLeft}
-use Rattle.wave_records.proofs.Places.{held, nodes_still, past_end}
+use Rattle.lane_waves.specs.NodeRows.{AreReady, AreLeft}
+use Rattle.lane_waves.proofs.NodePlaces.{held, nodes_still, past_end}
 use Rattle.lane_waves.specs.Rows.{home_lanes, all_lanes}
 use Rattle.lane_waves.specs.Deals.{MayRun, AreOpen, IsHomeFresh}
 use Rattle.lane_waves.specs.Places.{AllFrom}

@@ -1,11 +1,11 @@
 use Rattle.std.proofs.Common.{◌≡◌, ◌∙◌, ◌+◌, ◌≤◌, ◌<◌, ℕ, length, subst, arith, ap, inl, inr}
 use Rattle.cbdc_model.specs.History.{Minted}
 use Rattle.cbdc_model.specs.World.{first_record}
-use Rattle.rack_nodes.specs.Places.{EachFrom}
-use Rattle.rack_nodes.specs.Racked.{OfTold, FailsFirst}
-use Rattle.rack_nodes.proofs.Each.{each_weaker}
-use Rattle.rack_nodes.proofs.Closing.{closed_whole}
-use Rattle.rack_nodes.specs.declared.blank.Blank.{Blank}
+use Rattle.rack_ledgers.specs.Places.{EachFrom}
+use Rattle.rack_ledgers.specs.Racked.{OfTold, FailsFirst}
+use Rattle.rack_ledgers.proofs.Each.{each_weaker}
+use Rattle.rack_ledgers.proofs.Closing.{closed_whole}
+use Rattle.rack_ledgers.specs.declared.blank.Blank.{Blank}
 use Rattle.ledger_init.specs.Made.{node_count}
 use Rattle.ledger_init.specs.Places.{IsDone, IsStopped, StopsAt}
 use Rattle.ledger_init.proofs.Places.{minted_is, may_be_made, all_hold, all_places, all_rooms, all_left, stopped_left, stopped_lead, stopped_unmade, opening_unmade, back_begun, back_emptied, back_all, stopped_at}

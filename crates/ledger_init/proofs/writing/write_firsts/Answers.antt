@@ -2,10 +2,10 @@ use Rattle.std.proofs.Common.{◌≡◌, ◌≢◌, ◌+◌, ◌<◌, ◌∷◌,
 use Rattle.std.proofs.lemmas.Bool.{cases_eq}
 use Rattle.std.proofs.lemmas.List.{nil_from_length}
 use Rattle.cbdc_model.specs.World.{first_record}
-use Rattle.rack_nodes.specs.Places.{EachFrom, MayReturn}
-use Rattle.rack_nodes.specs.Racked.{GoesOn}
-use Rattle.rack_nodes.proofs.Each.{each_front, each_last, each_weaker}
-use Rattle.rack_nodes.proofs.Closing.{closed_more, closed_none, closed_whole}
+use Rattle.rack_ledgers.specs.Places.{EachFrom, MayReturn}
+use Rattle.rack_ledgers.specs.Racked.{GoesOn}
+use Rattle.rack_ledgers.proofs.Each.{each_front, each_last, each_weaker}
+use Rattle.rack_ledgers.proofs.Closing.{closed_more, closed_none, closed_whole}
 use Rattle.ledger_init.specs.Places.{minted_by, IsDone, IsStopped}
 use Rattle.ledger_init.proofs.Written.{stops, done_still, stopped_still}
 use Rattle.ledger_init.proofs.writing.write_firsts.Goals as goal

@@ -1,7 +1,7 @@
 use Rattle.std.proofs.Common.{◌≡◌, ◌^◌, ◌≤◌, ◌<◌, ℕ, length, vec_len}
 use Rattle.cbdc_model.specs.World.{first_record}
-use Rattle.rack_nodes.specs.Places.{EachFrom, MayReturn}
-use Rattle.rack_nodes.specs.Racked.{GoesOn}
+use Rattle.rack_ledgers.specs.Places.{EachFrom, MayReturn}
+use Rattle.rack_ledgers.specs.Racked.{GoesOn}
 use Rattle.ledger_init.specs.Places.{minted_by, IsDone}
 use Rattle.ledger_init.proofs.writing.write_firsts.Given as goal
 

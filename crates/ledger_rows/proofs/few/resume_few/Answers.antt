@@ -1,7 +1,7 @@
 use Rattle.std.proofs.Common.{⊎_elim, ℕ, ◌≡◌, ◌≤◌, [], length, Ok, refl, sym, subst}
 use Rattle.cbdc_types.specs.declared.answer.Answer.TheVariants as answers
 use Rattle.cbdc_model.specs.World.{AreIdle}
-use Rattle.ledger_nodes.specs.Ledgers.{journals}
+use Rattle.file_runs.specs.Ledgers.{journals}
 use Rattle.rack_laws.specs.Shown.{OfShown}
 use Rattle.rack_runs.specs.Works.{entry_ledger, HasCome, BeginsWork, EndsWork}
 use Rattle.rack_runs.specs.Tests.{IsTestRefused}

@@ -1,8 +1,8 @@
 use Rattle.std.proofs.Common.{◌≡◌, ◌≤◌, ◌+◌, ◌-◌, ℕ, List, length, inl, inr, sym, ◌∙◌, ap, subst, arith}
-use Rattle.rack_nodes.specs.Places.{EachFrom, MayReturn}
-use Rattle.rack_nodes.specs.Racked.{OfTold}
-use Rattle.rack_nodes.proofs.Each.{each_weaker}
-use Rattle.rack_nodes.proofs.Told.{back_later}
+use Rattle.rack_ledgers.specs.Places.{EachFrom, MayReturn}
+use Rattle.rack_ledgers.specs.Racked.{OfTold}
+use Rattle.rack_ledgers.proofs.Each.{each_weaker}
+use Rattle.rack_ledgers.proofs.Told.{back_later}
 use Rattle.rack_ledgers.specs.Slots.{OpensAt}
 use Rattle.rack_ledgers.proofs.Beside.{each_append, fails_later}
 use Rattle.rack_ledgers.proofs.at_once.open_at_once.Goals as goal

@@ -1,8 +1,8 @@
 use Rattle.std.proofs.Common.{◌≤◌, ◌<◌, ◌+◌, ◌++◌, [], List, length, Some, inr, refl, sym, ◌∙◌, ap, subst, arith, ⊎_elim}
 use Rattle.std.proofs.lemmas.Bool.{cases_lt}
 use Rattle.cbdc_types.specs.declared.answer.Answer.{Answer}
-use Rattle.rack_nodes.specs.Places.{MayReturn}
-use Rattle.rack_nodes.proofs.Told.{back_same}
+use Rattle.rack_ledgers.specs.Places.{MayReturn}
+use Rattle.rack_ledgers.proofs.Told.{back_same}
 use Rattle.rack_ledgers.specs.Slots.{nodes_in, AreOpen, AreNotRefused, IsFirstFault, OpensAt, FailsAt}
 use Rattle.rack_ledgers.proofs.Beside.{outside_less, each_both, count_of, each_out, each_back, are_open, each_open, refused_first, fails_behind}
 use Rattle.rack_ledgers.proofs.at_once.open_behind.Goals as goal

@@ -1,6 +1,6 @@
 use Rattle.std.proofs.Common.{◌≡◌, ◌<◌, ◌+◌, ℕ, sym, subst, arith}
 use Rattle.outside.specs.Counts.{Rose}
-use Rattle.rack_nodes.specs.Places.{IsOutside}
+use Rattle.rack_ledgers.specs.Places.{IsOutside}
 use Rattle.rack_ledgers.specs.Slots.{CameOf, CameAt, IsTaken, MayPut}
 use Rattle.rack_ledgers.proofs.Beside.{all_wait, each_came, came_at, came_put}
 use Rattle.rack_ledgers.proofs.at_once.open_taken.Goals as goal

@@ -1,12 +1,12 @@
 use Rattle.std.proofs.Common.{◌≡◌, ◌≢◌, ◌≤◌, le_trans, ◌+◌, ◌∷◌, [], ℕ, suc, length, refl, sym, ◌∙◌, ap, subst, arith, ⊎_elim, length-append}
 use Rattle.std.proofs.lemmas.Bool.{cases_eq}
 use Rattle.std.proofs.lemmas.List.{nil_from_length}
-use Rattle.rack_nodes.specs.Places.{EachFrom}
-use Rattle.rack_nodes.specs.Racked.{OfTold}
-use Rattle.rack_nodes.proofs.Each.{each_front, each_last, each_weaker}
-use Rattle.rack_nodes.proofs.Range.{not_outside}
-use Rattle.rack_nodes.proofs.Told.{of_told}
-use Rattle.rack_nodes.proofs.Closing.{closed_more, closed_none, closed_whole}
+use Rattle.rack_ledgers.specs.Places.{EachFrom}
+use Rattle.rack_ledgers.specs.Racked.{OfTold}
+use Rattle.rack_ledgers.proofs.Each.{each_front, each_last, each_weaker}
+use Rattle.rack_ledgers.proofs.Range.{not_outside}
+use Rattle.rack_ledgers.proofs.Told.{of_told}
+use Rattle.rack_ledgers.proofs.Closing.{closed_more, closed_none, closed_whole}
 use Rattle.rack_ledgers.specs.Slots.{faults_in, MayPut, IsDiskIn}
 use Rattle.rack_ledgers.proofs.Beside.{faults_of, has_disk, may_put, may_still}
 use Rattle.rack_ledgers.proofs.at_once.put_back.Goals as goal

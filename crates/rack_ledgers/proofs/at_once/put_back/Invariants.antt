@@ -1,6 +1,6 @@
 use Rattle.std.proofs.Common.{◌≡◌, ◌^◌, ◌+◌, ◌≤◌, ◌<◌, ℕ, length, vec_len}
-use Rattle.rack_nodes.specs.Places.{EachFrom, IsOutside}
-use Rattle.rack_nodes.specs.Racked.{OfTold, GoesOn}
+use Rattle.rack_ledgers.specs.Places.{EachFrom, IsOutside}
+use Rattle.rack_ledgers.specs.Racked.{OfTold, GoesOn}
 use Rattle.rack_ledgers.specs.Slots.{faults_in, MayPut, IsDiskIn}
 use Rattle.rack_ledgers.proofs.at_once.put_back.Given as goal
 

@@ -1,8 +1,8 @@
 use Rattle.std.proofs.Common.{◌≡◌, ◌≢◌, ◌+◌, ◌∷◌, [], ℕ, length, refl, sym, ◌∙◌, ap, subst, arith, ⊎_elim, inl, inr, length-append}
-use Rattle.rack_nodes.specs.Places.{EachFrom}
-use Rattle.rack_nodes.proofs.Each.{each_push, each_weaker}
-use Rattle.rack_nodes.proofs.Range.{not_outside}
-use Rattle.rack_nodes.proofs.Told.{of_told}
+use Rattle.rack_ledgers.specs.Places.{EachFrom}
+use Rattle.rack_ledgers.proofs.Each.{each_push, each_weaker}
+use Rattle.rack_ledgers.proofs.Range.{not_outside}
+use Rattle.rack_ledgers.proofs.Told.{of_told}
 use Rattle.rack_ledgers.specs.declared.slots.Slot.{Slot}
 use Rattle.rack_ledgers.specs.declared.slots.Slot.TheVariants as slots
 use Rattle.rack_ledgers.specs.Slots.{IsTaken, MayPut}

@@ -1,6 +1,6 @@
 use Rattle.std.proofs.Common.{◌≡◌, ◌+◌, ◌≤◌, ℕ, length}
 use Rattle.std.specs.Prelude.{vec_capacity}
-use Rattle.rack_nodes.specs.Places.{EachFrom, IsOutside}
+use Rattle.rack_ledgers.specs.Places.{EachFrom, IsOutside}
 use Rattle.rack_ledgers.specs.Slots.{IsTaken, MayPut}
 use Rattle.rack_ledgers.proofs.at_once.take_disks.Given as goal
 

@@ -1,14 +1,14 @@
 use Rattle.std.proofs.Common.{◌≡◌, ◌∙◌, ◌+◌, ℕ, length, sym, subst, ap, arith, inl, inr}
 use Rattle.std.specs.Option.{option_copied}
 use Rattle.coord_log.specs.Logs.{LogOf}
-use Rattle.rack_nodes.specs.Places.{EachFrom, MayReturn}
-use Rattle.rack_nodes.specs.Racked.{OfTold, IsBack}
-use Rattle.rack_nodes.proofs.Each.{each_weaker}
-use Rattle.rack_nodes.proofs.Closing.{closed_whole}
+use Rattle.rack_ledgers.specs.Places.{EachFrom, MayReturn}
+use Rattle.rack_ledgers.specs.Racked.{OfTold, IsBack}
+use Rattle.rack_ledgers.proofs.Each.{each_weaker}
+use Rattle.rack_ledgers.proofs.Closing.{closed_whole}
 use Rattle.rack_ledgers.specs.Ledgers.{IsLogAt}
 use Rattle.rack_ledgers.proofs.Places.{by_place, by_two}
 use Rattle.rack_ledgers.proofs.Opened.{OpensShard, shards_at, shards_since, log_back}
-use Rattle.rack_ledgers.proofs.Backs.{back_parts}
+use Rattle.rack_ledgers.proofs.LedgerBacks.{back_parts}
 use Rattle.rack_ledgers.proofs.Lacks.{lacks_shard}
 use Rattle.rack_ledgers.proofs.opening.open_ledger.Goals as goal
 

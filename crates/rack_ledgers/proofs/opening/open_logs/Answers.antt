@@ -2,11 +2,11 @@ use Rattle.std.proofs.Common.{◌≡◌, ◌≤◌, ◌+◌, ℕ, List, length, 
 use Rattle.std.specs.Option.{option_copied}
 use Rattle.cbdc_model.specs.Records.{Header}
 use Rattle.coord_log.specs.Logs.{LogOf}
-use Rattle.rack_nodes.specs.Places.{EachFrom}
-use Rattle.rack_nodes.specs.Racked.{OfTold, IsBack}
+use Rattle.rack_ledgers.specs.Places.{EachFrom}
+use Rattle.rack_ledgers.specs.Racked.{OfTold, IsBack}
 use Rattle.rack_ledgers.specs.Ledgers.{IsLogAt, IsMintOf}
 use Rattle.rack_ledgers.proofs.Opened.{led_whole, logs_since, log_back}
-use Rattle.rack_ledgers.proofs.Backs.{back_one, back_parts}
+use Rattle.rack_ledgers.proofs.LedgerBacks.{back_one, back_parts}
 use Rattle.rack_ledgers.proofs.Lacks.{lacks_log}
 use Rattle.rack_ledgers.proofs.opening.open_logs.Goals as goal
 

@@ -2,7 +2,7 @@ use Rattle.std.proofs.Common.{length, sym, ◌∙◌}
 use Rattle.std.proofs.lemmas.Bool.{eqb-true}
 use Rattle.ledger_runs.proofs.Keeping.{ledger_same}
 use Rattle.ledger_runs.specs.Faults.{HaveFailed, MayHold}
-use Rattle.ledger_nodes.specs.Ledgers.{journals, flights, faults, opened, capacity}
+use Rattle.file_runs.specs.Ledgers.{journals, flights, faults, opened, capacity}
 use Rattle.rack_runs.proofs.Filed.{none_of, some_of, none_leave, none_end, files_leave, files_end, files_stop}
 use Rattle.rack_runs.proofs.files.work_files.Goals as goal
 

@@ -4,7 +4,7 @@ use Rattle.std.specs.Prelude.{IfSome}
 use Rattle.cbdc_model.specs.Room.{kept_room, need_of}
 use Rattle.cbdc_model.specs.Due.{used_of}
 use Rattle.rack_laws.specs.Shown.{LogHasRoom, LogFits}
-use Rattle.ledger_nodes.proofs.Steps.{take_whole}
+use Rattle.file_runs.proofs.Steps.{take_whole}
 use Rattle.rack_runs.specs.Kinds.{FliesBroken}
 use Rattle.rack_runs.proofs.Flown.{flies_broken}
 use Rattle.rack_runs.proofs.nodes.see_logs.Goals as goal

@@ -1,7 +1,7 @@
 use Rattle.std.proofs.Common.{take, subst, sym, arith}
 use Rattle.std.proofs.lemmas.List.Elements.{All-more, All-same}
 use Rattle.rack_laws.specs.Shown.{ShardHasRoom, ShardFits}
-use Rattle.ledger_nodes.proofs.Steps.{take_whole}
+use Rattle.file_runs.proofs.Steps.{take_whole}
 use Rattle.rack_runs.specs.Kinds.{ShardFliesBroken}
 use Rattle.rack_runs.proofs.Flown.{flies_broken}
 use Rattle.rack_runs.proofs.nodes.see_shards.Goals as goal

@@ -1,5 +1,5 @@
 use Rattle.std.proofs.Common.{inl, inr, [], Err, refl, sym, subst, arith}
-use Rattle.ledger_nodes.specs.Ledgers.{journals, IsChecked}
+use Rattle.file_runs.specs.Ledgers.{journals, IsChecked}
 use Rattle.rack_runs.specs.Resuming.{HasResumed}
 use Rattle.rack_runs.specs.Works.{entry_ledger}
 use Rattle.rack_runs.proofs.Behind.{is_ledger}

@@ -1,6 +1,6 @@
 use Rattle.std.proofs.Common.{inl, inr, ⊎_elim, Ok, refl, sym, subst, arith}
 use Rattle.cbdc_model.specs.World.{AreIdle}
-use Rattle.ledger_nodes.specs.Ledgers.{journals}
+use Rattle.file_runs.specs.Ledgers.{journals}
 use Rattle.file_runs.proofs.Whole.{of_whole, of_fault, when_whole}
 use Rattle.rack_runs.specs.Works.{entry_ledger, HasCome, HasDone, BeginsWork, EndsWork}
 use Rattle.rack_runs.proofs.Answering.{fault_as}

@@ -1,5 +1,5 @@
 use Rattle.std.proofs.Common.{subst, sym}
-use Rattle.ledger_nodes.specs.Ledgers.{IsChecked}
+use Rattle.file_runs.specs.Ledgers.{IsChecked}
 use Rattle.rack_runs.proofs.resuming.resume_ledger.Goals as goal
 
 pub resume_all-came-requires : goal.resume_all-came-requires

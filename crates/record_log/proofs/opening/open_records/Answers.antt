@@ -3,7 +3,7 @@ use Rattle.gate_journal.specs.Rows.{rows}
 use Rattle.gate_journal.specs.Shown.{disk_of}
 use Rattle.record_log.specs.Held.{bodies_of}
 use Rattle.record_log.proofs.Cuts.{log_cut_is, unread_is, read_whole, if_ok, if_err, if_both}
-use Rattle.record_log.proofs.Sizes.{rows_size, limits_of, grammar_of}
+use Rattle.record_log.proofs.LogSizes.{rows_size, limits_of, grammar_of}
 use Rattle.record_log.proofs.opening.open_records.Goals as goal
 
 pub returns-in-Ok-records_of-clause-opens : goal.returns-in-Ok-records_of-clause-opens

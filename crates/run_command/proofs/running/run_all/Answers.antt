@@ -1,7 +1,7 @@
 use Rattle.rack_runs.proofs.Turned.{not_turned, turns_leave}
 use Rattle.std.proofs.Common.{◌≤◌, inl, inr, refl, sym, subst}
 use Rattle.input_files.specs.Contents.{AreRead, all_txs}
-use Rattle.verifier_port.specs.Files.{told}
+use Rattle.sentinel.specs.Files.{told}
 use Rattle.rack_runs.specs.Endings.{EndsRun}
 use Rattle.rack_runs.specs.Runs.{PieceNext, PiecesPrepared}
 use Rattle.run_command.proofs.Inputs.{no_inputs_fault}

@@ -1,7 +1,7 @@
 use Rattle.std.proofs.Common.{◌≡◌, None, if◌then◌else◌, ◌<◌, Bool, true, false, ◌||◌, length, arith, sym, ap, ◌∙◌, add-one}
 use Rattle.cbdc_model.specs.Records.{Digest}
 use Rattle.cbdc_model.specs.Status.{has}
-use Rattle.hash_slots.specs.Entries.{lookup}
+use Rattle.shard_table.specs.Entries.{lookup}
 use Rattle.shard_core.proofs.Moves.{cut, cut_bool, or_step, if_step, outputs_more, outputs_same, outputs_in_more}
 use Rattle.shard_core.proofs.applying.make_committed.Goals as goal
 use Rattle.shard_core.proofs.applying.make_committed.Goals.{then-decisions-at, else-decisions-at}

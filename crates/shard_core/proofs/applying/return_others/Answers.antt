@@ -1,7 +1,7 @@
 use Rattle.std.proofs.Common.{◌≡◌, refl, None, if◌then◌else◌, ◌<◌, Bool, false, ◌||◌, length, get_or, arith, sym, ap, ◌∙◌, add-one}
 use Rattle.cbdc_model.specs.Records.{Digest}
 use Rattle.cbdc_model.specs.Status.{has}
-use Rattle.hash_slots.specs.Entries.{lookup}
+use Rattle.shard_table.specs.Entries.{lookup}
 use Rattle.shard_core.proofs.Moves.{cut, cut_bool, or_step, if_step, returned_more, returned_same, inputs_in_more}
 use Rattle.shard_core.proofs.applying.return_others.Goals as goal
 use Rattle.shard_core.proofs.applying.return_others.Goals.{then-is_returned, else-is_returned}

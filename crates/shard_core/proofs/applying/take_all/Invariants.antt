@@ -1,7 +1,7 @@
 use Rattle.std.proofs.Common.{◌≡◌, ◌≤◌, not, ◌&&◌, None, if◌then◌else◌, drop}
 use Rattle.cbdc_model.specs.Records.{Digest}
 use Rattle.cbdc_model.specs.Status.{has}
-use Rattle.hash_slots.specs.Entries.{lookup}
+use Rattle.shard_table.specs.Entries.{lookup}
 use Rattle.shard_core.proofs.applying.take_all.Given as goal
 
 abbrev pub invariant-loop-x : goal.invariant-loop-x

@@ -1,7 +1,7 @@
 use Rattle.std.proofs.Common.{◌≡◌, None, if◌then◌else◌, ◌<◌, Bool, true, false, not, ◌&&◌, length, arith, sym, ap, ◌∙◌, add-one}
 use Rattle.cbdc_model.specs.Records.{Digest}
 use Rattle.cbdc_model.specs.Status.{has}
-use Rattle.hash_slots.specs.Entries.{lookup}
+use Rattle.shard_table.specs.Entries.{lookup}
 use Rattle.shard_core.proofs.Moves.{cut, cut_bool, not_step, if_step, inputs_more, inputs_same}
 use Rattle.shard_core.proofs.applying.take_committed.Goals as goal
 use Rattle.shard_core.proofs.applying.take_committed.Goals.{then-decisions-at, else-decisions-at}

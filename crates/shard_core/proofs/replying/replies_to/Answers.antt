@@ -2,7 +2,7 @@ use Rattle.std.proofs.Common.{◌≡◌, ℕ, true, false, ◌||◌, ◌+◌, �
 use Rattle.cbdc_model.specs.Records.{Digest, is_held}
 use Rattle.cbdc_model.specs.Status.{has}
 use Rattle.cbdc_model.specs.Replies.{reply_to}
-use Rattle.hash_slots.proofs.Prefixes.{one_more}
+use Rattle.shard_table.proofs.Prefixes.{one_more}
 use Rattle.shard_core.proofs.Claims.{one_reply, claims_more}
 use Rattle.shard_core.proofs.replying.replies_to.Goals as goal
 use Rattle.shard_core.proofs.replying.replies_to.Goals.{then-is_held+in_ok-claim, else-is_held}

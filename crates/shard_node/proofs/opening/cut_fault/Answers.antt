@@ -1,5 +1,5 @@
 use Rattle.std.proofs.Common.{arith}
-use Rattle.record_log.proofs.Sizes.{limits_of}
+use Rattle.record_log.proofs.LogSizes.{limits_of}
 use Rattle.shard_node.proofs.Stops.{all_played, cut_unplayed}
 use Rattle.shard_node.proofs.opening.cut_fault.Goals as goal
 use Rattle.shard_node.proofs.opening.cut_fault.Goals.{in-Ok, in-Err}

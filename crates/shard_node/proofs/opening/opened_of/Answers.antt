@@ -1,5 +1,5 @@
 use Rattle.std.proofs.Common.{◌∙◌, reverse, arith}
-use Rattle.record_log.proofs.Sizes.{limits_of}
+use Rattle.record_log.proofs.LogSizes.{limits_of}
 use Rattle.shard_node.specs.Opening.{IsPlayed}
 use Rattle.shard_node.proofs.Opens.{kept_is, opened_shard}
 use Rattle.shard_node.proofs.Stops.{open_unplayed, full_is}

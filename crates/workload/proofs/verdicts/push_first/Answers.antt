@@ -1,7 +1,7 @@
 use Rattle.std.proofs.Common.{◌∙◌, ◌++◌, ◌∷◌, [], ℕ, List, ap, sym, true, arith}
 use Rattle.std.proofs.lemmas.Fmt.{decimal_digit}
 use Rattle.hex.specs.Hex.{encode_lower}
-use Rattle.verifier_port.specs.Lines.{word}
+use Rattle.sentinel.specs.Lines.{word}
 use Rattle.workload.proofs.Joined.{joined}
 use Rattle.workload.proofs.verdicts.push_first.Goals as goal
 

@@ -1,6 +1,6 @@
 use Rattle.std.proofs.Common.{◌≡◌, ◌∙◌, Some, None, sym, ap, subst}
 use Rattle.std.specs.Option.{option_copied}
-use Rattle.history.specs.Rows.{read}
+use Rattle.audit.specs.Rows.{read}
 use Rattle.audit.specs.Knowing.{index_of}
 use Rattle.audit.proofs.Finding.{found_some, found_none}
 use Rattle.audit.proofs.known.Known.found.Goals as goal

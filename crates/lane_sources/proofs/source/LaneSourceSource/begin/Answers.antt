@@ -1,7 +1,7 @@
 use Rattle.std.proofs.Common.{◌≡◌, sym, subst}
 use Rattle.lane_sources.specs.Sources.{all_of, left_at}
 use Rattle.lane_sources.proofs.Leaving.{left_begin}
-use Rattle.sound_laws.specs.SoundTest.{sound_by}
+use Rattle.submissions.specs.SoundTest.{sound_by}
 use Rattle.lane_sources.proofs.source.LaneSourceSource.begin.Goals as goal
 
 pub returns-clause-rest : goal.returns-clause-rest

@@ -1,5 +1,0 @@
-use Rattle.ample_laws.proofs.Room.{prepare_room_law}
-use Rattle.ample_laws.proofs.prepare_room_law.Goals as goal
-
-pub returns : goal.returns
-returns c = prepare_room_law

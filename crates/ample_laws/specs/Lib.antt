@@ -1,3 +1,0 @@
-pub mod Ample
-pub mod Enough
-pub mod Row

@@ -1,4 +1,0 @@
-pub mod Begun
-pub mod Twice
-pub mod AtRest
-pub mod Accounts

@@ -1,3 +1,0 @@
-pub mod Journals
-pub mod Accounts
-pub mod Laws

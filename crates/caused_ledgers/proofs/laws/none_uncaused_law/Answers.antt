@@ -1,5 +1,0 @@
-use Rattle.caused_ledgers.proofs.Once.{not_both}
-use Rattle.caused_ledgers.proofs.laws.none_uncaused_law.Goals as goal
-
-pub returns : goal.returns
-returns g c caused answer tell un = not_both g.R.Disk.Disk.content g.R.Disk.Disk.images g.R.Disk.Disk.limit g.R.Disk.Disk.count (g.R.Rack.held c.args.rack.now) caused answer tell un

@@ -1,6 +1,0 @@
-use Rattle.std.proofs.Common.{◌≡◌, ◌++◌, map, reverse, take}
-use Rattle.history.specs.Rows.{read}
-use Rattle.caused_ledgers.proofs.lent.lend_logs.Given as goal
-
-abbrev pub invariant-logs : goal.invariant-logs
-invariant-logs g l = read l.all.items ≡ read l.initial.all.items ++ map (λ x. reverse x.journal) (take l.log-index l.logs)

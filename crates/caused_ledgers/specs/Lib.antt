@@ -1,2 +1,0 @@
-pub mod Caused
-pub mod Laws

@@ -1,0 +1,310 @@
+// The program's command as clap reads it, and the same as data. Each function states what the definitions say of its part.
+
+ghost use Rattle.std.specs.Prelude.{◌≡◌, codes, IfOk};
+ghost use Rattle.clap.specs.Words.{app_of, new_app};
+ghost use Rattle.command_line.specs.Command.{IsArg, IsLeaf, IsTop, with_settings, shards_rule, coordinators_rule, lanes_rule, batch_rule, mint_rule, verdicts_rule, repeats_rule, client_rule, rest_rule, hash_rule, topic_rule, seed_rule, count_rule, nodes_shape, sized_shape, init_shape, run_shape, recover_shape, status_shape, audit_shape, gen_sizes, gen_shape, help_shape, main, looks, checks, hamilton};
+
+use crate::help;
+use clap::{Arg, Command};
+use std::alloc::{AllocError, Global};
+
+fn shards_arg<'a>(alloc: Global, default: &'a str) -> Arg<'a>
+    ensures { IsArg result (shards_rule default.now) }
+{
+    Arg::new(alloc, "shards")
+        .long("shards")
+        .value_name("N")
+        .default_value(default)
+        .help("How many shards, 1 to 64")
+}
+
+fn coordinators_arg<'a>(alloc: Global, default: &'a str) -> Arg<'a>
+    ensures { IsArg result (coordinators_rule default.now) }
+{
+    Arg::new(alloc, "coordinators")
+        .long("coordinators")
+        .value_name("N")
+        .default_value(default)
+        .help("How many coordinators, 1 to 16")
+}
+
+fn lanes_arg<'a>(alloc: Global, default: &'a str) -> Arg<'a>
+    ensures { IsArg result (lanes_rule default.now) }
+{
+    Arg::new(alloc, "lanes")
+        .long("lanes")
+        .value_name("N")
+        .default_value(default)
+        .help("How many lanes each coordinator has, 1 to 16")
+}
+
+fn batch_arg<'a>(alloc: Global, default: &'a str) -> Arg<'a>
+    ensures { IsArg result (batch_rule default.now) }
+{
+    Arg::new(alloc, "batch")
+        .long("batch")
+        .value_name("N")
+        .default_value(default)
+        .help("How many transactions a batch has at most, 1 to 1024")
+}
+
+fn mint_arg<'a>(alloc: Global) -> Arg<'a>
+    ensures { IsArg result mint_rule }
+{
+    Arg::new(alloc, "mint")
+        .required(true)
+        .value_name("MINT")
+        .help("The file of the outputs to begin with")
+}
+
+fn verdicts_arg<'a>(alloc: Global) -> Arg<'a>
+    ensures { IsArg result verdicts_rule }
+{
+    Arg::new(alloc, "verdicts")
+        .long("verdicts")
+        .required(true)
+        .value_name("FILE")
+        .help("The file of the verdicts on witnesses")
+}
+
+fn repeats_arg<'a>(alloc: Global) -> Arg<'a>
+    ensures { IsArg result repeats_rule }
+{
+    Arg::new(alloc, "repeats")
+        .long("repeats")
+        .value_name("K")
+        .default_value("0")
+        .help("How many times more each call of a new batch at a shard is made, 0 to 3")
+}
+
+fn client_arg<'a>(alloc: Global) -> Arg<'a>
+    ensures { IsArg result client_rule }
+{
+    Arg::new(alloc, "client")
+        .required(true)
+        .num_args(1..)
+        .value_name("CLIENT")
+        .help("The files of the transactions to run, one after another")
+}
+
+fn rest_arg<'a>(alloc: Global) -> Arg<'a>
+    ensures { IsArg result rest_rule }
+{
+    Arg::new(alloc, "client")
+        .num_args(1..)
+        .value_name("CLIENT")
+        .help("The files of the transactions that were run")
+}
+
+fn hash_arg<'a>(alloc: Global) -> Arg<'a>
+    ensures { IsArg result hash_rule }
+{
+    Arg::new(alloc, "hash")
+        .required(true)
+        .num_args(1..)
+        .value_name("HASH")
+        .help("The hashes to look up, each of 64 hexadecimal digits")
+}
+
+fn seed_arg<'a>(alloc: Global) -> Arg<'a>
+    ensures { IsArg result seed_rule }
+{
+    Arg::new(alloc, "seed")
+        .required(true)
+        .value_name("SEED")
+        .help("The number that the workload is made from, 0 to 18446744073709551615")
+}
+
+fn count_arg<'a>(alloc: Global) -> Arg<'a>
+    ensures { IsArg result count_rule }
+{
+    Arg::new(alloc, "count")
+        .required(true)
+        .value_name("N")
+        .help("How many transactions the workload has, 1 to 10000")
+}
+
+fn topic_arg<'a>(alloc: Global) -> Arg<'a>
+    ensures { IsArg result topic_rule }
+{
+    Arg::new(alloc, "command")
+        .value_name("COMMAND")
+        .help("The command to print the help of")
+}
+
+// What the options of a ledger's shape are where they are left out.
+#[derive(Clone, Copy)]
+struct Sizes<'a> {
+    shards: &'a str,
+    coordinators: &'a str,
+    lanes: &'a str,
+    batch: &'a str,
+}
+
+// A command with the numbers of a ledger's nodes.
+fn with_nodes<'a>(
+    alloc: Global,
+    name: &'a str,
+    about: &'a str,
+    sizes: Sizes<'a>,
+) -> Result<Command<'a>, AllocError>
+    ensures { IfOk result (λ c. IsLeaf c (nodes_shape name.now sizes.entry.shards.now sizes.entry.coordinators.now)) }
+{
+    Command::new(alloc, name)
+        .about(about)
+        .arg(shards_arg(alloc, sizes.shards))?
+        .arg(coordinators_arg(alloc, sizes.coordinators))
+}
+
+// A command with all options of a ledger's shape.
+fn with_sizes<'a>(
+    alloc: Global,
+    name: &'a str,
+    about: &'a str,
+    sizes: Sizes<'a>,
+) -> Result<Command<'a>, AllocError>
+    ensures { IfOk result (λ c. IsLeaf c (sized_shape (nodes_shape name.now sizes.entry.shards.now sizes.entry.coordinators.now) sizes.entry.lanes.now sizes.entry.batch.now)) }
+{
+    let command = with_nodes(alloc, name, about, sizes)?;
+    command
+        .arg(lanes_arg(alloc, sizes.lanes))?
+        .arg(batch_arg(alloc, sizes.batch))
+}
+
+fn init_command<'a>(alloc: Global) -> Result<Command<'a>, AllocError>
+    ensures { IfOk result (λ c. IsLeaf c init_shape) }
+{
+    let sizes = Sizes {
+        shards: "1",
+        coordinators: "1",
+        lanes: "1",
+        batch: "16",
+    };
+    let init = with_sizes(alloc, "init", "Writes the first record of each node", sizes)?;
+    init.after_help(help::of_init()).arg(mint_arg(alloc))
+}
+
+// `gen` with its options.
+fn gen_with_sizes<'a>(alloc: Global) -> Result<Command<'a>, AllocError>
+    ensures { IfOk result (λ c. IsLeaf c gen_sizes) }
+{
+    let sizes = Sizes {
+        shards: "4",
+        coordinators: "2",
+        lanes: "2",
+        batch: "16",
+    };
+    with_sizes(
+        alloc,
+        "gen",
+        "Makes a workload from a number, and runs and checks it in memory",
+        sizes,
+    )
+}
+
+fn gen_command<'a>(alloc: Global) -> Result<Command<'a>, AllocError>
+    ensures { IfOk result (λ c. IsLeaf c gen_shape) }
+{
+    let sized = gen_with_sizes(alloc)?;
+    sized
+        .after_help(help::of_gen())
+        .arg(seed_arg(alloc))?
+        .arg(count_arg(alloc))
+}
+
+fn run_command<'a>(alloc: Global) -> Result<Command<'a>, AllocError>
+    ensures { IfOk result (λ c. IsLeaf c run_shape) }
+{
+    Command::new(alloc, "run")
+        .about("Finishes what is open, and runs the transactions of files")
+        .after_help(help::of_run())
+        .arg(verdicts_arg(alloc))?
+        .arg(repeats_arg(alloc))?
+        .arg(client_arg(alloc))
+}
+
+fn recover_command<'a>(alloc: Global) -> Command<'a>
+    ensures { IsLeaf result recover_shape }
+{
+    Command::new(alloc, "recover")
+        .about("Finishes the batches that are open")
+        .after_help(help::of_recover())
+}
+
+fn status_command<'a>(alloc: Global) -> Result<Command<'a>, AllocError>
+    ensures { IfOk result (λ c. IsLeaf c status_shape) }
+{
+    Command::new(alloc, "status")
+        .about("Tells whether hashes are unspent, locked or absent")
+        .after_help(help::of_status())
+        .arg(hash_arg(alloc))
+}
+
+fn audit_command<'a>(alloc: Global) -> Result<Command<'a>, AllocError>
+    ensures { IfOk result (λ c. IsLeaf c audit_shape) }
+{
+    Command::new(alloc, "audit")
+        .about("Checks the journals and what they commit from the first record on")
+        .after_help(help::of_audit())
+        .arg(mint_arg(alloc))?
+        .arg(rest_arg(alloc))
+}
+
+fn help_command<'a>(alloc: Global) -> Result<Command<'a>, AllocError>
+    ensures { IfOk result (λ c. IsLeaf c help_shape) }
+{
+    Command::new(alloc, "help")
+        .about("Prints this text, or that of a command")
+        .arg(topic_arg(alloc))
+}
+
+// The command with no commands below it.
+fn top<'a>(alloc: Global) -> Command<'a>
+    ensures { IsTop result (with_settings (new_app (codes "hamilton"))) }
+{
+    Command::new(alloc, "hamilton")
+        .about("Keeps a ledger of unspent outputs, and runs transactions on it")
+        .after_help(help::of_all())
+        .version("0.1.0")
+        .subcommand_required(true)
+        .disable_help_subcommand(true)
+}
+
+// The command with those below it that make a ledger and run transactions.
+fn with_main<'a>(alloc: Global) -> Result<Command<'a>, AllocError>
+    ensures { IfOk result (λ c. IsTop c main) }
+{
+    let init = init_command(alloc)?;
+    let run = run_command(alloc)?;
+    top(alloc).subcommand(init)?.subcommand(run)
+}
+
+// The command with those below it that look at a ledger, too.
+fn with_looks<'a>(alloc: Global) -> Result<Command<'a>, AllocError>
+    ensures { IfOk result (λ c. IsTop c looks) }
+{
+    let status = status_command(alloc)?;
+    let main = with_main(alloc)?;
+    main.subcommand(recover_command(alloc))?.subcommand(status)
+}
+
+// The command with those below it that check a ledger, too.
+fn with_checks<'a>(alloc: Global) -> Result<Command<'a>, AllocError>
+    ensures { IfOk result (λ c. IsTop c checks) }
+{
+    let audit = audit_command(alloc)?;
+    let generate = gen_command(alloc)?;
+    let looks = with_looks(alloc)?;
+    looks.subcommand(audit)?.subcommand(generate)
+}
+
+/// The program's command.
+///
+/// At Ok the command is `hamilton`, as clap's definitions read a command.
+pub fn program<'a>(alloc: Global) -> Result<Command<'a>, AllocError>
+    ensures { IfOk result (λ c. app_of c ≡ hamilton) }
+{
+    let help = help_command(alloc)?;
+    let checks = with_checks(alloc)?;
+    checks.subcommand(help)
+}

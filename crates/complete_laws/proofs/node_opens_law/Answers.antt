@@ -1,9 +1,0 @@
-use Rattle.complete_laws.proofs.node_opens_law.Goals as goal
-use Rattle.rack_nodes.specs.Asked.{IsCoordinator, IsShardNode}
-use Rattle.complete_laws.proofs.Openings.{node_opens}
-
-pub returns-clause-coordinator : goal.returns-clause-coordinator
-returns-clause-coordinator c = node_opens IsCoordinator
-
-pub returns-clause-shard : goal.returns-clause-shard
-returns-clause-shard c = node_opens IsShardNode

@@ -1,5 +1,0 @@
-pub mod Files
-pub mod Making
-pub mod Openings
-pub mod Ready
-pub mod Small

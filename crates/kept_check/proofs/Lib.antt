@@ -1,9 +1,0 @@
-pub mod Belows
-pub mod Distinct
-pub mod Finished
-pub mod Firsts
-pub mod Histories
-pub mod Keeping
-pub mod Members
-pub mod Merging
-pub mod Propers

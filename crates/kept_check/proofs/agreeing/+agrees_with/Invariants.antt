@@ -1,5 +1,0 @@
-use Rattle.std.proofs.Common.{length}
-use Rattle.kept_check.proofs.agreeing.+agrees_with.Given as goal
-
-abbrev pub decreases-agrees_with : goal.decreases-agrees_with
-decreases-agrees_with l = length l.us.now

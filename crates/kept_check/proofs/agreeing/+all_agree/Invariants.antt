@@ -1,5 +1,0 @@
-use Rattle.std.proofs.Common.{length}
-use Rattle.kept_check.proofs.agreeing.+all_agree.Given as goal
-
-abbrev pub decreases-all_agree : goal.decreases-all_agree
-decreases-all_agree l = length l.ts.now

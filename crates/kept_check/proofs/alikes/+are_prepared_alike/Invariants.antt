@@ -1,5 +1,0 @@
-use Rattle.std.proofs.Common.{length}
-use Rattle.kept_check.proofs.alikes.+are_prepared_alike.Given as goal
-
-abbrev pub decreases-are_prepared_alike : goal.decreases-are_prepared_alike
-decreases-are_prepared_alike l = length l.past.now

@@ -1,4 +1,0 @@
-use Rattle.kept_check.proofs.kept.+add_geneses.Given as goal
-
-abbrev pub decreases-add_geneses : goal.decreases-add_geneses
-decreases-add_geneses l = l.n

@@ -1,4 +1,0 @@
-use Rattle.kept_check.proofs.kept.+add_starts.Given as goal
-
-abbrev pub decreases-add_starts : goal.decreases-add_starts
-decreases-add_starts l = l.n

@@ -1,4 +1,0 @@
-use Rattle.kept_check.proofs.ledgers.+are_journals_below.Given as goal
-
-abbrev pub decreases-are_journals_below : goal.decreases-are_journals_below
-decreases-are_journals_below l = l.n

@@ -1,0 +1,73 @@
+// A sentinel ahead of a lane: it checks the lane's submissions in a thread of its own, and sends what it makes of each.
+ghost use Rattle.cbdc_model.specs.Ranges.{home_of};
+ghost use Rattle.std.specs.Prelude.{◌≡◌};
+
+use crate::{Deals, FileOf, RuledAt, rule_at};
+use cbdc_types::{LaneId, NodeId, Shape};
+use crossbeam_channel::{Receiver, Sender, bounded};
+use outside::{Gate, Point, When};
+use sentinel::Verifier;
+use std::alloc::{AllocError, Global};
+use std::sync::Wait;
+
+/// How many messages a feeder is ahead of its lane at most.
+pub const MESSAGES: usize = 64;
+
+/// A feeder that has not begun: the lane that it feeds, and the sending end of its channel. Where it is dropped the lane computes everything
+/// itself.
+#[derive(Drop)]
+pub struct Feeder<F: Deals> {
+    lane: LaneId,
+    sender: Sender<RuledAt<F>>,
+}
+
+/// The feeder of a lane and the receiving end of its channel, or memory ran out.
+pub fn pipe<F: Deals>(
+    alloc: Global,
+    lane: LaneId,
+) -> Result<(Feeder<F>, Receiver<RuledAt<F>>), AllocError> {
+    let (sender, receiver) = bounded(alloc, MESSAGES)?;
+    Ok((Feeder { lane, sender }, receiver))
+}
+
+// Where a run passes its gate behind each message for a lane: at its coordinator, with no kind of record.
+fn point_of(shape: &Shape, lane: LaneId) -> Point
+    ensures lane { result.lane ≡ lane }
+    ensures node { result.node ≡ home_of shape.now lane }
+    ensures kind { result.kind ≡ 0 }
+{
+    let _limits = shape.coordinators();
+    Point {
+        lane,
+        node: NodeId(lane.0 / shape.lanes()),
+        kind: 0,
+        when: When::After,
+    }
+}
+
+/// Checks the submissions of a lane, one after another, and sends what a sentinel makes of each, with its place. Behind each message it
+/// passes the gate. It ends where nobody receives any more, or memory runs out.
+pub fn feed<W: Wait, V: Verifier, F: Deals, G: Gate>(
+    rt: &W,
+    alloc: Global,
+    shape: &Shape,
+    file: &FileOf<'_, V, F>,
+    feeder: Feeder<F>,
+    gate: &G,
+) {
+    let Feeder { lane, sender } = feeder;
+    let point = point_of(shape, lane);
+    let lanes = file.lanes();
+    let count = file.txs().len();
+    let mut place = lane.0 as usize;
+    'submissions: while place < count {
+        let Ok(message) = rule_at(alloc, file, place) else {
+            return;
+        };
+        if sender.send(rt, message).is_err() {
+            return;
+        }
+        gate.pass(rt, &point);
+        place += lanes;
+    }
+}

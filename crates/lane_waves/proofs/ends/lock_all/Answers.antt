@@ -1,0 +1,66 @@
+use Rattle.std.proofs.Common.{rules, ◌≡◌, ◌≤◌, ◌+◌, ◌<◌, ℕ, List, length, reverse, [], ◌∷◌, ◌++◌, refl, ap, ◌∙◌, arith, subst, sym}
+use Rattle.node_lock.specs.Seats.{AreFresh, table_of}
+use Rattle.node_lock.specs.Tickets.{times}
+use Rattle.lane_waves.specs.NodeRows.{AreRows, IsRow, AreLocked, AreReady, AreClosed, AreStill}
+use Rattle.lane_waves.proofs.Locking.{Locking, rows_last, first_locked, more_locked, all_locked, locked_ready, all_still, all_same, same_before}
+use Rattle.lane_waves.proofs.ends.lock_all.Goals as goal
+
+pub returns-in_default-clause-back : goal.returns-in_default-clause-back
+returns-in_default-clause-back g c = all_same g.N.Sighted.sight g.N.Sighted.goes g.met.N.Sighted.same c.args.nodes.items
+
+pub returns-in_default-with_capacity-clause-back :
+    goal.returns-in_default-with_capacity-clause-back
+returns-in_default-with_capacity-clause-back g c = all_same g.N.Sighted.sight g.N.Sighted.goes g.met.N.Sighted.same c.args.nodes.items
+
+pub loop-node-init : goal.loop-node-init
+loop-node-init g c = (
+  first_locked g.N.Sighted.sight c.args.nodes.items c.args.rows.items c.in-Ok.locks.items c.in-Ok-with_capacity.seats.items c.in-Ok.ensures.items c.in-Ok-with_capacity.ensures.items c.requires.fit,
+  search rules,
+  search rules,
+  search rules,
+  search rules,
+  search rules,
+  search rules,
+  search rules,
+)
+
+pub new-requires-clause-few : goal.new-requires-clause-few
+new-requires-clause-few g c = subst (λ (xs : List ℕ). length xs < 4294967296) (sym c.as_slice.ensures.value) (rows_last c.pop-in-Some.new.self.items c.in-Some-pop.row (subst AreRows c.in-Some-pop.ensures.items c.loop-node.invariant.0.fit)).1.few
+
+pub new-requires-clause-apart : goal.new-requires-clause-apart
+new-requires-clause-apart g c = subst (λ (xs : List ℕ). (x : ℕ) → times x xs ≤ 1) (sym c.as_slice.ensures.value) (rows_last c.pop-in-Some.new.self.items c.in-Some-pop.row (subst AreRows c.in-Some-pop.ensures.items c.loop-node.invariant.0.fit)).1.apart
+
+pub close_onto-requires-clause-ready : goal.close_onto-requires-clause-ready
+close_onto-requires-clause-ready g c = let k = c.loop-node.invariant.0 in locked_ready g.N.Sighted.sight k.made k.given (reverse c.loop-node.locks.items) (reverse c.loop-node.seats.items) k.locked
+
+pub returns-in-Err-clause-back : goal.returns-in-Err-clause-back
+returns-in-Err-clause-back g c =
+    let k = c.loop-node.invariant.0 in
+    let e = c.close_onto.ensures in
+    let n = c.in-Some.node in
+    let was : c.args.nodes.items ≡ c.push_reserved-in-Err.new.self.items ++ k.made = k.nodes ∙ ap (λ xs. xs ++ k.made) (c.in-Some.ensures.items ∙ (ap (λ m. c.pop.new.self.items ++ m ∷ []) (sym c.in-Err.ensures.back) ∙ sym c.push_reserved-in-Err.ensures.items)) in
+    let stills = all_still g.N.Sighted.sight g.N.Sighted.goes k.made k.given (reverse c.loop-node.locks.items) (reverse c.loop-node.seats.items) e.0 k.locked e.2 in
+    subst (λ xs. AreStill g.N.Sighted.sight g.N.Sighted.goes xs c.close_onto.result.items) (sym was)
+    (subst (λ ys. AreStill g.N.Sighted.sight g.N.Sighted.goes (c.push_reserved-in-Err.new.self.items ++ k.made) ys) (sym e.1)
+    (same_before g.N.Sighted.sight g.N.Sighted.goes g.met.N.Sighted.same c.push_reserved-in-Err.new.self.items k.made e.0 stills))
+
+pub loop-node-preserved : goal.loop-node-preserved
+loop-node-preserved g c =
+    let inv = c.loop-node.invariant in
+    let o = c.in-Ok-new.ensures in (
+      more_locked g.N.Sighted.sight c.args.nodes.items c.args.rows.items c.loop-node.nodes.items c.pop.new.self.items c.loop-node.rows.items c.pop-in-Some.new.self.items
+          c.loop-node.locks.items c.push_reserved.new.self.items c.loop-node.seats.items c.push_reserved-in-Ok-new.new.self.items
+          c.in-Some.node c.in-Some-pop.row c.in-Ok-new.lock c.in-Ok-new.own inv.0 c.in-Some.ensures.items c.in-Some-pop.ensures.items c.push_reserved.ensures.items c.push_reserved-in-Ok-new.ensures.items
+          o.opening.0 (o.opening.1 ∙ c.as_slice.ensures.value)
+          (subst (λ (xs : List ℕ). AreFresh (g.N.Sighted.sight c.in-Some.node) c.in-Some.node (table_of c.in-Ok-new.lock) xs c.in-Ok-new.own.items) c.as_slice.ensures.value o.seats),
+      (let a = inv in search (rules, a)),
+      (let a = inv in search (rules, a)),
+      (let a = inv in search (rules, a)),
+      (let a = inv in search (rules, a)),
+      (let a = inv in search (rules, a)),
+      (let a = inv in search (rules, a)),
+      inv.7,
+    )
+
+pub new-requires-clause-some : goal.new-requires-clause-some
+new-requires-clause-some g c = subst (λ (xs : List ℕ). 0 < length xs) (sym c.as_slice.ensures.value) (rows_last c.pop-in-Some.new.self.items c.in-Some-pop.row (subst AreRows c.in-Some-pop.ensures.items c.loop-node.invariant.0.fit)).1.some

@@ -1,0 +1,13 @@
+use Rattle.std.proofs.Common.{◌≡◌, ◌≤◌, ◌+◌, length, vec_len}
+use Rattle.std.specs.Prelude.{vec_capacity}
+use Rattle.lane_waves.specs.Dealing.{HaveOne}
+use Rattle.lane_waves.proofs.Rounds.{Dealing}
+use Rattle.lane_waves.proofs.node_dealing.deal.Given as goal
+
+abbrev pub invariant-loop-row : goal.invariant-loop-row
+invariant-loop-row g l = Dealing l.fn.rows.items l.rows.items l.spare.items l.items.items × HaveOne l.rows.items
+    × (length l.rows.items + length l.items.items ≤ vec_capacity l.items) × (length l.rows.items + length l.spare.items ≤ vec_capacity l.spare)
+    × (vec_capacity l.rows ≡ vec_capacity l.fn.rows) × (vec_capacity l.spare ≡ vec_capacity l.fn.spare)
+
+abbrev pub decreases-loop-row : goal.decreases-loop-row
+decreases-loop-row g l = vec_len l.rows

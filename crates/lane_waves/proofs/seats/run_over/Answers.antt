@@ -1,0 +1,51 @@
+use Rattle.std.proofs.Common.{rules}
+use Rattle.port_sets.specs.Phase.{AsksLocks, AsksFinishes, AsksForgets, Locks, Finishes, Forgets, IsToldAtOnce}
+use Rattle.lane_waves.proofs.Making.{asked_at, told_at}
+use Rattle.lane_waves.proofs.seats.run_over.Goals as goal
+
+pub run_lane-requires-clause-mine : goal.run_lane-requires-clause-mine
+run_lane-requires-clause-mine g c =
+    let P = g.P.ShardPort in (
+      c.requires.mine,
+      record {
+        lock = record {
+          takes = λ f cs os ps asks calls out ports d e h. let asked = asked_at (AsksLocks P.sight P.serves) cs calls.now os out.now ps ports.now d e h asks in search rules;
+          tells = λ f cs os ps os' ps' d. told_at (IsToldAtOnce (Locks P.sight P.serves P.alone P.at P.faults P.holds)) d.calls.now cs d.out.now os d.ports.now ps d.after_out.now os' d.after_ports.now ps' d.calls_are d.out_is d.ports_are d.left_out d.left_ports d.called;
+        };
+        finish = record {
+          takes = λ f cs os ps asks calls out ports d e h. let asked = asked_at (AsksFinishes P.sight P.serves) cs calls.now os out.now ps ports.now d e h asks in search rules;
+          tells = λ f cs os ps os' ps' d. told_at (IsToldAtOnce (Finishes P.sight P.serves P.alone P.at P.faults P.holds)) d.calls.now cs d.out.now os d.ports.now ps d.after_out.now os' d.after_ports.now ps' d.calls_are d.out_is d.ports_are d.left_out d.left_ports d.called;
+        };
+        forget = record {
+          takes = λ f cs os ps asks calls out ports d e h. let asked = asked_at (AsksForgets P.sight P.serves) cs calls.now os out.now ps ports.now d e h asks in search rules;
+          tells = λ f cs os ps os' ps' d. told_at (IsToldAtOnce (Forgets P.sight P.serves P.alone P.at P.faults P.holds)) d.calls.now cs d.out.now os d.ports.now ps d.after_out.now os' d.after_ports.now ps' d.calls_are d.out_is d.ports_are d.left_out d.left_ports d.called;
+        };
+      },
+    )
+
+pub returns-clause-keeps_shards : goal.returns-clause-keeps_shards
+returns-clause-keeps_shards g c =
+    let P = g.P.ShardPort in
+    let k = c.run_lane.ensures.keeps_shards in
+    record {
+      count_same = k.count_same;
+      nodes = k.nodes;
+      held = k.held;
+      served = λ l h. (k.served l (
+        h,
+        record {
+          lock = record {
+            takes = λ f cs os ps asks calls out ports d e h. let asked = asked_at (AsksLocks P.sight P.serves) cs calls.now os out.now ps ports.now d e h asks in search rules;
+            tells = λ f cs os ps os' ps' d. told_at (IsToldAtOnce (Locks P.sight P.serves P.alone P.at P.faults P.holds)) d.calls.now cs d.out.now os d.ports.now ps d.after_out.now os' d.after_ports.now ps' d.calls_are d.out_is d.ports_are d.left_out d.left_ports d.called;
+          };
+          finish = record {
+            takes = λ f cs os ps asks calls out ports d e h. let asked = asked_at (AsksFinishes P.sight P.serves) cs calls.now os out.now ps ports.now d e h asks in search rules;
+            tells = λ f cs os ps os' ps' d. told_at (IsToldAtOnce (Finishes P.sight P.serves P.alone P.at P.faults P.holds)) d.calls.now cs d.out.now os d.ports.now ps d.after_out.now os' d.after_ports.now ps' d.calls_are d.out_is d.ports_are d.left_out d.left_ports d.called;
+          };
+          forget = record {
+            takes = λ f cs os ps asks calls out ports d e h. let asked = asked_at (AsksForgets P.sight P.serves) cs calls.now os out.now ps ports.now d e h asks in search rules;
+            tells = λ f cs os ps os' ps' d. told_at (IsToldAtOnce (Forgets P.sight P.serves P.alone P.at P.faults P.holds)) d.calls.now cs d.out.now os d.ports.now ps d.after_out.now os' d.after_ports.now ps' d.calls_are d.out_is d.ports_are d.left_out d.left_ports d.called;
+          };
+        },
+      )).0;
+    }

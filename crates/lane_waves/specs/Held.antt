@@ -1,0 +1,87 @@
+-- A lane of a wave before and behind its run: what it says of itself, and that its seats are those of the wave's locks.
+use Rattle.std.specs.Prelude.{◌≡◌, ℕ, false, List, [], length, reverse, All, Option, Some, None, Result, Ok, Err}
+use Rattle.cbdc_model.specs.Records.{Shape}
+use Rattle.cbdc_model.specs.Slots.{Idle}
+use Rattle.cbdc_model.specs.Grammar.{IsCompact}
+use Rattle.cbdc_model.specs.Ranges.{home_of}
+use Rattle.cbdc_model.specs.Sights.{Sight}
+use Rattle.lane_laws.specs.Batches.{Settled, LaneSo}
+use Rattle.lane_driver.specs.Told.{IsLane, AreShardsOf, KeepNodes}
+use Rattle.lane_driver.specs.Stops.{IsSettled, IsLaneStopped, IsLaneTold}
+use Rattle.lane_driver.specs.Causes.{IsCausedFault}
+use Rattle.lane_driver.specs.Reports.{IsReported, AreDone}
+use Rattle.lane_driver.specs.declared.fault.LaneFault.{LaneFault}
+use Rattle.lane_driver.specs.declared.fault.LaneReport.{LaneReport}
+use Rattle.node_lock.specs.Seats.{TableId, knows, table_of}
+use Rattle.node_ports.specs.Nodes.{sight_at}
+use Rattle.port_sets.specs.declared.tables.Locks.{Ghosts}
+use Rattle.port_sets.specs.Nodes.{shard_sight, log_sight}
+use Rattle.port_sets.specs.Seated.{seat_sight, seen_at, phase_at, Serves}
+use Rattle.port_sets.specs.declared.seated.ShardSeat.{ShardSeat}
+use Rattle.lane_waves.specs.declared.runs.LaneRun.{LaneRun}
+
+-- each port takes the lane's calls
+abbrev pub AreOfLane : {W S B : Type 0} {G : Ghosts B} → (S → Sight) → ℕ → List (ShardSeat W S B G) → Type 0
+AreOfLane sight lane ports = All (λ p. Serves (shard_sight sight) p.guarded.now p.seat lane) ports
+
+module _ {W D S B X : Type 0} {G : Ghosts B} (sight : S → Sight) (tables : ℕ → TableId) (K : Shape) where
+  -- its seats are those of the wave's locks: of a shard, by the number in its header
+  pub record IsSeated (r : LaneRun W D S B X G) : Type 0 where
+    pub log : table_of r.ports.log.guarded.now ≡ tables r.ports.log.node
+    pub shards : All (λ p. table_of p.guarded.now ≡ tables (seat_sight (shard_sight sight) p.seat).header.node) r.ports.shards.each.ports.items
+
+  -- `logs_of`, `log_of`, `shards_of`: what a lane's run has seen of the coordinators, of its own, and of the shards
+  abbrev pub logs_of : LaneRun W D S B X G → ℕ → Sight
+  logs_of r n = seen_at r.ports.log.node (seat_sight (log_sight {D = D}) r.ports.log.seat) n
+
+  abbrev pub log_of : LaneRun W D S B X G → Sight
+  log_of r = logs_of r r.ports.log.node
+
+  abbrev pub shards_of : LaneRun W D S B X G → ℕ → Sight
+  shards_of r = sight_at (λ p. seat_sight (shard_sight sight) p.seat) r.ports.shards.each.ports.items
+
+  -- a run before its first call: seats of the wave's locks, of its own lane, at the nodes of the ledger; an idle, settled lane; transactions within
+  -- the limits
+  pub record Begins (r : LaneRun W D S B X G) : Type 0 where
+    pub seated : IsSeated r
+    pub at : r.ports.log.node ≡ home_of K r.lane
+    pub home : IsLane (seat_sight (log_sight {D = D}) r.ports.log.seat).header r.lane
+    pub shape : (seat_sight (log_sight {D = D}) r.ports.log.seat).header.shape ≡ K
+    pub idle : phase_at (knows r.ports.log.seat).lane (seat_sight (log_sight {D = D}) r.ports.log.seat) r.lane ≡ Idle
+    pub count_is : length r.ports.shards.each.ports.items ≡ K.shards
+    pub ledger : AreShardsOf K (shards_of r)
+    pub settled : IsSettled K r.lane (log_of r) (shards_of r)
+    pub ours : AreOfLane sight r.lane r.ports.shards.each.ports.items
+    pub limits : All IsCompact r.work.txs
+
+  -- where it came to its end it has done all, and else it tells at what it stopped
+  pub record RanAll (r q : LaneRun W D S B X G) (report : LaneReport) : Type 0 where
+    pub done : (k : ℕ) → Settled K r.lane k (log_of r) (shards_of r) → LaneSo K false r.lane r.work.txs [] (log_of r) (shards_of r) (log_of q) (shards_of q)
+    pub idle : phase_at (knows q.ports.log.seat).lane (seat_sight (log_sight {D = D}) q.ports.log.seat) r.lane ≡ Idle
+    pub named : IsReported r.lane K.batch r.work.txs [] report.batches
+    pub batches : (k : ℕ) → Settled K r.lane k (log_of r) (shards_of r) → AreDone K false r.lane r.work.txs (log_of r) (shards_of r) (reverse report.batches) [] (log_of q) (shards_of q)
+
+  -- it stopped, with what is told of that and its cause
+  pub record RanUntil (r q : LaneRun W D S B X G) (fault : LaneFault) : Type 0 where
+    pub stopped : IsLaneStopped K false r.lane r.work.txs (log_of r) (shards_of r) (log_of q) (shards_of q) fault
+    pub told : IsLaneTold K false r.lane r.work.txs r.work.repeats (log_of r) (shards_of r) (log_of q) (shards_of q) fault
+    pub cause : IsCausedFault K (logs_of q) (shards_of q) fault
+
+  -- one of these, by what came
+  abbrev pub HasRun : LaneRun W D S B X G → LaneRun W D S B X G → Option (Result LaneReport LaneFault) → Type 0
+  HasRun r q None = ⊥
+  HasRun r q (Some (Ok report)) = RanAll r q report
+  HasRun r q (Some (Err fault)) = RanUntil r q fault
+
+  -- a run behind its last call: the same lane, transactions, locks and nodes, and `HasRun`
+  pub record Ends (r q : LaneRun W D S B X G) : Type 0 where
+    pub seated : IsSeated q
+    pub lane : q.lane ≡ r.lane
+    pub work : q.work ≡ r.work
+    pub at : q.ports.log.node ≡ r.ports.log.node
+    pub count_is : length q.ports.shards.each.ports.items ≡ length r.ports.shards.each.ports.items
+    pub of_lane : (lane : ℕ) → AreOfLane sight lane r.ports.shards.each.ports.items → AreOfLane sight lane q.ports.shards.each.ports.items
+    pub own_lane : (knows q.ports.log.seat).lane ≡ (knows r.ports.log.seat).lane
+    pub log_nodes : KeepNodes (logs_of r) (logs_of q)
+    pub nodes : KeepNodes (shards_of r) (shards_of q)
+    pub has_run : HasRun r q q.came

@@ -1,5 +1,0 @@
-pub mod Steps
-pub mod Turns
-pub mod Ones
-pub mod Waved
-pub mod Opens

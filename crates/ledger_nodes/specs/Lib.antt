@@ -1,4 +1,0 @@
-pub mod Ledgers
-pub mod Steps
-pub mod Ones
-pub mod Waving

@@ -1,4 +1,0 @@
-pub mod Pages
-pub mod Steps
-pub mod Different
-pub mod Submitted

@@ -1,4 +1,0 @@
-use Rattle.line_check.proofs.deciding.+batches_below.Given as goal
-
-abbrev pub decreases-batches_below : goal.decreases-batches_below
-decreases-batches_below l = l.lanes

@@ -1,4 +1,0 @@
-use Rattle.line_check.proofs.deciding.+outcome_at.Given as goal
-
-abbrev pub decreases-outcome_at : goal.decreases-outcome_at
-decreases-outcome_at l = l.k

@@ -1,5 +1,0 @@
-use Rattle.std.proofs.Common.{length}
-use Rattle.line_check.proofs.deciding.+prepares_in.Given as goal
-
-abbrev pub decreases-prepares_in : goal.decreases-prepares_in
-decreases-prepares_in l = length l.records.now

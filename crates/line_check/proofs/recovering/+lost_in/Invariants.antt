@@ -1,5 +1,0 @@
-use Rattle.std.proofs.Common.{length}
-use Rattle.line_check.proofs.recovering.+lost_in.Given as goal
-
-abbrev pub decreases-lost_in : goal.decreases-lost_in
-decreases-lost_in l = length l.outcomes.now

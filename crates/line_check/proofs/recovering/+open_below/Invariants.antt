@@ -1,4 +1,0 @@
-use Rattle.line_check.proofs.recovering.+open_below.Given as goal
-
-abbrev pub decreases-open_below : goal.decreases-open_below
-decreases-open_below l = l.lanes

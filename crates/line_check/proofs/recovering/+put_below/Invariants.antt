@@ -1,4 +1,0 @@
-use Rattle.line_check.proofs.recovering.+put_below.Given as goal
-
-abbrev pub decreases-put_below : goal.decreases-put_below
-decreases-put_below l = l.lanes

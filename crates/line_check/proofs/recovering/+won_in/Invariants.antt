@@ -1,5 +1,0 @@
-use Rattle.std.proofs.Common.{length}
-use Rattle.line_check.proofs.recovering.+won_in.Given as goal
-
-abbrev pub decreases-won_in : goal.decreases-won_in
-decreases-won_in l = length l.outcomes.now

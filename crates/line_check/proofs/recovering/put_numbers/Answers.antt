@@ -1,6 +1,0 @@
-use Rattle.line_text.specs.Reports.{recovery_text}
-use Rattle.line_check.proofs.Pages.{printed}
-use Rattle.line_check.proofs.recovering.put_numbers.Goals as goal
-
-pub returns : goal.returns
-returns c = printed c.args.page.now.text.items c.write_recovery.new.out.text.items (recovery_text c.args.resumed c.args.unspent) c.write_recovery.result c.write_recovery.ensures.prints

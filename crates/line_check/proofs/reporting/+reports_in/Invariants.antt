@@ -1,5 +1,0 @@
-use Rattle.std.proofs.Common.{length}
-use Rattle.line_check.proofs.reporting.+reports_in.Given as goal
-
-abbrev pub decreases-reports_in : goal.decreases-reports_in
-decreases-reports_in g l = length l.checked.now

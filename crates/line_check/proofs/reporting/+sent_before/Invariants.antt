@@ -1,5 +1,0 @@
-use Rattle.std.proofs.Common.{length}
-use Rattle.line_check.proofs.reporting.+sent_before.Given as goal
-
-abbrev pub decreases-sent_before : goal.decreases-sent_before
-decreases-sent_before g l = length l.files.now

@@ -1,5 +1,0 @@
-use Rattle.std.proofs.Common.{length}
-use Rattle.line_check.proofs.running.+put_file.Given as goal
-
-abbrev pub decreases-put_file : goal.decreases-put_file
-decreases-put_file l = length l.txs.now

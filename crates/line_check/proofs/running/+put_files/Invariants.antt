@@ -1,5 +1,0 @@
-use Rattle.std.proofs.Common.{length}
-use Rattle.line_check.proofs.running.+put_files.Given as goal
-
-abbrev pub decreases-put_files : goal.decreases-put_files
-decreases-put_files l = length l.files.now

@@ -1,5 +1,0 @@
-use Rattle.std.proofs.Common.{length}
-use Rattle.line_check.proofs.telling.+value_out.Given as goal
-
-abbrev pub decreases-value_out : goal.decreases-value_out
-decreases-value_out l = length l.outputs.now

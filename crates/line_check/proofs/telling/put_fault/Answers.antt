@@ -1,6 +1,0 @@
-use Rattle.line_text.specs.Faults.{fault_text}
-use Rattle.line_check.proofs.Pages.{printed}
-use Rattle.line_check.proofs.telling.put_fault.Goals as goal
-
-pub returns : goal.returns
-returns c = printed c.args.page.now.text.items c.write_fault.new.out.text.items (fault_text c.args.answer.now c.args.name.now) c.write_fault.result c.write_fault.ensures.prints

@@ -1,7 +1,0 @@
-use Rattle.std.proofs.Common.{arith}
-use Rattle.std.proofs.lemmas.Grind.{common_steps}
-use Rattle.model_check.proofs.Keys.{value_none}
-use Rattle.model_check.proofs.books.+value_of.Goals as goal
-
-pub returns-in_default-clause-value : goal.returns-in_default-clause-value
-returns-in_default-clause-value t c = value_none c.args.coins.now (grind (arith, common_steps))

@@ -1,4 +1,0 @@
-use Rattle.model_check.proofs.causes.+greatest_below.Given as goal
-
-abbrev pub decreases-greatest_below : goal.decreases-greatest_below
-decreases-greatest_below l = l.n

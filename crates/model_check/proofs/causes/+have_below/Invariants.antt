@@ -1,4 +1,0 @@
-use Rattle.model_check.proofs.causes.+have_below.Given as goal
-
-abbrev pub decreases-have_below : goal.decreases-have_below
-decreases-have_below l = l.n

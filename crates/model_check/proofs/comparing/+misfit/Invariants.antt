@@ -1,5 +1,0 @@
-use Rattle.std.proofs.Common.{length}
-use Rattle.model_check.proofs.comparing.+misfit.Given as goal
-
-abbrev pub decreases-misfit : goal.decreases-misfit
-decreases-misfit l = length l.decisions.now

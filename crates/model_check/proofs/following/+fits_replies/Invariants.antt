@@ -1,5 +1,0 @@
-use Rattle.std.proofs.Common.{length}
-use Rattle.model_check.proofs.following.+fits_replies.Given as goal
-
-abbrev pub decreases-fits_replies : goal.decreases-fits_replies
-decreases-fits_replies l = length l.decisions.now

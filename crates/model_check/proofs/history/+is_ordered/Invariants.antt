@@ -1,5 +1,0 @@
-use Rattle.std.proofs.Common.{length}
-use Rattle.model_check.proofs.history.+is_ordered.Given as goal
-
-abbrev pub decreases-is_ordered : goal.decreases-is_ordered
-decreases-is_ordered l = length l.rows.now

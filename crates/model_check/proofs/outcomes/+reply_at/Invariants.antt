@@ -1,5 +1,0 @@
-use Rattle.std.proofs.Common.{length}
-use Rattle.model_check.proofs.outcomes.+reply_at.Given as goal
-
-abbrev pub decreases-reply_at : goal.decreases-reply_at
-decreases-reply_at l = length l.es.now

@@ -1,5 +1,0 @@
-use Rattle.std.proofs.Common.{length}
-use Rattle.model_check.proofs.outcomes.+won_at.Given as goal
-
-abbrev pub decreases-won_at : goal.decreases-won_at
-decreases-won_at l = length l.outcomes.now

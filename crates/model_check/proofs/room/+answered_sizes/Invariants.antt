@@ -1,5 +1,0 @@
-use Rattle.std.proofs.Common.{length}
-use Rattle.model_check.proofs.room.+answered_sizes.Given as goal
-
-abbrev pub decreases-answered_sizes : goal.decreases-answered_sizes
-decreases-answered_sizes l = length l.es.now

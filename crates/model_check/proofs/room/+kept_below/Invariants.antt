@@ -1,4 +1,0 @@
-use Rattle.model_check.proofs.room.+kept_below.Given as goal
-
-abbrev pub decreases-kept_below : goal.decreases-kept_below
-decreases-kept_below l = l.n

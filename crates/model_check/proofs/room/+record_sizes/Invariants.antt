@@ -1,5 +1,0 @@
-use Rattle.std.proofs.Common.{length}
-use Rattle.model_check.proofs.room.+record_sizes.Given as goal
-
-abbrev pub decreases-record_sizes : goal.decreases-record_sizes
-decreases-record_sizes l = length l.past.now

@@ -1,5 +1,0 @@
-use Rattle.std.proofs.Common.{length}
-use Rattle.model_check.proofs.slots.+slot_of.Given as goal
-
-abbrev pub decreases-slot_of : goal.decreases-slot_of
-decreases-slot_of l = length l.past.now

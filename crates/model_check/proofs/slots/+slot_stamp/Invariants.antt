@@ -1,5 +1,0 @@
-use Rattle.std.proofs.Common.{length}
-use Rattle.model_check.proofs.slots.+slot_stamp.Given as goal
-
-abbrev pub decreases-slot_stamp : goal.decreases-slot_stamp
-decreases-slot_stamp l = length l.past.now

@@ -1,4 +1,0 @@
-use Rattle.model_check.proofs.standing.+add_journals.Given as goal
-
-abbrev pub decreases-add_journals : goal.decreases-add_journals
-decreases-add_journals l = l.n

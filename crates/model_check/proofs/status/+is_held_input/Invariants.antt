@@ -1,5 +1,0 @@
-use Rattle.std.proofs.Common.{length}
-use Rattle.model_check.proofs.status.+is_held_input.Given as goal
-
-abbrev pub decreases-is_held_input : goal.decreases-is_held_input
-decreases-is_held_input l = length l.es.now

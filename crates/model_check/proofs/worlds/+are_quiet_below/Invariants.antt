@@ -1,4 +1,0 @@
-use Rattle.model_check.proofs.worlds.+are_quiet_below.Given as goal
-
-abbrev pub decreases-are_quiet_below : goal.decreases-are_quiet_below
-decreases-are_quiet_below l = l.n

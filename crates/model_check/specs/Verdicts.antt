@@ -1,8 +1,0 @@
--- Verdicts in a list, by place: Absent past its end.
-use Rattle.std.specs.Prelude.{ℕ, List, slice_index_or}
-use Rattle.verifier_port.specs.declared.Verdict.{Verdict}
-use Rattle.verifier_port.specs.declared.Verdict.TheVariants.{Absent}
-
--- verdicts of the program as those of the definitions
-abbrev pub verdicts_in : List Verdict → ℕ → Verdict
-verdicts_in vs i = slice_index_or vs i Absent

@@ -1,0 +1,17 @@
+pub mod Slots
+pub mod Journals
+pub mod Plans
+pub mod Coins
+pub mod Named
+pub mod Verdicts
+pub mod Agreeing
+pub mod Alikes
+pub mod Histories
+pub mod Merging
+pub mod Minting
+pub mod Adding
+pub mod Stages
+pub mod Choices
+pub mod Events
+pub mod Searches
+pub mod Summaries

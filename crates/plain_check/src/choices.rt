@@ -1,0 +1,127 @@
+// All journals that given ones may have been once.
+ghost use Rattle.std.specs.Prelude.{◌≡◌, ◌↔◌, ◌∷◌, ◌++◌, ◌<◌, ℕ, map, IsTrue, IfOk, OnOk};
+ghost use Rattle.plain_check.specs.Journals.{journals_in};
+ghost use Rattle.plain_check.specs.Choices.{ends_of, each_before, choices};
+
+use crate::adding::journal_of;
+use crate::copy_of_records;
+use cbdc_types::{List, Record};
+use same_records::is_journal;
+use std::alloc::{AllocError, Global};
+
+// Puts a journal and what it was before each of its records behind those so far.
+fn add_ends(alloc: Global, past: &[Record], out: &mut Vec<List<Record>>) -> Result<(), AllocError>
+    ensures { OnOk result (out.new.items ≡ out.old.items ++ ends_of past.now) }
+{
+    out.push(copy_of_records(alloc, past)?)?;
+    match past.split_first() {
+        None => Ok(()),
+        Some((_, rest)) => add_ends(alloc, rest, out),
+    }
+}
+
+/// A journal and what it was before each of its records.
+pub fn ends_of(alloc: Global, past: &[Record]) -> Result<List<List<Record>>, AllocError>
+    ensures { IfOk result (λ l. l ≡ ends_of past.now) }
+{
+    let mut out = Vec::new(alloc);
+    add_ends(alloc, past, &mut out)?;
+    Ok(List::from_vec(out))
+}
+
+// A journal in front of others, all copied.
+fn with_journal(
+    alloc: Global,
+    first: &[Record],
+    others: &[List<Record>],
+) -> Result<List<List<Record>>, AllocError>
+    ensures { IfOk result (λ l. l ≡ first.now ∷ others.now) }
+{
+    let mut all = Vec::new(alloc);
+    all.push(copy_of_records(alloc, first)?)?;
+    add_copies(alloc, others, &mut all)?;
+    Ok(List::from_vec(all))
+}
+
+// Puts copies of journals behind those so far.
+fn add_copies(
+    alloc: Global,
+    journals: &[List<Record>],
+    out: &mut Vec<List<Record>>,
+) -> Result<(), AllocError>
+    ensures { OnOk result (out.new.items ≡ out.old.items ++ journals.now) }
+{
+    let Some((first, rest)) = journals.split_first() else {
+        return Ok(());
+    };
+    out.push(copy_of_records(alloc, first.as_slice())?)?;
+    add_copies(alloc, rest, out)
+}
+
+// Puts a journal in front of each of those, behind what there is.
+fn add_before(
+    alloc: Global,
+    first: &[Record],
+    others: &[List<List<Record>>],
+    out: &mut Vec<List<List<Record>>>,
+) -> Result<(), AllocError>
+    ensures { OnOk result (out.new.items ≡ out.old.items ++ map (λ w. first.now ∷ w) others.now) }
+{
+    let Some((world, rest)) = others.split_first() else {
+        return Ok(());
+    };
+    out.push(with_journal(alloc, first, world.as_slice())?)?;
+    add_before(alloc, first, rest, out)
+}
+
+// Puts each of these journals in front of each of those, behind what there is.
+fn add_each_before(
+    alloc: Global,
+    firsts: &[List<Record>],
+    others: &[List<List<Record>>],
+    out: &mut Vec<List<List<Record>>>,
+) -> Result<(), AllocError>
+    ensures { OnOk result (out.new.items ≡ out.old.items ++ each_before firsts.now others.now) }
+{
+    let Some((first, rest)) = firsts.split_first() else {
+        return Ok(());
+    };
+    add_before(alloc, first.as_slice(), others, out)?;
+    add_each_before(alloc, rest, others, out)
+}
+
+/// All journals of these nodes that those given may have been once.
+pub fn choices_of(
+    alloc: Global,
+    journals: &[List<Record>],
+) -> Result<List<List<List<Record>>>, AllocError>
+    ensures { IfOk result (λ l. l ≡ choices journals.now) }
+{
+    let mut out = Vec::new(alloc);
+    let Some((first, rest)) = journals.split_first() else {
+        out.push(List::new(alloc))?;
+        return Ok(List::from_vec(out));
+    };
+    let others = choices_of(alloc, rest)?;
+    let ends = ends_of(alloc, first.as_slice())?;
+    add_each_before(alloc, ends.as_slice(), others.as_slice(), &mut out)?;
+    Ok(List::from_vec(out))
+}
+
+// Whether the nodes below n have the same journals.
+fn are_same_below(old: &[List<Record>], new: &[List<Record>], n: usize) -> bool
+    ensures { IsTrue result ↔ ((k : ℕ) → k < n → journals_in new.now k ≡ journals_in old.now k) }
+{
+    if n == 0 {
+        return true;
+    }
+    is_journal(journal_of(new, n - 1), journal_of(old, n - 1)) && are_same_below(old, new, n - 1)
+}
+
+/// Whether all nodes have the same journals.
+#[tactic(auto, using(crate::proofs::Choosing::same_by, crate::proofs::Growing::past_end))]
+pub fn are_same(old: &[List<Record>], new: &[List<Record>]) -> bool
+    ensures { IsTrue result ↔ ((n : ℕ) → journals_in new.now n ≡ journals_in old.now n) }
+{
+    are_same_below(old, new, old.len().max(new.len()))
+}

@@ -1,0 +1,145 @@
+// Which record may come next at a node, by its journal alone.
+ghost use Rattle.std.specs.Prelude.{◌≡◌, ◌<◌, ◌↔◌, List as Items, [], IsTrue, IfOk};
+ghost use Rattle.cbdc_model.specs.Records.{Compact, Prepare, last_stamp};
+ghost use Rattle.cbdc_model.specs.Ranges.{home_of};
+ghost use Rattle.cbdc_model.specs.Replies.{answered, entries};
+ghost use Rattle.cbdc_model.specs.Slots.{slot, Idle};
+ghost use Rattle.cbdc_model.specs.After.{FitsReplies, Follows, After};
+ghost use Rattle.plain_check.specs.Slots.{phase_in};
+
+use crate::copying::entries_in;
+use crate::grammar::is_in_grammar;
+use crate::records::{last_stamp, lock_of, txs_of};
+use crate::replying::replies_of;
+use crate::slots::{Phase, slot_of};
+use cbdc_types::{Answered, BatchId, Header, Record, Stamp};
+use same_records::{are_answered, home_of, is_held};
+use std::alloc::{AllocError, Global};
+
+/// Whether there are as many decisions as entries, and commits only for Held.
+pub fn fits_replies(es: &[Answered], decisions: &[bool]) -> bool
+    ensures { IsTrue result ↔ FitsReplies es.now decisions.now }
+{
+    match (es.split_first(), decisions.split_first()) {
+        (None, None) => true,
+        (Some((a, others)), Some((d, rest))) => {
+            (!*d || is_held(&a.reply)) && fits_replies(others, rest)
+        }
+        _ => false,
+    }
+}
+
+// Whether the stamp is later than the journal's last one.
+fn is_newer(past: &[Record], stamp: Stamp) -> bool
+    ensures { IsTrue result ↔ (last_stamp past.now < stamp) }
+{
+    last_stamp(past).0 < stamp.0
+}
+
+// Whether the lane's last record is of this batch, in this phase.
+fn is_in(past: &[Record], batch: &BatchId, phase: Phase) -> bool
+    ensures { IsTrue result ↔ (((slot past.now batch.now.lane).phase ≡ phase_in phase) × ((slot past.now batch.now.lane).number ≡ batch.now.number)) }
+{
+    let own = slot_of(past, batch.lane);
+    own.phase == phase && own.number == batch.number
+}
+
+// Whether the answered entries are what a shard with this journal replies to them.
+fn are_replies(
+    alloc: Global,
+    past: &[Record],
+    batch: &BatchId,
+    es: &[Answered],
+) -> Result<bool, AllocError>
+    ensures { IfOk result (λ yes. IsTrue yes ↔ (es.now ≡ answered past.now batch.now [] (entries es.now))) }
+{
+    let part = entries_in(alloc, es)?;
+    let own = replies_of(alloc, past, batch, part.as_slice())?;
+    Ok(are_answered(es, own.as_slice()))
+}
+
+// Whether a Lock of this batch may come next, but for its replies.
+fn is_next_lock(past: &[Record], stamp: Stamp, batch: &BatchId) -> bool
+    ensures { IsTrue result ↔ ((last_stamp past.now < stamp) × ((slot past.now batch.now.lane).phase ≡ Idle) × ((slot past.now batch.now.lane).number < batch.now.number)) }
+{
+    let own = slot_of(past, batch.lane);
+    is_newer(past, stamp) && own.phase == Phase::Idle && own.number < batch.number
+}
+
+// Whether a Prepare of this batch may come next.
+fn is_next_prepare(h: &Header, past: &[Record], stamp: Stamp, batch: &BatchId) -> bool
+    ensures { (txs : Items Compact) → IsTrue result ↔ Follows h.now past.now (Prepare stamp batch.now txs) }
+{
+    let own = slot_of(past, batch.lane);
+    is_newer(past, stamp)
+        && h.node.0 == home_of(&h.shape, batch.lane).0
+        && own.phase == Phase::Idle
+        && 0 < batch.number
+        && own.number == batch.number - 1
+}
+
+// Whether this lane is one of the header's node.
+fn is_own_lane(h: &Header, batch: &BatchId) -> bool
+    ensures { IsTrue result ↔ (h.now.node ≡ home_of h.now.shape batch.now.lane) }
+{
+    h.node.0 == home_of(&h.shape, batch.lane).0
+}
+
+/// Whether a record follows the journal of the node with this header, by the phases of its lane.
+pub fn follows(alloc: Global, h: &Header, past: &[Record], r: &Record) -> Result<bool, AllocError>
+    ensures { IfOk result (λ yes. IsTrue yes ↔ Follows h.now past.now r.now) }
+{
+    match r {
+        Record::Genesis { .. } => Ok(past.is_empty()),
+        Record::Start { .. } => Ok(past.is_empty()),
+        Record::Lock {
+            stamp,
+            batch,
+            entries,
+        } => {
+            if !is_next_lock(past, *stamp, batch) {
+                return Ok(false);
+            }
+            are_replies(alloc, past, batch, entries.as_slice())
+        }
+        Record::Finish {
+            stamp,
+            batch,
+            decisions,
+        } => Ok(
+            is_newer(past, *stamp)
+                && is_in(past, batch, Phase::InLock)
+                && fits_replies(lock_of(past, batch), decisions.as_slice()),
+        ),
+        Record::Forget { stamp, batch } => {
+            Ok(is_newer(past, *stamp) && is_in(past, batch, Phase::InFinish))
+        }
+        Record::Prepare { stamp, batch, .. } => Ok(is_next_prepare(h, past, *stamp, batch)),
+        Record::Commit {
+            stamp,
+            batch,
+            outcomes,
+        } => Ok(
+            is_newer(past, *stamp)
+                && is_own_lane(h, batch)
+                && is_in(past, batch, Phase::InPrepare)
+                && outcomes.len() == txs_of(past, batch).len(),
+        ),
+        Record::Discard { stamp, batch } => Ok(
+            is_newer(past, *stamp) && is_own_lane(h, batch) && is_in(past, batch, Phase::InCommit),
+        ),
+        Record::Done { stamp, batch } => Ok(
+            is_newer(past, *stamp) && is_own_lane(h, batch) && is_in(past, batch, Phase::InDiscard),
+        ),
+    }
+}
+
+/// Whether a record is in the grammar and follows the journal of the node with this header.
+pub fn is_after(alloc: Global, h: &Header, past: &[Record], r: &Record) -> Result<bool, AllocError>
+    ensures { IfOk result (λ yes. IsTrue yes ↔ After h.now past.now r.now) }
+{
+    if !is_in_grammar(h, r) {
+        return Ok(false);
+    }
+    follows(alloc, h, past, r)
+}

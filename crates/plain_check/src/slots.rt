@@ -1,0 +1,72 @@
+// A lane's slot at a node, by looking back.
+ghost use Rattle.std.specs.Prelude.{◌≡◌};
+ghost use Rattle.cbdc_model.specs.Slots.{slot, slot_stamp};
+ghost use Rattle.plain_check.specs.Slots.{slot_in};
+
+use crate::records::{is_in_lane, stamp_of};
+use cbdc_types::{LaneId, Record, Stamp};
+
+/// What the last record of a lane was: Idle after none, a Forget or a Done.
+#[derive(Clone, Copy, Debug, PartialEq, Eq)]
+pub enum Phase {
+    Idle,
+    InLock,
+    InFinish,
+    InPrepare,
+    InCommit,
+    InDiscard,
+}
+
+/// The number and the kind of a lane's last record.
+#[derive(Clone, Copy, Debug, PartialEq, Eq)]
+pub struct Slot {
+    pub number: u64,
+    pub phase: Phase,
+}
+
+/// The lane's slot in this journal.
+pub fn slot_of(past: &[Record], lane: LaneId) -> Slot
+    ensures { slot_in result ≡ slot past.now lane }
+{
+    let Some((r, rest)) = past.split_first() else {
+        return Slot {
+            number: 0,
+            phase: Phase::Idle,
+        };
+    };
+    let (batch, phase) = match r {
+        Record::Genesis { .. } => return slot_of(rest, lane),
+        Record::Start { .. } => return slot_of(rest, lane),
+        Record::Lock { batch, .. } => (batch, Phase::InLock),
+        Record::Finish { batch, .. } => (batch, Phase::InFinish),
+        Record::Forget { batch, .. } => (batch, Phase::Idle),
+        Record::Prepare { batch, .. } => (batch, Phase::InPrepare),
+        Record::Commit { batch, .. } => (batch, Phase::InCommit),
+        Record::Discard { batch, .. } => (batch, Phase::InDiscard),
+        Record::Done { batch, .. } => (batch, Phase::Idle),
+    };
+    if batch.lane.0 == lane.0 {
+        Slot {
+            number: batch.number,
+            phase,
+        }
+    } else {
+        slot_of(rest, lane)
+    }
+}
+
+/// The stamp of the lane's last record, 0 where there is none.
+pub fn slot_stamp(past: &[Record], lane: LaneId) -> Stamp
+    ensures { result ≡ slot_stamp past.now lane }
+{
+    match past.split_first() {
+        None => Stamp(0),
+        Some((r, rest)) => {
+            if is_in_lane(lane, r) {
+                stamp_of(r)
+            } else {
+                slot_stamp(rest, lane)
+            }
+        }
+    }
+}

@@ -1,0 +1,79 @@
+-- What a coordinator that lanes share is asked, and answers.
+use Rattle.std.specs.Prelude.{◌≡◌, ℕ, ◌≤◌, true, false, List, length, Option, Result, All, IfOk, IfErr, OnOk}
+use Rattle.std.specs.Vec.{vec_capacity}
+use Rattle.cbdc_types.specs.declared.calls.NodeFault.{NodeFault}
+use Rattle.cbdc_types.specs.declared.batch.ShardReplies.{ShardReplies}
+use Rattle.cbdc_model.specs.Records.{Header, Batch, Compact, Outcome, Record, txs_of, outcomes_of}
+use Rattle.cbdc_model.specs.Slots.{slot, Idle, InPrepare, InCommit, InDiscard}
+use Rattle.cbdc_model.specs.Grammar.{HasSize, IsCompact}
+use Rattle.cbdc_model.specs.Due.{Due, open_batch, prepare_due, discard_due, done_due}
+use Rattle.cbdc_model.specs.After.{IsJournal}
+use Rattle.cbdc_model.specs.Sights.{Sight}
+use Rattle.lane_laws.specs.Answers.{DecideAnswer}
+use Rattle.lane_driver.specs.Told.{IsLane, IsPrepared, IsStamp, AreReplies}
+use Rattle.lane_driver.specs.Causes.{IsDecideCause}
+use Rattle.port_sets.specs.Giving.{Gives}
+use Rattle.port_sets.specs.declared.coordinators.LogCall.{LogCall}
+use Rattle.port_sets.specs.declared.coordinators.LogCall.TheVariants.{Prepare, Decide, Discard, Done}
+use Rattle.port_sets.specs.declared.coordinators.LogReply.{LogReply}
+use Rattle.port_sets.specs.declared.coordinators.LogReply.TheVariants.{Prepared, Stamped}
+
+-- of a call at a shard, and of one at a coordinator: its lane
+abbrev pub lane_of : LogCall → ℕ
+lane_of (Prepare lane txs) = lane
+lane_of (Decide lane replies out) = lane
+lane_of (Discard lane cause) = lane
+lane_of (Done lane cause) = lane
+
+-- the transactions of the lane's open batch
+abbrev pub txs_at : List Record → ℕ → List Compact
+txs_at J lane = txs_of J (open_batch J lane)
+
+-- whether it may be made where this is seen of the node
+abbrev pub may_be_asked : LogCall → Sight → Type 0
+may_be_asked (Prepare lane txs) s = IsLane s.header lane × ((slot s.seen lane).phase ≡ Idle) × HasSize s.header.shape txs.now × All IsCompact txs.now
+may_be_asked (Decide lane replies out) s = IsLane s.header lane × ((slot s.seen lane).phase ≡ InPrepare) × AreReplies s.header.shape replies.now × (length (txs_at s.seen lane) ≤ vec_capacity out.now)
+may_be_asked (Discard lane cause) s = IsLane s.header lane × ((slot s.seen lane).phase ≡ InCommit) × IsStamp cause
+may_be_asked (Done lane cause) s = IsLane s.header lane × ((slot s.seen lane).phase ≡ InDiscard) × IsStamp cause
+
+-- `prepare_owed`, `discard_owed`, `done_owed`: what a coordinator owes a call, by its header
+abbrev pub prepare_owed : ℕ → List Compact → Header → ℕ → Option ℕ → List Record → Due (Batch × ℕ)
+prepare_owed lane txs h capacity = prepare_due h.shape capacity lane txs
+
+abbrev pub discard_owed : ℕ → ℕ → Header → ℕ → Option ℕ → List Record → Due ℕ
+discard_owed lane cause h capacity = discard_due lane cause
+
+abbrev pub done_owed : ℕ → ℕ → Header → ℕ → Option ℕ → List Record → Due ℕ
+done_owed lane cause h capacity = done_due lane cause
+
+-- `good_prepare`, `good_discard`, `good_done`: what is good of a coordinator's answers: stamps, hashes and batches within their limits, and the
+-- phase in which the lane is then
+abbrev pub good_prepare : ℕ → List Compact → Header → List Record → Batch × ℕ → Type 0
+good_prepare lane txs h J p = IsPrepared h.shape lane p × ((slot J lane).phase ≡ InPrepare) × (txs_at J lane ≡ txs)
+
+abbrev pub good_discard : ℕ → Header → List Record → ℕ → Type 0
+good_discard lane h J t = IsStamp t × ((slot J lane).phase ≡ InDiscard)
+
+abbrev pub good_done : ℕ → Header → List Record → ℕ → Type 0
+good_done lane h J t = IsStamp t × ((slot J lane).phase ≡ Idle)
+
+-- what a decision gives, with the outcomes that it fills in: those of the Commit, one for each transaction
+pub record Decides (lane : ℕ) (replies : List ShardReplies) (s t : Sight) (os : List Outcome) (result : Result ℕ NodeFault) : Type 0 where
+  pub told : DecideAnswer true lane replies s t result
+  pub journal : IsJournal s.header s.seen
+  pub fault : IfErr result (λ f. IsDecideCause f t)
+  pub stamp : IfOk result IsStamp
+  pub phase : OnOk result ((slot t.seen lane).phase ≡ InCommit)
+  pub outcomes : OnOk result (length os ≡ length (txs_at s.seen lane))
+  pub written : OnOk result (os ≡ outcomes_of t.seen (open_batch t.seen lane))
+
+-- the answer is of the call's kind
+abbrev pub gives_of : Sight → LogCall → Sight → LogCall → LogReply → Type 0
+gives_of s (Prepare lane txs) t c (Prepared r) = Gives lane true (prepare_owed lane txs.now) (good_prepare lane txs.now) s t r
+gives_of s (Prepare lane txs) t c (Stamped r) = ⊥
+gives_of s (Decide lane replies out) t (Decide l q new) (Stamped r) = Decides lane replies.now s t new.now.items r × (new.ghost_name ≡ out.ghost_name)
+gives_of s (Decide lane replies out) t other r = ⊥
+gives_of s (Discard lane cause) t c (Stamped r) = Gives lane false (discard_owed lane cause) (good_discard lane) s t r
+gives_of s (Discard lane cause) t c (Prepared r) = ⊥
+gives_of s (Done lane cause) t c (Stamped r) = Gives lane false (done_owed lane cause) (good_done lane) s t r
+gives_of s (Done lane cause) t c (Prepared r) = ⊥

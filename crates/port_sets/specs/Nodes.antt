@@ -1,0 +1,12 @@
+-- What contracts see of the nodes that lanes share.
+use Rattle.cbdc_model.specs.Sights.{Sight}
+use Rattle.coord_log.specs.Logs.{sight as log_seen}
+use Rattle.port_sets.specs.declared.locking.SharedShard.{SharedShard}
+use Rattle.port_sets.specs.declared.coordinators.SharedLog.{SharedLog}
+
+-- `shard_sight`, `log_sight`: what contracts see of a shard and of a coordinator under their wrappers
+abbrev pub shard_sight : {S : Type 0} → (S → Sight) → SharedShard S → Sight
+shard_sight sight n = sight n.node
+
+abbrev pub log_sight : {D : Type 0} → SharedLog D → Sight
+log_sight n = log_seen n.node

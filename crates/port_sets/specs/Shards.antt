@@ -1,0 +1,55 @@
+-- What a shard that lanes share is asked, and answers.
+use Rattle.std.specs.Prelude.{ℕ, true, false, List, Option, All}
+use Rattle.cbdc_types.specs.declared.calls.LockCall.{LockCall}
+use Rattle.cbdc_types.specs.declared.calls.FinishCall.{FinishCall}
+use Rattle.cbdc_types.specs.declared.calls.ForgetCall.{ForgetCall}
+use Rattle.cbdc_types.specs.declared.calls.Replied.{Replied}
+use Rattle.cbdc_model.specs.Records.{Header, Record}
+use Rattle.cbdc_model.specs.Grammar.{IsReply}
+use Rattle.cbdc_model.specs.Calls.{IsLockCall, IsFinishCall, IsForgetCall}
+use Rattle.cbdc_model.specs.Due.{Due, lock_due, finish_due, forget_due}
+use Rattle.cbdc_model.specs.Sights.{Sight}
+use Rattle.lane_driver.specs.Told.{IsStamp}
+use Rattle.port_sets.specs.Giving.{Gives}
+use Rattle.port_sets.specs.declared.locking.ShardCall.{ShardCall}
+use Rattle.port_sets.specs.declared.locking.ShardCall.TheVariants.{Lock, Finish, Forget}
+use Rattle.port_sets.specs.declared.locking.ShardReply.{ShardReply}
+use Rattle.port_sets.specs.declared.locking.ShardReply.TheVariants.{Locked, Stamped}
+
+-- of a call at a shard, and of one at a coordinator: its lane
+abbrev pub lane_of : ShardCall → ℕ
+lane_of (Lock c) = c.now.batch.lane
+lane_of (Finish c) = c.now.batch.lane
+lane_of (Forget c) = c.now.batch.lane
+
+-- whether it may be made where this is seen of the node
+abbrev pub may_be_asked : Header → ShardCall → Type 0
+may_be_asked h (Lock c) = IsLockCall h c.now
+may_be_asked h (Finish c) = IsFinishCall h c.now
+may_be_asked h (Forget c) = IsForgetCall h c.now
+
+-- `lock_owed`, `finish_owed`, `forget_owed`: what a shard owes a call, by its header
+abbrev pub lock_owed : LockCall → Header → ℕ → Option ℕ → List Record → Due Replied
+lock_owed c h capacity = lock_due h.shape capacity c
+
+abbrev pub finish_owed : FinishCall → Header → ℕ → Option ℕ → List Record → Due ℕ
+finish_owed c h capacity = finish_due c
+
+abbrev pub forget_owed : ForgetCall → Header → ℕ → Option ℕ → List Record → Due ℕ
+forget_owed c h capacity = forget_due c
+
+-- `good_reply`, `good_stamp`: what is good of a shard's answers: stamps, hashes and batches within their limits
+abbrev pub good_reply : Header → List Record → Replied → Type 0
+good_reply h J a = IsStamp a.stamp × All (IsReply h.shape) a.replies
+
+abbrev pub good_stamp : Header → List Record → ℕ → Type 0
+good_stamp h J t = IsStamp t
+
+-- the answer is of the call's kind
+abbrev pub gives_of : Sight → ShardCall → Sight → ShardReply → Type 0
+gives_of s (Lock c) t (Locked r) = Gives c.now.batch.lane true (lock_owed c.now) good_reply s t r
+gives_of s (Lock c) t (Stamped r) = ⊥
+gives_of s (Finish c) t (Locked r) = ⊥
+gives_of s (Finish c) t (Stamped r) = Gives c.now.batch.lane false (finish_owed c.now) good_stamp s t r
+gives_of s (Forget c) t (Locked r) = ⊥
+gives_of s (Forget c) t (Stamped r) = Gives c.now.batch.lane false (forget_owed c.now) good_stamp s t r

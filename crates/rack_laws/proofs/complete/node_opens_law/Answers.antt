@@ -1,0 +1,9 @@
+use Rattle.rack_laws.proofs.complete.node_opens_law.Goals as goal
+use Rattle.rack_ledgers.specs.Asked.{IsCoordinator, IsShardNode}
+use Rattle.rack_laws.proofs.Openings.{node_opens}
+
+pub returns-clause-coordinator : goal.returns-clause-coordinator
+returns-clause-coordinator c = node_opens IsCoordinator
+
+pub returns-clause-shard : goal.returns-clause-shard
+returns-clause-shard c = node_opens IsShardNode

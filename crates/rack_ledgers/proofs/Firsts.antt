@@ -1,0 +1,31 @@
+-- What a crash leaves while a first record is written.
+use Rattle.std.proofs.Common.{◌≡◌, inl, inr, ⊎_elim, ℕ, Bool, Option, List, [], ◌∷◌, sym, subst}
+use Rattle.gate_journal.specs.Rows.{IsShut, Opens, OpensWithOrWithout}
+use Rattle.gate_journal.specs.Formatting.{IsEmptied}
+use Rattle.gate_journal.specs.Stands.{StandsFor}
+use Rattle.outside.specs.Images.{Leaves}
+use Rattle.outside.proofs.Moments.{goes_further, weakened}
+use Rattle.rack_ledgers.specs.First.{IsStored}
+
+module _ {D : Type 0} (tells : D → Bool) (moment : D → ℕ) (since : D → ℕ → List ℕ → Type 0) (content : D → Option (List ℕ)) (images : D → List ℕ → Type 0) where
+  -- an append behind a call that changes nothing of the disk
+  pub appended : (old mid new : D) (gate : ℕ) (body : List ℕ) → mid ≡ old → gate ≡ 0
+      → (StandsFor (content mid) (images mid) gate [] → Leaves tells moment since images mid new (OpensWithOrWithout [] body))
+      → StandsFor (content old) (images old) 0 [] → Leaves tells moment since images old new (OpensWithOrWithout [] body)
+  appended old mid new gate body same at leaves stands =
+      let here : StandsFor (content old) (images old) gate [] = subst (λ (n : ℕ). StandsFor (content old) (images old) n []) (sym at) stands in
+      subst (λ (d : D). Leaves tells moment since images d new (OpensWithOrWithout [] body)) same (leaves (subst (λ (d : D). StandsFor (content d) (images d) gate []) (sym same) here))
+
+-- a journal of no body has no first row
+none_stored : (before : List ℕ → Type 0) (body bytes : List ℕ) → OpensWithOrWithout [] body bytes → IsStored before body bytes
+none_stored before body bytes opens = ⊎_elim
+    (λ (none : Opens [] bytes). inl (inl (inr (inl (subst IsShut (sym none.parts) none.shut)))))
+    (λ (one : Opens (body ∷ []) bytes). inr one)
+    opens
+
+-- a body behind a disk that was made ready for it
+pub formatted : {D : Type 0} (tells : D → Bool) (moment : D → ℕ) (since : D → ℕ → List ℕ → Type 0) (images : D → List ℕ → Type 0) (old mid new : D) (body : List ℕ) → Leaves tells moment since images old mid (IsEmptied (images old))
+    → Leaves tells moment since images mid new (OpensWithOrWithout [] body) → Leaves tells moment since images old new (IsStored (images old) body)
+formatted tells moment since images old mid new body first second =
+    goes_further tells moment since images old mid new (IsEmptied (images old)) (IsStored (images old) body) first
+    (weakened tells moment since images mid new (OpensWithOrWithout [] body) (IsStored (images old) body) second (λ c is. none_stored (images old) body c is)) (λ c is. inl is)

@@ -1,0 +1,163 @@
+-- Refusals of a shard or a coordinator, as those of a node.
+use Rattle.std.proofs.Common.{◌≡◌, ◌≢◌, Bool, false, inl, inr, ℕ, ◌+◌, ◌≤◌, List, ◌++◌, Option, None, refl, sym, ◌∙◌, subst, arith, rules}
+use Rattle.cbdc_types.specs.declared.answer.Answer.{Answer}
+use Rattle.cbdc_types.specs.declared.answer.Answer.TheVariants as answers
+use Rattle.cbdc_types.specs.declared.calls.NodeOpenFault.{NodeOpenFault}
+use Rattle.cbdc_types.specs.declared.calls.NodeOpenFault.TheVariants as faults
+use Rattle.cbdc_model.specs.Records.{Header, Record, Genesis, Lock, Finish, Forget, Start, Prepare, Commit, Discard, Done}
+use Rattle.cbdc_model.specs.Room.{kept_room}
+use Rattle.cbdc_model.specs.Due.{used_of}
+use Rattle.outside.specs.Counts.{Rose}
+use Rattle.record_log.specs.Held.{HasRow}
+use Rattle.record_log.specs.Bodies.{body_of}
+use Rattle.record_log.specs.Exact.{IsFirst}
+use Rattle.gate_journal.specs.Rows.{filling}
+use Rattle.gate_journal.proofs.Once.{tail_is, row_once}
+use Rattle.record_log.proofs.LogSizes.{first_small}
+use Rattle.coord_log.specs.Logs.{LogOf, HoldsJournal as LogHoldsJournal}
+use Rattle.coord_log.specs.Opening.{IsNoCoord, IsCoordJournal, IsGenesis}
+use Rattle.shard_node.specs.Opening.{IsNoShard, IsShardJournal, IsStart}
+use Rattle.rack_ledgers.proofs.Wholes.{one_first}
+use Rattle.shard_node.specs.Shards.{ShardOf, HoldsJournal, HoldsWith}
+use Rattle.std.specs.Prelude.{IsSome, IsTrue, ◌↔◌}
+use Rattle.std.proofs.lemmas.Bool.{false≢true}
+use Rattle.rack_ledgers.specs.Places.{IsOpening}
+use Rattle.rack_ledgers.specs.Asked.{asked_of, IsCoordinator, IsShardNode}
+use Rattle.rack_ledgers.specs.Refused.{IsNoNode, told_of}
+
+-- a refusal is told as one of that node
+pub told_opening : (node before now : ℕ) (f : NodeOpenFault) → (f ≡ faults.DiskFault → Rose before now) → IsOpening node before now (told_of node f)
+told_opening node before now faults.DiskFault rose = (refl, rose refl)
+told_opening node before now faults.NotReady rose = refl
+told_opening node before now faults.OtherKind rose = refl
+told_opening node before now (faults.Damaged at) rose = refl
+told_opening node before now (faults.Full used need capacity) rose = refl
+told_opening node before now faults.Memory rose = tt
+
+-- why a disk is no shard, but for its kind, is why it is no node
+pub shard_refused : (Is : Header → Type 0) (node : ℕ) (ledger : Option Header) (limit : ℕ) (bytes : List ℕ) (f : NodeOpenFault) → f ≢ faults.OtherKind → IsNoShard limit bytes f → IsNoNode Is node ledger limit bytes (told_of node f)
+shard_refused Is node ledger limit bytes faults.DiskFault other is = refl
+shard_refused Is node ledger limit bytes faults.NotReady other is = (refl, is)
+shard_refused Is node ledger limit bytes faults.OtherKind other is = absurd (other refl)
+shard_refused Is node ledger limit bytes (faults.Damaged at) other is = (refl, record { header = is.header; journal = is.journal; limits = is.limits; is = is.is; cut = is.cut })
+shard_refused Is node ledger limit bytes (faults.Full used need capacity) other is = (
+  refl,
+  is.0,
+  record {
+    header = is.1.header;
+    journal = is.1.journal;
+    is = record { opens = is.1.is.opens; limits = is.1.is.limits; journal = is.1.is.journal };
+    used_is = is.1.used_is;
+    need_is = is.1.need_is;
+    passes = is.1.passes;
+  },
+)
+shard_refused Is node ledger limit bytes faults.Memory other is = tt
+
+-- a shard with another header
+pub other_shard : (node : ℕ) (ledger : Option Header) (limit : ℕ) (bytes : List ℕ) (kept : Header) (J : List Record) → IsShardJournal kept J bytes → used_of J + kept_room kept.shape J ≤ limit → kept ≢ asked_of node ledger kept
+    → IsNoNode IsShardNode node ledger limit bytes (answers.Foreign node kept (asked_of node ledger kept))
+other_shard node ledger limit bytes kept J is fits differs = (refl, refl, record { journal = J; is = record { opens = is.opens; limits = is.limits; journal = is.journal }; fits = fits; differs = inl differs })
+
+-- a shard in place of a coordinator
+pub shard_for_coordinator : (node : ℕ) (ledger : Option Header) (limit : ℕ) (bytes : List ℕ) (kept : Header) (J : List Record) → IsShardJournal kept J bytes → used_of J + kept_room kept.shape J ≤ limit
+    → IsNoNode IsCoordinator node ledger limit bytes (answers.Foreign node kept (asked_of node ledger kept))
+shard_for_coordinator node ledger limit bytes kept J is fits =
+    (refl, refl, record { journal = J; is = record { opens = is.opens; limits = is.limits; journal = is.journal }; fits = fits; differs = inr (λ below. absurd (omega (arith, below, is.shard.0))) })
+
+-- a shard that was opened tells its content
+pub shard_told : {D : Type 0} (content : D → Option (List ℕ)) (images : D → List ℕ → Type 0) (n : ShardOf D) → n.flight ≡ None → HoldsJournal content images n → IsSome (content n.disk)
+shard_told content images n none holds =
+    let whole = subst (λ (o : Option Record). HoldsWith o (content n.disk) (images n.disk) n.gate n.journal) none holds in
+    subst (λ (o : Option (List ℕ)). IsSome o) (sym whole.told) (search rules)
+
+-- why a disk is no coordinator, but for its kind, is why it is no node
+pub coordinator_refused : (Is : Header → Type 0) (node : ℕ) (ledger : Option Header) (limit : ℕ) (bytes : List ℕ) (f : NodeOpenFault) → f ≢ faults.OtherKind → IsNoCoord limit bytes f → IsNoNode Is node ledger limit bytes (told_of node f)
+coordinator_refused Is node ledger limit bytes faults.DiskFault other is = refl
+coordinator_refused Is node ledger limit bytes faults.NotReady other is = (refl, is)
+coordinator_refused Is node ledger limit bytes faults.OtherKind other is = absurd (other refl)
+coordinator_refused Is node ledger limit bytes (faults.Damaged at) other is = (refl, record { header = is.header; journal = is.journal; limits = is.limits; is = is.is; cut = is.cut })
+coordinator_refused Is node ledger limit bytes (faults.Full used need capacity) other is = (
+  refl,
+  is.0,
+  record {
+    header = is.1.header;
+    journal = is.1.journal;
+    is = record { opens = is.1.is.opens; limits = is.1.is.limits; journal = is.1.is.journal };
+    used_is = is.1.used_is;
+    need_is = is.1.need_is;
+    passes = is.1.passes;
+  },
+)
+coordinator_refused Is node ledger limit bytes faults.Memory other is = tt
+
+-- a coordinator with another header
+pub other_coordinator : (node : ℕ) (ledger : Option Header) (limit : ℕ) (bytes : List ℕ) (kept : Header) (J : List Record) → IsCoordJournal kept J bytes → used_of J + kept_room kept.shape J ≤ limit → kept ≢ asked_of node ledger kept
+    → IsNoNode IsCoordinator node ledger limit bytes (answers.Foreign node kept (asked_of node ledger kept))
+other_coordinator node ledger limit bytes kept J is fits differs = (refl, refl, record { journal = J; is = record { opens = is.opens; limits = is.limits; journal = is.journal }; fits = fits; differs = inl differs })
+
+-- a coordinator in place of a shard
+pub coordinator_for_shard : (node : ℕ) (ledger : Option Header) (limit : ℕ) (bytes : List ℕ) (kept : Header) (J : List Record) → IsCoordJournal kept J bytes → used_of J + kept_room kept.shape J ≤ limit
+    → IsNoNode IsShardNode node ledger limit bytes (answers.Foreign node kept (asked_of node ledger kept))
+coordinator_for_shard node ledger limit bytes kept J is fits =
+    (refl, refl, record { journal = J; is = record { opens = is.opens; limits = is.limits; journal = is.journal }; fits = fits; differs = inr (λ here. absurd (omega (arith, here.0, is.coordinator))) })
+
+-- a first record is of one kind
+start_first : (r : Record) → IsStart r → IsFirst r
+start_first (Start h) is = is
+start_first (Genesis h hs) is = absurd is
+start_first (Lock stamp b es) is = absurd is
+start_first (Finish stamp b ds) is = absurd is
+start_first (Forget stamp b) is = absurd is
+start_first (Prepare stamp b txs) is = absurd is
+start_first (Commit stamp b os) is = absurd is
+start_first (Discard stamp b) is = absurd is
+start_first (Done stamp b) is = absurd is
+
+genesis_first : (r : Record) → IsGenesis r → IsFirst r
+genesis_first (Genesis h hs) is = is
+genesis_first (Start h) is = absurd is
+genesis_first (Lock stamp b es) is = absurd is
+genesis_first (Finish stamp b ds) is = absurd is
+genesis_first (Forget stamp b) is = absurd is
+genesis_first (Prepare stamp b txs) is = absurd is
+genesis_first (Commit stamp b os) is = absurd is
+genesis_first (Discard stamp b) is = absurd is
+genesis_first (Done stamp b) is = absurd is
+
+one_kind : (r : Record) → IsStart r → IsGenesis r → ⊥
+one_kind (Start h) start is = is
+one_kind (Genesis h hs) start is = start
+one_kind (Lock stamp b es) start is = start
+one_kind (Finish stamp b ds) start is = start
+one_kind (Forget stamp b) start is = start
+one_kind (Prepare stamp b txs) start is = start
+one_kind (Commit stamp b os) start is = start
+one_kind (Discard stamp b) start is = start
+one_kind (Done stamp b) start is = start
+
+pub not_both_kinds : (bytes : List ℕ) → HasRow IsStart bytes → HasRow IsGenesis bytes → ⊥
+not_both_kinds bytes start genesis =
+    let s_first = start_first start.what start.has in
+    let g_first = genesis_first genesis.what genesis.has in
+    let same : filling (body_of start.what) ++ start.more ≡ filling (body_of genesis.what) ++ genesis.more =
+    tail_is 1 1 (filling (body_of start.what) ++ start.more) (filling (body_of genesis.what) ++ genesis.more) (sym start.parts ∙ genesis.parts) in
+    let bodies = (row_once (body_of start.what) (body_of genesis.what) start.more genesis.more (first_small start.what s_first) (first_small genesis.what g_first) same).0 in
+    let one : start.what ≡ genesis.what = one_first start.what genesis.what s_first g_first bodies in
+    one_kind genesis.what (subst IsStart one start.has) genesis.has
+
+-- a coordinator that was opened tells its content
+pub coordinator_told : {D : Type 0} (content : D → Option (List ℕ)) (images : D → List ℕ → Type 0) (l : LogOf D) → l.broken ≡ None → LogHoldsJournal content images l → IsSome (content l.disk)
+coordinator_told content images l none holds = subst (λ (o : Option (List ℕ)). IsSome o) (sym (holds.reads none).told) (search rules)
+
+-- a header that is kept, told in an answer
+pub told_foreign : (Is : Header → Type 0) (node : ℕ) (ledger : Option Header) (limit : ℕ) (bytes : List ℕ) (kept h : Header) (a : Answer) → kept ≡ h → a ≡ answers.Foreign node kept (asked_of node ledger kept)
+    → IsNoNode Is node ledger limit bytes (answers.Foreign node h (asked_of node ledger h)) → IsNoNode Is node ledger limit bytes a
+told_foreign Is node ledger limit bytes kept h a same is refused =
+    subst (λ (x : Answer). IsNoNode Is node ledger limit bytes x) (sym is) (subst (λ (k : Header). IsNoNode Is node ledger limit bytes (answers.Foreign node k (asked_of node ledger k))) (sym same) refused)
+
+-- a header that is not the one asked
+pub not_kept : (b : Bool) (node : ℕ) (ledger : Option Header) (kept h : Header) → b ≡ false → (IsTrue b ↔ (kept ≡ asked_of node ledger kept)) → kept ≡ h → h ≢ asked_of node ledger h
+not_kept b node ledger kept h false_is both same = λ is.
+    let yes : IsTrue b = both.1 (subst (λ (k : Header). k ≡ asked_of node ledger k) (sym same) is) in
+    false≢true (subst (λ (x : Bool). IsTrue x) false_is yes)

@@ -1,0 +1,21 @@
+// What an audit's verdict is worth. The laws have no body that runs.
+ghost use Rattle.rack_ledgers.specs.AccountLaws.{HasOneVerdict, VerdictsAccount};
+
+use outside::Rack;
+
+/// Where the disks tell their contents, an audit by a mint and what was handed in has one verdict: what is told of the verdict determines it.
+pub fn one_verdict_law<R: Rack>(rack: &R)
+    ensures { HasOneVerdict R.Disk.content (R.held rack.now) }
+{}
+
+/// Where an audit finds all sound, the money of the ledger that the disks tell is accounted for, if its first records are those of the mint,
+/// no hashes clash and each committed transaction has an input.
+///
+/// Where the verdict is Sound, the first records are the mint's, no hashes clash and each committed transaction has an input: the journals have one
+/// history on top of the mint's first records, in which each record is caused and each Prepare's batch is done; each committed transaction was
+/// handed in, and folding them from the mint in the order of their Commits, where each found all its inputs, leaves a book; the shards together
+/// hold exactly the hashes of its coins; no two inputs name one outpoint and no id is committed twice; every batch is finished alike on all its
+/// shards; where each of these transactions makes as much as it takes, the value is the value minted; the totals are those of this book.
+pub fn account_law<R: Rack>(rack: &R)
+    ensures { VerdictsAccount R.Disk.content (R.held rack.now) }
+{}

@@ -1,9 +1,0 @@
-pub mod Each
-pub mod Range
-pub mod Wholes
-pub mod Told
-pub mod Closing
-pub mod Firsts
-pub mod Backs
-pub mod Blanks
-pub mod Refusals

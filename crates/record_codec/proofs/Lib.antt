@@ -1,5 +1,0 @@
-pub mod Grammar
-pub mod Lengths
-pub mod Measures
-pub mod Records
-mod Walks

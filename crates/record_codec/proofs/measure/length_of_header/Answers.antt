@@ -1,6 +1,0 @@
-use Rattle.std.proofs.Common.{arith}
-use Rattle.record_codec.proofs.Measures.{header_long}
-use Rattle.record_codec.proofs.measure.length_of_header.Goals as goal
-
-pub returns : goal.returns
-returns c = omega (arith, header_long c.args.h.now, c.measure.ensures, c.saturating_add.ensures)

@@ -1,6 +1,0 @@
-use Rattle.std.proofs.Common.{arith}
-use Rattle.record_codec.proofs.Measures.{counted_long}
-use Rattle.record_codec.proofs.measure.length_of_list.Goals as goal
-
-pub returns : goal.returns
-returns g c = grind (arith, counted_long g.T.Spell.spelled c.args.list.now)

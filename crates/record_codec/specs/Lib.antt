@@ -1,6 +1,0 @@
-pub mod Bodies
-pub mod Exact
-pub mod Faults
-pub mod Laws
-pub mod Reading
-pub mod Standing

@@ -1,0 +1,34 @@
+-- Which record a body is.
+use Rattle.std.specs.Prelude.{◌≡◌, ℕ, List, Result, Ok, Err}
+use Rattle.cbdc_types.specs.Limits.{IsWithinLimits}
+use Rattle.cbdc_model.specs.Records.{Header, Record, Genesis, Lock, Finish, Forget, Start, Prepare, Commit, Discard, Done}
+use Rattle.cbdc_model.specs.Grammar.{IsInGrammar}
+use Rattle.record_log.specs.declared.fault.RecordFault.{RecordFault}
+use Rattle.record_log.specs.declared.fault.RecordFault.TheVariants.{NotARecord, Memory}
+use Rattle.record_log.specs.Bodies.{body_of}
+
+-- the bytes are the body of this record, which may stand in a journal with this header
+abbrev pub IsBody : Header → List ℕ → Record → Type 0
+IsBody h bytes r = (bytes ≡ body_of r) × IsInGrammar h r
+
+-- a record that a journal may begin with: a Genesis or a Start under its own header
+abbrev pub IsFirst : Record → Type 0
+IsFirst (Genesis header hs) = IsWithinLimits header.shape × IsInGrammar header (Genesis header hs)
+IsFirst (Start header) = IsWithinLimits header.shape × IsInGrammar header (Start header)
+IsFirst (Lock stamp b es) = ⊥
+IsFirst (Finish stamp b ds) = ⊥
+IsFirst (Forget stamp b) = ⊥
+IsFirst (Prepare stamp b txs) = ⊥
+IsFirst (Commit stamp b os) = ⊥
+IsFirst (Discard stamp b) = ⊥
+IsFirst (Done stamp b) = ⊥
+
+-- the bytes are its body
+abbrev pub IsFirstBody : List ℕ → Record → Type 0
+IsFirstBody bytes r = (bytes ≡ body_of r) × IsFirst r
+
+-- this record was read, unless memory ran out
+abbrev pub Reads : Record → Result Record RecordFault → Type 0
+Reads r (Ok q) = q ≡ r
+Reads r (Err NotARecord) = ⊥
+Reads r (Err Memory) = Unit {0}

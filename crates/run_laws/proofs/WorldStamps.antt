@@ -1,0 +1,102 @@
+-- Each stamp above 2^62 is at most one more than those before it, so none is further above it than there are such records.
+use Rattle.std.proofs.Common.{◌≡◌, ℕ, zero, suc, ◌+◌, ◌^◌, ◌<◌, ◌≤◌, ◌/◌, Bool, true, false, nat_lt, if◌then◌else◌, List, [], ◌∷◌, ◌++◌, length, refl, sym, subst, arith}
+use Rattle.cbdc_model.specs.Records.{Shape, Batch, Compact, Record, Row, journal, record_of, stamp_of, stamp_in, last_stamp, kind_of, Genesis, Lock, Finish, Forget, Start, Prepare, Commit, Discard, Done}
+use Rattle.cbdc_model.specs.Causes.{IsCaused, greatest, at_shards}
+use Rattle.cbdc_model.specs.Ranges.{shard_node}
+use Rattle.cbdc_model.specs.History.{Minted, first_rows}
+use Rattle.ledger_laws.proofs.Next.{Steady}
+use Rattle.ledger_laws.proofs.Rows.{at, away, at_node, head_at, head_away}
+use Rattle.ledger_laws.proofs.First.{AllFirst, journal_first, all_first}
+use Rattle.ledger_laws.proofs.Repeats.{all_order}
+use Rattle.run_laws.proofs.Codes.{code_of}
+
+greatest_le : (f : ℕ → ℕ) (top n : ℕ) → ((s : ℕ) → f s ≤ top) → greatest f n ≤ top
+greatest_le f top zero h = omega arith
+greatest_le f top (suc n) h = omega (arith, greatest_le f top n h, h n)
+
+-- a caused record's stamp is at most one more than all that stand
+pub caused_le : (K : Shape) (J : ℕ → List Record) (n top : ℕ) (r : Record) → ((m : ℕ) → last_stamp (J m) ≤ top) → ((kind m : ℕ) (b : Batch) → stamp_in (record_of kind (J m) b) ≤ top)
+    → IsCaused K J n r → stamp_of r ≤ suc top
+caused_le K J n top (Genesis header hs) low all c = omega arith
+caused_le K J n top (Start header) low all c = omega arith
+caused_le K J n top (Prepare stamp b txs) low all c = omega (arith, low n, c)
+caused_le K J n top (Lock stamp b es) low all c = omega (arith, low n, all 6 (b.lane / K.lanes) b, c.2)
+caused_le K J n top (Finish stamp b ds) low all c = omega (arith, low n, all 7 (b.lane / K.lanes) b, c.2)
+caused_le K J n top (Forget stamp b) low all c = omega (arith, low n, all 8 (b.lane / K.lanes) b, c.1)
+caused_le K J n top (Commit stamp b os) low all c =
+    omega (arith, low n, greatest_le (λ s. stamp_in (at_shards K J 2 b s)) top K.shards (λ s. all 2 (shard_node K s) b), c.2)
+caused_le K J n top (Discard stamp b) low all c =
+    omega (arith, low n, greatest_le (λ s. stamp_in (at_shards K J 3 b s)) top K.shards (λ s. all 3 (shard_node K s) b), c.1)
+caused_le K J n top (Done stamp b) low all c =
+    omega (arith, low n, greatest_le (λ s. stamp_in (at_shards K J 4 b s)) top K.shards (λ s. all 4 (shard_node K s) b), c.1)
+
+-- a record's lane
+abbrev pub lane_in : Record → ℕ
+lane_in (Genesis header hs) = 0
+lane_in (Start header) = 0
+lane_in (Lock stamp b es) = b.lane
+lane_in (Finish stamp b ds) = b.lane
+lane_in (Forget stamp b) = b.lane
+lane_in (Prepare stamp b txs) = b.lane
+lane_in (Commit stamp b os) = b.lane
+lane_in (Discard stamp b) = b.lane
+lane_in (Done stamp b) = b.lane
+
+abbrev pub is_late : Record → Bool
+is_late r = nat_lt (2 ^ 62) (stamp_of r)
+
+-- the codes of the rows with stamps above 2^62
+abbrev pub late_codes : Shape → List Row → List ℕ
+late_codes K [] = []
+late_codes K (row ∷ later) = if is_late row.what then code_of K (lane_in row.what) row.node (kind_of row.what) ∷ late_codes K later else late_codes K later
+
+is_above : (n : ℕ) → nat_lt (2 ^ 62) n ≡ true → 2 ^ 62 < n
+is_above n t = grind arith
+
+is_low : (n : ℕ) → nat_lt (2 ^ 62) n ≡ false → n ≤ 2 ^ 62
+is_low n t = grind arith
+
+pub late_above : (r : Record) → is_late r ≡ true → 2 ^ 62 < stamp_of r
+late_above r t = is_above (stamp_of r) t
+
+more_codes : (K : Shape) (row : Row) (later : List Row) → length (late_codes K later) ≤ length (late_codes K (row ∷ later))
+more_codes K row later = elim (is_late row.what) as (λ t. length (late_codes K later) ≤ length (if t then code_of K (lane_in row.what) row.node (kind_of row.what) ∷ late_codes K later else late_codes K later)) [
+  | true ↦ omega arith
+  | false ↦ omega arith
+]
+
+new_stamp : (K : Shape) (row : Row) (later : List Row) → stamp_of row.what ≤ suc (2 ^ 62 + length (late_codes K later)) → stamp_of row.what ≤ 2 ^ 62 + length (late_codes K (row ∷ later))
+new_stamp K row later le = elim (is_late row.what) as (λ t. is_late row.what ≡ t → stamp_of row.what ≤ 2 ^ 62 + length (if t then code_of K (lane_in row.what) row.node (kind_of row.what) ∷ late_codes K later else late_codes K later)) [
+  | true ↦ λ t. omega (arith, le)
+  | false ↦ λ t. omega (arith, is_low (stamp_of row.what) t)
+] refl
+
+first_low : (J : List Record) → AllFirst J → last_stamp J ≤ 2 ^ 62 + 0
+first_low [] h = omega arith
+first_low (Genesis header hs ∷ J) h = omega arith
+first_low (Start header ∷ J) h = omega arith
+first_low (Lock stamp b es ∷ J) h = absurd h.0
+first_low (Finish stamp b ds ∷ J) h = absurd h.0
+first_low (Forget stamp b ∷ J) h = absurd h.0
+first_low (Prepare stamp b txs ∷ J) h = absurd h.0
+first_low (Commit stamp b os ∷ J) h = absurd h.0
+first_low (Discard stamp b ∷ J) h = absurd h.0
+first_low (Done stamp b ∷ J) h = absurd h.0
+
+module _ (K : Shape) (minting : Minted) (P : Compact → Type 0) (shards : 0 < K.shards) where
+  abbrev whole : List Row → ℕ → List Record
+  whole later n = journal n (later ++ first_rows K minting)
+
+  -- all that is found is no newer than the last
+  pub found_le : (later : List Row) → Steady K minting P later → (top : ℕ) → ((m : ℕ) → last_stamp (whole later m) ≤ top) → (kind m : ℕ) (b : Batch) → stamp_in (record_of kind (whole later m) b) ≤ top
+  found_le later kept top low kind m b = omega (arith, (all_order K minting P shards later kept m).stamps_le kind b, low m)
+
+  pub stamps_le : (later : List Row) → Steady K minting P later → (n : ℕ) → last_stamp (whole later n) ≤ 2 ^ 62 + length (late_codes K later)
+  stamps_le [] kept n = first_low (journal n (first_rows K minting)) (journal_first n (first_rows K minting) (all_first K minting P shards))
+  stamps_le (row ∷ later) kept n = elim (at_node row.node n) [
+    | away a ↦ subst (λ J. last_stamp J ≤ 2 ^ 62 + length (late_codes K (row ∷ later))) (sym (head_away row (later ++ first_rows K minting) n a))
+        (let l = stamps_le later kept.3 n in let m = more_codes K row later in omega arith)
+    | at a ↦ subst (λ J. last_stamp J ≤ 2 ^ 62 + length (late_codes K (row ∷ later))) (sym (head_at row (later ++ first_rows K minting) n a))
+        (new_stamp K row later (caused_le K (whole later) row.node (2 ^ 62 + length (late_codes K later)) row.what (λ m. stamps_le later kept.3 m)
+        (λ kind m b. found_le later kept.3 (2 ^ 62 + length (late_codes K later)) (λ m. stamps_le later kept.3 m) kind m b) kept.1))
+  ]

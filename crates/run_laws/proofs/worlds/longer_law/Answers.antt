@@ -1,0 +1,5 @@
+use Rattle.run_laws.proofs.worlds.longer_law.Goals as goal
+use Rattle.run_laws.proofs.Growing as laws
+
+pub returns : goal.returns
+returns c = laws.longer_law

@@ -1,4 +1,0 @@
-use Rattle.wave_check.proofs.adding.+are_idle_below.Given as goal
-
-abbrev pub decreases-are_idle_below : goal.decreases-are_idle_below
-decreases-are_idle_below l = l.n

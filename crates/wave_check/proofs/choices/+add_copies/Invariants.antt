@@ -1,5 +1,0 @@
-use Rattle.std.proofs.Common.{length}
-use Rattle.wave_check.proofs.choices.+add_copies.Given as goal
-
-abbrev pub decreases-add_copies : goal.decreases-add_copies
-decreases-add_copies l = length l.journals.now

@@ -1,5 +1,0 @@
-use Rattle.std.proofs.Common.{length}
-use Rattle.wave_check.proofs.choices.+choices_of.Given as goal
-
-abbrev pub decreases-choices_of : goal.decreases-choices_of
-decreases-choices_of l = length l.journals.now

@@ -1,5 +1,0 @@
-use Rattle.std.proofs.Common.{length}
-use Rattle.wave_check.proofs.prepares.+are_lists.Given as goal
-
-abbrev pub decreases-are_lists : goal.decreases-are_lists
-decreases-are_lists l = length l.xs.now

@@ -1,4 +1,0 @@
-use Rattle.wave_check.proofs.stages.+are_prepared_below.Given as goal
-
-abbrev pub decreases-are_prepared_below : goal.decreases-are_prepared_below
-decreases-are_prepared_below l = l.n

@@ -1,5 +1,0 @@
-use Rattle.std.proofs.Common.{length}
-use Rattle.wave_check.proofs.waves.+add_stages.Given as goal
-
-abbrev pub decreases-add_stages : goal.decreases-add_stages
-decreases-add_stages g l = length l.files.now

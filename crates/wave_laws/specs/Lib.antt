@@ -1,4 +1,0 @@
-pub mod Free
-pub mod Placing
-pub mod FreeRuns
-pub mod Between

@@ -1,9 +1,0 @@
-pub mod Entered
-pub mod Known
-pub mod Own
-pub mod Pure
-pub mod Refused
-pub mod Single
-pub mod Steps
-pub mod Taken
-pub mod Values

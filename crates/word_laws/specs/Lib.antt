@@ -1,3 +1,0 @@
-pub mod Refused
-pub mod Single
-pub mod Taken

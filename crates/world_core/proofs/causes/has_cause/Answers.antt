@@ -1,4 +1,0 @@
-use Rattle.world_core.proofs.causes.has_cause.Goals as goal
-
-pub returns-in-Finish : goal.returns-in-Finish
-returns-in-Finish c = rw c.in-Finish.is c.has_finish_cause.ensures

@@ -1,5 +1,0 @@
-use Rattle.std.proofs.Common.{length}
-use Rattle.world_core.proofs.parts.+is_part_of.Given as goal
-
-abbrev pub decreases-is_part_of : goal.decreases-is_part_of
-decreases-is_part_of l = length l.txs.now

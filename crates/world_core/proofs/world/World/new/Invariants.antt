@@ -1,8 +1,0 @@
-use Rattle.std.proofs.Common.{◌≡◌, map}
-use Rattle.std.specs.List.{range_with_len}
-use Rattle.cbdc_model.specs.World.{first_node}
-use Rattle.world_core.specs.Events.{mint_of}
-use Rattle.world_core.proofs.world.World.new.Given as goal
-
-abbrev pub invariant-loop-n : goal.invariant-loop-n
-invariant-loop-n l = l.nodes.items ≡ map (first_node l.shape (mint_of l.genesis l.hashes)) (range_with_len 0 l.n)

@@ -1,3 +1,0 @@
-pub mod Laws
-pub mod LocksDue
-pub mod Worlds
