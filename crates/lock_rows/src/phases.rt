@@ -1,0 +1,169 @@
+// The lock calls of a phase at three shards, made at once.
+use crate::gates::RowGate;
+use cbdc_types::{
+    BatchId, Entry, Hash, Header, LaneId, List, LockCall, NodeFault, NodeId, Record, Replied,
+    Reply, Shape, Stamp,
+};
+use mem_devices::PlainDisk;
+use node_ports::NodeShard;
+use port_sets::lock_at_once;
+use rack_ledgers::{Wrote, write_first};
+use shard_node::{ShardNode, is_lock_call};
+use std::alloc::Global;
+use std::sync::Wait;
+use std::thread::Threads;
+
+// A coin at each of three shards, by the first byte of its hash.
+const COINS: [u8; 3] = [1, 101, 201];
+
+// So many bytes hold a Genesis of one coin and a Lock of one entry; so many the Genesis alone.
+const ROOMY: usize = 1000;
+
+const NARROW: usize = 140;
+
+// Whether a shard has so many records.
+fn has(shard: &ShardNode<PlainDisk>, records: usize) -> bool {
+    shard.records().len() == records
+}
+
+fn only<T: Drop>(alloc: Global, item: T) -> Option<List<T>> {
+    let mut list = List::new(alloc);
+    match list.push(item) {
+        Ok(()) => Some(list),
+        Err(_) => None,
+    }
+}
+
+// A shard of three, which has one coin, on a disk of this size.
+fn opened(alloc: Global, node: u32, coin: u8, size: usize) -> Option<ShardNode<PlainDisk>> {
+    let header = Header {
+        node: NodeId(node),
+        shape: Shape::new(3, 1, 1, 16).ok()?,
+        genesis: Hash([0; 32]),
+    };
+    let hashes = only(alloc, Hash([coin; 32]))?;
+    let Ok(disk) = PlainDisk::new(alloc, size) else {
+        return None;
+    };
+    let first = Record::Genesis { header, hashes };
+    let Wrote { disk, result: _ } = write_first(alloc, disk, &first, &header);
+    match ShardNode::open(alloc, disk) {
+        Ok(node) => Some(node),
+        Err(_) => None,
+    }
+}
+
+// A Lock of one entry, which spends the coin.
+fn call_of(alloc: Global, coin: u8) -> Option<LockCall> {
+    let entry = Entry {
+        place: 0,
+        id: Hash([9; 32]),
+        inputs: only(alloc, Hash([coin; 32]))?,
+        outputs: List::new(alloc),
+    };
+    Some(LockCall {
+        batch: BatchId {
+            lane: LaneId(0),
+            number: 1,
+        },
+        part: only(alloc, entry)?,
+        cause: Stamp(1),
+    })
+}
+
+// Whether a shard has answered that it holds the one entry.
+fn is_held(answer: &Result<Replied, NodeFault>) -> bool {
+    match answer {
+        Ok(told) => told.replies.as_slice() == [Reply::Held].as_slice(),
+        Err(_) => false,
+    }
+}
+
+fn is_full(answer: &Result<Replied, NodeFault>) -> bool {
+    match answer {
+        Err(NodeFault::Full { .. }) => true,
+        _ => false,
+    }
+}
+
+/// The lock calls of a phase at three shards, of which the second has no room for its Lock, made at once. Whether the answers stand in the order of
+/// the shards, each its own, and the first and the third have their Lock, and the second none.
+pub fn second_is_full<R: Threads + Wait + Sync>(rt: &R, alloc: Global) -> Option<bool> {
+    let mut one = opened(alloc, 1, COINS[0], ROOMY)?;
+    let mut two = opened(alloc, 2, COINS[1], NARROW)?;
+    let mut three = opened(alloc, 3, COINS[2], ROOMY)?;
+    let low = call_of(alloc, COINS[0])?;
+    let middle = call_of(alloc, COINS[1])?;
+    let high = call_of(alloc, COINS[2])?;
+    if !is_lock_call(one.header(), &low)
+        || !is_lock_call(two.header(), &middle)
+        || !is_lock_call(three.header(), &high)
+    {
+        return None;
+    }
+    let calls = [(0, low), (1, middle), (2, high)];
+    let Ok(mut answers) = Vec::with_capacity(alloc, 3) else {
+        return None;
+    };
+    let Ok(mut ports) = Vec::with_capacity(alloc, 3) else {
+        return None;
+    };
+    ports.push_reserved(NodeShard {
+        rt,
+        lane: LaneId(0),
+        node: NodeId(1),
+        shard: &mut one,
+    });
+    ports.push_reserved(NodeShard {
+        rt,
+        lane: LaneId(0),
+        node: NodeId(2),
+        shard: &mut two,
+    });
+    ports.push_reserved(NodeShard {
+        rt,
+        lane: LaneId(0),
+        node: NodeId(3),
+        shard: &mut three,
+    });
+    lock_at_once(
+        rt,
+        &RowGate::Open,
+        calls.as_slice(),
+        &mut answers,
+        ports.as_mut_slice(),
+    );
+    drop(ports);
+    let [first, second, third] = answers.as_slice() else {
+        return None;
+    };
+    let answered = is_held(first) && is_full(second) && is_held(third);
+    Some(answered && has(&one, 2) && has(&two, 1) && has(&three, 2))
+}
+
+/// A phase of no call, made at once. Whether nothing is answered, and each shard has its Genesis alone.
+pub fn asks_none<R: Threads + Wait + Sync>(rt: &R, alloc: Global) -> Option<bool> {
+    let mut one = opened(alloc, 1, COINS[0], ROOMY)?;
+    let Ok(mut answers) = Vec::with_capacity(alloc, 1) else {
+        return None;
+    };
+    let Ok(mut ports) = Vec::with_capacity(alloc, 1) else {
+        return None;
+    };
+    ports.push_reserved(NodeShard {
+        rt,
+        lane: LaneId(0),
+        node: NodeId(1),
+        shard: &mut one,
+    });
+    let none = Vec::new(alloc);
+    lock_at_once(
+        rt,
+        &RowGate::Open,
+        none.as_slice(),
+        &mut answers,
+        ports.as_mut_slice(),
+    );
+    drop(ports);
+    Some(answers.is_empty() && has(&one, 1))
+}
