@@ -50,15 +50,16 @@ fn three(alloc: Global) -> Result<Vec<FullTx>, AllocError> {
     Ok(txs)
 }
 
-// What the sentinel ahead of the only lane sends, for which its channel has room; nothing where it is dropped before its first message.
+// What the sentinel ahead of a lane sends, for which its channel has room; nothing where it is dropped before its first message.
 fn sent<R: Wait, V: Verifier, F: Deals>(
     rt: &R,
     alloc: Global,
     shape: &Shape,
     file: &FileOf<'_, V, F>,
+    lane: LaneId,
     starts: bool,
 ) -> Result<Receiver<RuledAt<F>>, AllocError> {
-    let (feeder, messages) = pipe(alloc, LaneId(0))?;
+    let (feeder, messages) = pipe(alloc, lane)?;
     if starts {
         feed(rt, alloc, shape, file, feeder, &OpenGate);
     } else {
@@ -78,13 +79,13 @@ fn is_of<F: Deals>(message: RuledAt<F>, place: usize) -> bool {
     }
 }
 
-// Whether these messages come, in this order, and then no more.
-fn come<R: Wait, F: Deals>(rt: &R, messages: &Receiver<RuledAt<F>>) -> bool {
-    for place in 0..3 {
+// Whether messages of these places come, in this order, and then no more.
+fn come<R: Wait, F: Deals>(rt: &R, messages: &Receiver<RuledAt<F>>, places: &[usize]) -> bool {
+    for place in places {
         let Ok(message) = messages.recv(rt) else {
             return false;
         };
-        if !is_of(message, place) {
+        if !is_of(message, *place) {
             return false;
         }
     }
@@ -111,7 +112,7 @@ fn given<R: Wait, V: Verifier, F: Deals>(
     Ok(all)
 }
 
-// Whether the messages come, and whether the lane gets the two sound ones, with them and without.
+// Whether the messages of each lane come, of one or of two, and whether the lane gets the two sound ones, with them and without.
 fn tried<R: Wait, V: Verifier, F: Deals>(
     rt: &R,
     alloc: Global,
@@ -124,9 +125,15 @@ fn tried<R: Wait, V: Verifier, F: Deals>(
     requires shape { F.shape ≡ shape.now }
 {
     let file: FileOf<'_, V, F> = FileOf::new(txs, verifier, shape.lane_count());
-    let comes = come(rt, &sent(rt, alloc, shape, &file, true)?);
-    let with = sent(rt, alloc, shape, &file, true)?;
-    let without = sent(rt, alloc, shape, &file, false)?;
+    let first = sent(rt, alloc, shape, &file, LaneId(0), true)?;
+    let comes = if shape.lane_count() == 1 {
+        come(rt, &first, &[0, 1, 2])
+    } else {
+        let second = sent(rt, alloc, shape, &file, LaneId(1), true)?;
+        come(rt, &first, &[0, 2]) && come(rt, &second, &[1])
+    };
+    let with = sent(rt, alloc, shape, &file, LaneId(0), true)?;
+    let without = sent(rt, alloc, shape, &file, LaneId(0), false)?;
     let alone = given(rt, alloc, &file, Ahead::Nothing)?;
     let with = given(rt, alloc, &file, Ahead::Sent(with))?;
     let without = given(rt, alloc, &file, Ahead::Sent(without))?;
@@ -141,18 +148,23 @@ struct Fed {
     is_same: bool,
 }
 
-fn try_all<R: Wait, V: Verifier>(rt: &R, alloc: Global, verifier: &V) -> Option<Fed> {
-    let shape = Shape::new(1, 1, 1, 16).ok()?;
+fn try_all<R: Wait, V: Verifier>(rt: &R, alloc: Global, lanes: u32, verifier: &V) -> Option<Fed> {
+    let shape = Shape::new(1, 1, lanes, 16).ok()?;
     let txs = three(alloc).ok()?;
     tried::<R, V, Brand>(rt, alloc, &shape, txs.as_slice(), verifier).ok()
 }
 
 /// Three submissions, the second refused, come in three messages.
 pub fn sends_three<R: Wait>(rt: &R, alloc: Global) -> Option<bool> {
-    Some(try_all(rt, alloc, &AllGood)?.comes)
+    Some(try_all(rt, alloc, 1, &AllGood)?.comes)
+}
+
+/// Of three submissions each of two lanes gets those that go to it.
+pub fn send_their_own<R: Wait>(rt: &R, alloc: Global) -> Option<bool> {
+    Some(try_all(rt, alloc, 2, &AllGood)?.comes)
 }
 
 /// A lane has the same transactions whether its sentinel sends them, ends before the first or was never there.
 pub fn has_the_same<R: Wait>(rt: &R, alloc: Global) -> Option<bool> {
-    Some(try_all(rt, alloc, &AllGood)?.is_same)
+    Some(try_all(rt, alloc, 1, &AllGood)?.is_same)
 }

@@ -1,5 +1,5 @@
-//! Rows on the lock round a node, which need threads: what lanes that run beside each other leave, what a look tells, and where calls wait; and
-//! on a sentinel ahead of a lane.
+//! Rows on the lock round a node, which need threads: what lanes that run beside each other leave, what a look tells, and where calls wait; on a
+//! sentinel ahead of a lane; and on the calls of a phase, made at once.
 //! A row whose name begins with `differs` does not hold.
 #![tactic(auto)]
 
@@ -71,11 +71,15 @@ fn main(rt: HostRuntime) -> io::Result<ExitCode> {
             feeding::sends_three(&rt, alloc),
         ),
         (
+            "row the sentinels ahead of two lanes send those of three submissions that go to their lane: the first and the third, and the second",
+            feeding::send_their_own(&rt, alloc),
+        ),
+        (
             "row a lane whose sentinel sends, one whose sentinel was dropped before its first message and one that has none get the same transactions",
             feeding::has_the_same(&rt, alloc),
         ),
         (
-            "row three lock calls at once, the second at a shard without room: held, full, held, in the order of the shards, and the first and third have a Lock",
+            "row three lock calls at once, the second at a shard without room and the third at one without the coin: held, full, missing, in the order of the shards, and the first and third have a Lock",
             phases::second_is_full(&rt, alloc),
         ),
         (
@@ -87,8 +91,8 @@ fn main(rt: HostRuntime) -> io::Result<ExitCode> {
     for (row, holds) in told {
         held = held.saturating_add(tell(&rt, row, holds)?);
     }
-    println!(&rt; "{held} of 13 rows came to what they should")?;
-    if held == 13 {
+    println!(&rt; "{held} of 14 rows came to what they should")?;
+    if held == 14 {
         Ok(ExitCode::from(0))
     } else {
         Ok(ExitCode::from(1))

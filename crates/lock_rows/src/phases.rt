@@ -16,6 +16,9 @@ use std::thread::Threads;
 // A coin at each of three shards, by the first byte of its hash.
 const COINS: [u8; 3] = [1, 101, 201];
 
+// A coin that the third shard has not.
+const ABSENT: u8 = 202;
+
 // So many bytes hold a Genesis of one coin and a Lock of one entry; so many the Genesis alone.
 const ROOMY: usize = 1000;
 
@@ -79,6 +82,14 @@ fn is_held(answer: &Result<Replied, NodeFault>) -> bool {
     }
 }
 
+// Whether a shard has answered that it has no such coin.
+fn is_missing(answer: &Result<Replied, NodeFault>, coin: u8) -> bool {
+    match answer {
+        Ok(told) => told.replies.as_slice() == [Reply::Missing(Hash([coin; 32]))].as_slice(),
+        Err(_) => false,
+    }
+}
+
 fn is_full(answer: &Result<Replied, NodeFault>) -> bool {
     match answer {
         Err(NodeFault::Full { .. }) => true,
@@ -86,15 +97,15 @@ fn is_full(answer: &Result<Replied, NodeFault>) -> bool {
     }
 }
 
-/// The lock calls of a phase at three shards, of which the second has no room for its Lock, made at once. Whether the answers stand in the order of
-/// the shards, each its own, and the first and the third have their Lock, and the second none.
+/// The lock calls of a phase at three shards, made at once: the first has the coin, the second no room for its Lock, the third not the coin. Whether
+/// the answers stand in the order of the shards, each its own, and the first and the third have their Lock, and the second none.
 pub fn second_is_full<R: Threads + Wait + Sync>(rt: &R, alloc: Global) -> Option<bool> {
     let mut one = opened(alloc, 1, COINS[0], ROOMY)?;
     let mut two = opened(alloc, 2, COINS[1], NARROW)?;
     let mut three = opened(alloc, 3, COINS[2], ROOMY)?;
     let low = call_of(alloc, COINS[0])?;
     let middle = call_of(alloc, COINS[1])?;
-    let high = call_of(alloc, COINS[2])?;
+    let high = call_of(alloc, ABSENT)?;
     if !is_lock_call(one.header(), &low)
         || !is_lock_call(two.header(), &middle)
         || !is_lock_call(three.header(), &high)
@@ -137,7 +148,7 @@ pub fn second_is_full<R: Threads + Wait + Sync>(rt: &R, alloc: Global) -> Option
     let [first, second, third] = answers.as_slice() else {
         return None;
     };
-    let answered = is_held(first) && is_full(second) && is_held(third);
+    let answered = is_held(first) && is_full(second) && is_missing(third, ABSENT);
     Some(answered && has(&one, 2) && has(&two, 1) && has(&three, 2))
 }
 
