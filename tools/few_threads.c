@@ -3,12 +3,11 @@
 #define _GNU_SOURCE
 #include <dlfcn.h>
 #include <errno.h>
-#include <fcntl.h>
 #include <pthread.h>
 #include <stdatomic.h>
 #include <stdlib.h>
-#include <sys/mman.h>
-#include <unistd.h>
+
+#include "told.h"
 
 struct told {
     atomic_ulong started, refused;
@@ -29,15 +28,7 @@ __attribute__((constructor)) static void begin(void)
     const char *threads = getenv("THREADS");
     left = threads ? strtol(threads, NULL, 10) : 0;
     create = (int (*)(pthread_t *, const pthread_attr_t *, void *(*)(void *), void *))dlsym(RTLD_NEXT, "pthread_create");
-    const char *name = getenv("THREADS_TOLD");
-    int file = name ? open(name, O_RDWR | O_CREAT | O_TRUNC, 0644) : -1;
-    if (file >= 0 && !ftruncate(file, sizeof *told)) {
-        void *shared = mmap(NULL, sizeof *told, PROT_READ | PROT_WRITE, MAP_SHARED, file, 0);
-        if (shared != MAP_FAILED)
-            told = shared;
-    }
-    if (file >= 0)
-        close(file);
+    told = told_in("THREADS_TOLD", &none_told, sizeof none_told);
 }
 
 static void *run(void *given)

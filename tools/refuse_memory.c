@@ -2,12 +2,11 @@
    no library of its, calls malloc, calloc or realloc. The file REFUSE_TOLD has how often the program did, as a number of eight bytes. */
 #define _GNU_SOURCE
 #include <errno.h>
-#include <fcntl.h>
 #include <link.h>
 #include <stdatomic.h>
 #include <stdlib.h>
-#include <sys/mman.h>
-#include <unistd.h>
+
+#include "told.h"
 
 extern void *__libc_malloc(size_t);
 extern void *__libc_calloc(size_t, size_t);
@@ -40,15 +39,7 @@ __attribute__((constructor)) static void begin(void)
 {
     const char *at = getenv("REFUSE_AT");
     refused_at = at ? strtoul(at, NULL, 10) : 0;
-    const char *name = getenv("REFUSE_TOLD");
-    int file = name ? open(name, O_RDWR | O_CREAT | O_TRUNC, 0644) : -1;
-    if (file >= 0 && !ftruncate(file, sizeof *calls)) {
-        void *told = mmap(NULL, sizeof *calls, PROT_READ | PROT_WRITE, MAP_SHARED, file, 0);
-        if (told != MAP_FAILED)
-            calls = told;
-    }
-    if (file >= 0)
-        close(file);
+    calls = told_in("REFUSE_TOLD", &none_told, sizeof none_told);
     dl_iterate_phdr(bounds, NULL);
 }
 

@@ -2,12 +2,11 @@
    other does. The file SLOW_TOLD has two numbers of eight bytes: how many syncs there were, and how many of them began while another one was waiting. */
 #define _GNU_SOURCE
 #include <dlfcn.h>
-#include <fcntl.h>
 #include <stdatomic.h>
 #include <stdlib.h>
-#include <sys/mman.h>
 #include <time.h>
-#include <unistd.h>
+
+#include "../../tools/told.h"
 
 struct told {
     atomic_ulong syncs, beside;
@@ -27,15 +26,7 @@ __attribute__((constructor)) static void begin(void)
     pause_time = (struct timespec){.tv_sec = nanoseconds / 1000000000, .tv_nsec = nanoseconds % 1000000000};
     sync_all = (int (*)(int))dlsym(RTLD_NEXT, "fsync");
     sync_data = (int (*)(int))dlsym(RTLD_NEXT, "fdatasync");
-    const char *name = getenv("SLOW_TOLD");
-    int file = name ? open(name, O_RDWR | O_CREAT | O_TRUNC, 0644) : -1;
-    if (file >= 0 && !ftruncate(file, sizeof *told)) {
-        void *shared = mmap(NULL, sizeof *told, PROT_READ | PROT_WRITE, MAP_SHARED, file, 0);
-        if (shared != MAP_FAILED)
-            told = shared;
-    }
-    if (file >= 0)
-        close(file);
+    told = told_in("SLOW_TOLD", &none_told, sizeof none_told);
 }
 
 static int slow_sync(int (*sync)(int), int file)
