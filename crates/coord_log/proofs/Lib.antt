@@ -8,6 +8,5 @@ pub mod Deciding
 pub mod Preparing
 pub mod Opened
 pub mod Stops
-pub mod Leaving
 pub mod Foreign
 pub mod Flying

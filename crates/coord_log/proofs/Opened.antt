@@ -32,7 +32,7 @@ first_played h c header may fresh stands =
       stands = let P : Header → Type 0 = λ x. StandsFor c (Start x ∷ []) in subst P (sym grammar.0) stands;
       rooms = fresh_rooms h c fresh;
       journal = (tt, (grammar, refl));
-      coordinator = grammar.2;
+      kind = grammar.2;
     }
 
 -- and the next one, which was admitted and taken in
@@ -44,7 +44,7 @@ next_played h b c d J r is whole same grown next grammar takes stands =
       stands = stands;
       rooms = taken_rooms c d r whole next takes (rooms_grow b c same grown is.rooms);
       journal = journal_more h J r is.journal (grammar, subst F (same.header ∙ is.header) (follows_next c J r (stands_same b c J same is.stands) next));
-      coordinator = is.coordinator;
+      kind = is.kind;
     }
 
 -- the room that is kept, as the lanes count it

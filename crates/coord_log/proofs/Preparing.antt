@@ -23,7 +23,8 @@ use Rattle.coord_core.specs.Hashes.{AreHashed}
 use Rattle.coord_core.specs.Lanes.{CoordOf, IsWhole, IsOwn, IsNext, IsSameButRoom, HasGrown, no_lane, lane_at, kept_of, ahead_of, next_batch}
 use Rattle.coord_core.specs.Stands.{StandsFor}
 use Rattle.coord_log.specs.Logs.{IsShort}
-use Rattle.coord_log.specs.Inside.{shown, largest, IsReady, StandsOn, IsSound, IsDue, IsNoRoom}
+use Rattle.node_journal.specs.Shown.{shown}
+use Rattle.coord_log.specs.Inside.{largest, IsReady, StandsOn, IsSound, IsDue, IsNoRoom}
 use Rattle.coord_log.proofs.Going.{stands_same}
 use Rattle.coord_log.proofs.Places.{prepare_place, rooms_grow, fewer}
 use Rattle.coord_log.proofs.Kept.{kept_is}
@@ -72,7 +73,7 @@ shown_same {D} {G} old new opened flight untouched records header = λ i. record
   faults = G.count (untouched.disk i);
   opened = opened;
   broken = untouched.broken i;
-  used = untouched.gate i + 1;
+  gate = untouched.gate i;
   capacity = G.limit (untouched.disk i);
   disk = untouched.disk i;
 }

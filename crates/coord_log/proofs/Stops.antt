@@ -22,7 +22,8 @@ use Rattle.record_log.specs.declared.opening.NoLog.TheVariants.{Fault}
 use Rattle.record_log.proofs.LogSizes.{body_small, limits_of, grammar_of, rows_size}
 use Rattle.coord_core.specs.Lanes.{CoordOf}
 use Rattle.coord_core.specs.Stands.{StandsFor}
-use Rattle.coord_log.specs.Opening.{IsPlayed, IsGenesis, IsUnbegun, IsUnplayed, StopsBefore, IsDamagedAt, IsNoCoord}
+use Rattle.node_journal.specs.Opening.{IsUnbegun, IsUnplayed, StopsBefore, IsDamagedAt}
+use Rattle.coord_log.specs.Opening.{IsPlayed, IsGenesis, IsNoCoord, IsCoord}
 use Rattle.coord_log.proofs.Opened.{sum_reversed}
 
 -- the place behind these records, as far as a number tells it
@@ -39,7 +40,7 @@ pub place_first : (records : List Record) (at : ℕ) (r : Record) → 0 < length
 place_first [] at r lt here place = absurd (omega (arith, lt))
 place_first (q ∷ records) at r lt here place = let same : r ≡ q = here in omega (arith, place, ap size_of same, sum_by-cons size_of q [])
 
-pub unbegun : (h : Header) (records : List Record) (r : Record) (fault : NodeOpenFault) → 0 < length records → r ≡ get_or records 0 r → IsUnbegun r fault → IsUnplayed h records fault
+pub unbegun : (h : Header) (records : List Record) (r : Record) (fault : NodeOpenFault) → 0 < length records → r ≡ get_or records 0 r → IsUnbegun IsGenesis r fault → IsUnplayed IsCoord IsGenesis h records fault
 unbegun h [] r fault lt here is = absurd (omega (arith, lt))
 unbegun h (q ∷ records) r OtherKind lt here is = subst IsGenesis here is
 unbegun h (q ∷ records) r Memory lt here is = tt
@@ -48,14 +49,14 @@ unbegun h (q ∷ records) r NotReady lt here is = absurd is
 unbegun h (q ∷ records) r (Damaged at) lt here is = absurd is
 unbegun h (q ∷ records) r (Full used need capacity) lt here is = absurd is
 
-no_memory : (h : Header) (records : List Record) → 0 < length records → IsUnplayed h records Memory
+no_memory : (h : Header) (records : List Record) → 0 < length records → IsUnplayed IsCoord IsGenesis h records Memory
 no_memory h [] lt = absurd (omega (arith, lt))
 no_memory h (r ∷ records) lt = tt
 
-pub memory_ran_out : (h : Header) (records : List Record) (i : ℕ) → i < length records → IsUnplayed h records Memory
+pub memory_ran_out : (h : Header) (records : List Record) (i : ℕ) → i < length records → IsUnplayed IsCoord IsGenesis h records Memory
 memory_ran_out h records i lt = no_memory h records (omega (arith, lt))
 
-damaged : (h : Header) (records : List Record) (at : ℕ) → 0 < length records → StopsBefore h records at → IsUnplayed h records (Damaged at)
+damaged : (h : Header) (records : List Record) (at : ℕ) → 0 < length records → StopsBefore IsCoord h records at → IsUnplayed IsCoord IsGenesis h records (Damaged at)
 damaged h [] at lt stops = absurd (omega (arith, lt))
 damaged h (r ∷ records) at lt stops = stops
 
@@ -66,14 +67,14 @@ begun h (r ∷ J) is e = cc
 
 -- a record that was not admitted
 pub stopped : (h : Header) (core : CoordOf) (records : List Record) (at i : ℕ) (r : Record) (given : Bool) → IsPlayed h core (reverse (take i records)) → IsPlaceOf at (take i records) → i < length records
-    → r ≡ get_or records i r → given ≡ false → ((K : List Record) → StandsFor core K → K ≢ [] → (IsTrue given ↔ After core.header K r)) → IsUnplayed h records (Damaged at)
+    → r ≡ get_or records i r → given ≡ false → ((K : List Record) → StandsFor core K → K ≢ [] → (IsTrue given ↔ After core.header K r)) → IsUnplayed IsCoord IsGenesis h records (Damaged at)
 stopped h core records at i r given is place lt here never next = damaged h records at (omega (arith, lt)) (record {
   before = take i records;
   next = r;
   rest = drop (suc i) records;
   parts = sym (take-append-drop i records) ∙ ap (λ (l : List Record). take i records ++ l) (drop-cons records i r lt ∙ ap (λ (x : Record). x ∷ drop (suc i) records) (sym here));
   is = is.journal;
-  coordinator = is.coordinator;
+  kind = is.kind;
   none = λ after. refused ((next (reverse (take i records)) is.stands (begun h (reverse (take i records)) is.journal)).1 (subst (λ (k : Header). After k (reverse (take i records)) r) (sym is.header) after)) never;
   place = place;
 })
@@ -97,7 +98,7 @@ rows_at before next rest tail =
     ∙ ap (λ (l : List ℕ). rows (bodies_of before) ++ l) (append_assoc (row (body_of next)) (rows (bodies_of rest)) tail)
 
 -- bytes of records that stop before one that is not next
-pub stops_damage : (h : Header) (records : List Record) (at : ℕ) (bytes tail : List ℕ) → MayHold h records → StopsBefore h records at → bytes ≡ rows (bodies_of records) ++ tail → length (rows (bodies_of records)) < 2 ^ 64 → IsDamagedAt at bytes
+pub stops_damage : (h : Header) (records : List Record) (at : ℕ) (bytes tail : List ℕ) → MayHold h records → StopsBefore IsCoord h records at → bytes ≡ rows (bodies_of records) ++ tail → length (rows (bodies_of records)) < 2 ^ 64 → IsDamagedAt IsCoord at bytes
 stops_damage h records at bytes tail may stops parts fits =
     let limits = limits_of h records may in
     let all : All (IsInGrammar h) (stops.before ++ stops.next ∷ stops.rest) = subst (All (IsInGrammar h)) stops.parts (grammar_of h records may) in
@@ -113,7 +114,7 @@ stops_damage h records at bytes tail may stops parts fits =
       journal = reverse stops.before;
       limits = limits;
       is = stops.is;
-      coordinator = stops.coordinator;
+      kind = stops.kind;
       cut = subst (λ (l : List Record). CutsOff (After h (reverse stops.before)) l at bytes) (sym back) (record {
         rest = row (body_of stops.next) ++ behind;
         parts = split;
@@ -137,7 +138,7 @@ genesis_row r later bytes tail is parts some = record {
 }
 
 -- why records that bytes begin with are no coordinator's
-pub unplayed_is : (limit : ℕ) (h : Header) (records : List Record) (fault : NodeOpenFault) (bytes tail : List ℕ) → MayHold h records → IsUnplayed h records fault → bytes ≡ rows (bodies_of records) ++ tail → 1 ≤ length tail
+pub unplayed_is : (limit : ℕ) (h : Header) (records : List Record) (fault : NodeOpenFault) (bytes tail : List ℕ) → MayHold h records → IsUnplayed IsCoord IsGenesis h records fault → bytes ≡ rows (bodies_of records) ++ tail → 1 ≤ length tail
     → length (rows (bodies_of records)) < 2 ^ 64 → IsNoCoord limit bytes fault
 unplayed_is limit h [] fault bytes tail may is parts some fits = absurd may
 unplayed_is limit h (r ∷ later) OtherKind bytes tail may is parts some fits = genesis_row r later bytes tail is parts some
@@ -147,10 +148,10 @@ unplayed_is limit h (r ∷ later) DiskFault bytes tail may is parts some fits = 
 unplayed_is limit h (r ∷ later) NotReady bytes tail may is parts some fits = absurd is
 unplayed_is limit h (r ∷ later) (Full used need capacity) bytes tail may is parts some fits = absurd is
 
-pub not_disk : (h : Header) (records : List Record) (fault : NodeOpenFault) → IsUnplayed h records fault → fault ≡ DiskFault → ⊥
-not_disk h records fault is e = none h records (subst (IsUnplayed h records) e is)
+pub not_disk : (h : Header) (records : List Record) (fault : NodeOpenFault) → IsUnplayed IsCoord IsGenesis h records fault → fault ≡ DiskFault → ⊥
+not_disk h records fault is e = none h records (subst (IsUnplayed IsCoord IsGenesis h records) e is)
   where
-    none : (h : Header) (records : List Record) → IsUnplayed h records DiskFault → ⊥
+    none : (h : Header) (records : List Record) → IsUnplayed IsCoord IsGenesis h records DiskFault → ⊥
     none h [] is = is
     none h (r ∷ later) is = is
 
@@ -159,13 +160,13 @@ open_some [] is = absurd is
 open_some (gate ∷ rest) is = omega arith
 
 -- records that are all next, and behind them an open gate with no record of the grammar
-pub all_played : (h : Header) (core : CoordOf) (records : List Record) (at : ℕ) (bytes : List ℕ) → IsWithinLimits h.shape → IsPlayed h core (reverse records) → CutsOff (IsInGrammar h) records at bytes → IsDamagedAt at bytes
+pub all_played : (h : Header) (core : CoordOf) (records : List Record) (at : ℕ) (bytes : List ℕ) → IsWithinLimits h.shape → IsPlayed h core (reverse records) → CutsOff (IsInGrammar h) records at bytes → IsDamagedAt IsCoord at bytes
 all_played h core records at bytes limits is cuts = record {
   header = h;
   journal = reverse records;
   limits = limits;
   is = is.journal;
-  coordinator = is.coordinator;
+  kind = is.kind;
   cut = subst (λ (l : List Record). CutsOff (After h (reverse records)) l at bytes) (sym (reverse-reverse records)) (record {
     rest = cuts.rest;
     parts = cuts.parts;
@@ -175,10 +176,10 @@ all_played h core records at bytes limits is cuts = record {
   });
 }
 
-pub cut_unplayed : (limit : ℕ) (h : Header) (records : List Record) (at : ℕ) (fault : NodeOpenFault) (bytes : List ℕ) → MayHold h records → IsUnplayed h records fault → CutsOff (IsInGrammar h) records at bytes → at < 2 ^ 64 → IsNoCoord limit bytes fault
+pub cut_unplayed : (limit : ℕ) (h : Header) (records : List Record) (at : ℕ) (fault : NodeOpenFault) (bytes : List ℕ) → MayHold h records → IsUnplayed IsCoord IsGenesis h records fault → CutsOff (IsInGrammar h) records at bytes → at < 2 ^ 64 → IsNoCoord limit bytes fault
 cut_unplayed limit h records at fault bytes may is cuts fits = unplayed_is limit h records fault bytes cuts.rest may is cuts.parts (open_some cuts.rest cuts.opened) (omega (arith, cuts.place, fits))
 
-pub open_unplayed : (limit : ℕ) (h : Header) (records : List Record) (fault : NodeOpenFault) (bytes : List ℕ) (gate : ℕ) → MayHold h records → IsUnplayed h records fault → OpensTo records bytes → gate ≡ sum_by size_of records → gate + 1 < 2 ^ 64 → IsNoCoord limit bytes fault
+pub open_unplayed : (limit : ℕ) (h : Header) (records : List Record) (fault : NodeOpenFault) (bytes : List ℕ) (gate : ℕ) → MayHold h records → IsUnplayed IsCoord IsGenesis h records fault → OpensTo records bytes → gate ≡ sum_by size_of records → gate + 1 < 2 ^ 64 → IsNoCoord limit bytes fault
 open_unplayed limit h records fault bytes gate may is opens ends fits =
     unplayed_is limit h records fault bytes opens.rest may is opens.parts (end_len opens.rest (inl opens.shut)) (omega (arith, rows_size h records (limits_of h records may) (grammar_of h records may), ends, fits))
 
@@ -198,7 +199,7 @@ full_is h core records used need capacity limit bytes limits is opens used_is ne
   record {
     header = h;
     journal = reverse records;
-    is = record { opens = subst (λ (l : List Record). OpensTo l bytes) (sym (reverse-reverse records)) opens; limits = limits; journal = is.journal; coordinator = is.coordinator };
+    is = record { opens = subst (λ (l : List Record). OpensTo l bytes) (sym (reverse-reverse records)) opens; limits = limits; journal = is.journal; kind = is.kind };
     used_is = omega (arith, used_is, sum_reversed records);
     need_is = need_is;
     passes = passes;

@@ -26,8 +26,9 @@ use Rattle.record_log.specs.declared.log.LogFault.TheVariants.{DiskFault}
 use Rattle.record_log.specs.declared.log.RecordLog.{RecordLog}
 use Rattle.coord_core.specs.Lanes.{CoordOf, Takes, ahead_of}
 use Rattle.coord_core.specs.Stands.{StandsFor}
-use Rattle.coord_log.specs.Logs.{HoldsJournal}
-use Rattle.coord_log.specs.Inside.{shown, largest, HasPlace, IsSound, IsDue}
+use Rattle.node_journal.specs.Nodes.{HoldsJournal}
+use Rattle.node_journal.specs.Shown.{shown}
+use Rattle.coord_log.specs.Inside.{largest, HasPlace, IsSound, IsDue}
 use Rattle.coord_log.proofs.Journals.{follows_next, journal_more}
 use Rattle.coord_log.proofs.Going.{takes_header}
 
@@ -122,31 +123,4 @@ sound_broken {D} {G} old new c flight r opened due since rose later records head
       unbroken = λ e. absurd (let z : Some r ≡ None = e in cc);
       fits = rw (header, records, limit) due.needs;
       free = omega (arith, ap (λ x. used_of (reverse x)) records, due.used, due.free, limit);
-    }
-
--- a disk that holds the records, and nothing in flight
-pub to_journal : {D : Type 0} {G : Ghosts D} (l : RecordLog D G) (opened : ℕ) (flight : Option Record) → flight ≡ None → HoldsAll l l.records.items → HoldsJournal G.content G.images (shown l opened flight)
-to_journal {D} {G} l opened flight none holds =
-    let same : reverse (reverse l.records.items) ≡ l.records.items = reverse-reverse l.records.items in
-    let at : gate_of l.journal + 1 - 1 ≡ gate_of l.journal = omega arith in
-    record {
-      each = λ c image. rw (none, same) (let P : List ℕ → Type 0 = λ x. OpensToEither l.records.items None x in subst P (sym (holds.durable c image)) holds.opens);
-      reads = λ e. rw (at, same) holds;
-    }
-
-pub from_journal : {D : Type 0} {G : Ghosts D} (l : RecordLog D G) (opened : ℕ) (flight : Option Record) → broken_of l.journal ≡ None → HoldsJournal G.content G.images (shown l opened flight) → HoldsAll l l.records.items
-from_journal {D} {G} l opened flight whole journal =
-    let same : reverse (reverse l.records.items) ≡ l.records.items = reverse-reverse l.records.items in
-    let at : gate_of l.journal + 1 - 1 ≡ gate_of l.journal = omega arith in
-    let h = journal.reads whole in
-    rw (at, same) at h
-
--- a disk that failed leaves the record in flight
-pub to_broken : {D : Type 0} {G : Ghosts D} (l : RecordLog D G) (records : List Record) (opened : ℕ) (r : Record) → l.records.items ≡ records → broken_of l.journal ≡ Some (G.count (disk_of l.journal))
-    → ((c : List ℕ) → G.images (disk_of l.journal) c → OpensWithOrWithout (bodies_of records) (body_of r) c) → HoldsJournal G.content G.images (shown l opened (Some r))
-to_broken {D} {G} l records opened r same broken each =
-    let twice : reverse (reverse l.records.items) ≡ records = reverse-reverse l.records.items ∙ same in
-    record {
-      each = λ c image. rw twice (each c image);
-      reads = λ e. cc;
     }

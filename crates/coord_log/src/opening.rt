@@ -11,9 +11,10 @@ ghost use Rattle.cbdc_model.specs.Due.{used_of};
 ghost use Rattle.record_log.specs.Held.{MayHold, OpensTo, CutsOff};
 ghost use Rattle.record_log.specs.LogReading.{HoldsBefore, IsNoLog};
 ghost use Rattle.record_log.specs.Logs.{IsUntouched};
-ghost use Rattle.coord_log.specs.Logs.{HoldsJournal};
+ghost use Rattle.node_journal.specs.Nodes.{HoldsJournal};
 ghost use Rattle.coord_log.specs.Inside.{IsSound};
-ghost use Rattle.coord_log.specs.Opening.{IsCoord, IsCoordJournal, IsPlayed, IsUnbegun, IsUnplayed, IsNoCoord};
+ghost use Rattle.node_journal.specs.Opening.{IsUnbegun, IsUnplayed};
+ghost use Rattle.coord_log.specs.Opening.{IsCoord, IsCoordJournal, IsPlayed, IsNoCoord, IsGenesis};
 
 use crate::CoordLog;
 use crate::writing::LARGEST_COMMIT;
@@ -27,7 +28,7 @@ use std::alloc::Global;
 fn first_lanes(alloc: Global, header: &Header, first: &Record) -> Result<CoordCore, NodeOpenFault>
     requires { MayHold header.now (first.now ∷ []) }
     ensures played { IfOk result (λ c. IsPlayed header.now c (first.now ∷ [])) }
-    ensures unplayed { IfErr result (IsUnbegun first.now) }
+    ensures unplayed { IfErr result (IsUnbegun IsGenesis first.now) }
 {
     match first {
         Record::Start { .. } => match CoordCore::new(alloc, header) {
@@ -43,7 +44,7 @@ fn first_lanes(alloc: Global, header: &Header, first: &Record) -> Result<CoordCo
 fn replayed(alloc: Global, header: &Header, records: &[Record]) -> Result<CoordCore, NodeOpenFault>
     requires { MayHold header.now records.now }
     ensures played { IfOk result (λ c. IsPlayed header.now c (reverse records.now)) }
-    ensures unplayed { IfErr result (IsUnplayed header.now records.now) }
+    ensures unplayed { IfErr result (IsUnplayed IsCoord IsGenesis header.now records.now) }
 {
     let mut core = match first_lanes(alloc, header, &records[0]) {
         Ok(core) => core,

@@ -8,7 +8,7 @@ use Rattle.cbdc_model.specs.Coins.{Output, FullTx, genesis_id}
 use Rattle.cbdc_model.specs.History.{header_of}
 use Rattle.cbdc_model.specs.Room.{kept_room}
 use Rattle.cbdc_model.specs.Due.{used_of}
-use Rattle.coord_log.specs.Logs.{LogOf}
+use Rattle.node_journal.specs.Nodes.{NodeOf}
 use Rattle.rack_ledgers.proofs.Fronts.{has_first, whole_fronts, whole_or_cut}
 use Rattle.rack_ledgers.proofs.Once.{opens_once_law}
 use Rattle.rack_ledgers.specs.Asked.{asked_of, IsCoordinator, IsShardNode}
@@ -70,7 +70,7 @@ module _ {D : Type 0} (content : D → Option (List ℕ)) (images : D → List �
   first_node : 0 < node_count K
   first_node = some_node content held K mint submissions E ready
 
-  log_is : (h : Header) (n : ℕ) (l : LogOf D) → n < node_count K → IsLogAt content images limit count held h n l → header_of h.shape h.genesis n ≡ H n
+  log_is : (h : Header) (n : ℕ) (l : NodeOf D) → n < node_count K → IsLogAt content images limit count held h n l → header_of h.shape h.genesis n ≡ H n
   log_is h n l inside at =
       sym at.header ∙ (opens_to content held K mint submissions E ready n l.header l.journal inside
       (λ was is c told. (let stands = (at.opened was is).stands c told in record { opens = stands.0.opens; limits = stands.0.limits; journal = at.journal }))).0
@@ -88,7 +88,7 @@ module _ {D : Type 0} (content : D → Option (List ℕ)) (images : D → List �
         ]
 
     -- the header of the ledger is that of node 0, as its first coordinator tells it
-    lead_is : (h : Header) (logs : List (LogOf D)) → 1 ≤ length logs → ((n : ℕ) (l : LogOf D) → slice_get logs n ≡ Some l → IsLogAt content images limit count held h n l)
+    lead_is : (h : Header) (logs : List (NodeOf D)) → 1 ≤ length logs → ((n : ℕ) (l : NodeOf D) → slice_get logs n ≡ Some l → IsLogAt content images limit count held h n l)
         → (h.shape ≡ K) × (h.genesis ≡ genesis_id mint)
     lead_is h [] some at = absurd (omega (arith, some))
     lead_is h (l ∷ logs) some at = let same = log_is h 0 l first_node (at 0 l refl) in (ap (λ (x : Header). x.shape) same, ap (λ (x : Header). x.genesis) same)

@@ -8,8 +8,7 @@ use Rattle.cbdc_model.specs.World.{KeptJournals}
 use Rattle.cbdc_model.specs.Room.{kept_room, need_of}
 use Rattle.cbdc_model.specs.Due.{used_of}
 use Rattle.record_log.specs.Held.{OpensTo, OpensToEither}
-use Rattle.coord_log.specs.Logs.{LogOf}
-use Rattle.shard_node.specs.Shards.{ShardOf}
+use Rattle.node_journal.specs.Nodes.{NodeOf}
 use Rattle.rack_ledgers.specs.Racked.{OfTold}
 use Rattle.rack_ledgers.specs.Refused.{IsNodeJournal}
 
@@ -48,19 +47,19 @@ abbrev pub OpenTo : {D : Type 0} → (ℕ → Option D) → Shape → (ℕ → L
 OpenTo held K contents X = (n : ℕ) → n < node_count K → OfTold (held n) (λ d. OpensTo (reverse (X n)) (contents n))
 
 -- a coordinator's disk, and a shard's, has room for its journal and for what is kept for its open batches
-abbrev pub LogHasRoom : {D : Type 0} → (D → ℕ) → LogOf D → Type 0
+abbrev pub LogHasRoom : {D : Type 0} → (D → ℕ) → NodeOf D → Type 0
 LogHasRoom limit l = used_of l.journal + kept_room l.header.shape l.journal ≤ limit l.disk
 
 -- `LogHasRoom`, `ShardHasRoom`: a coordinator's disk, and a shard's, has room for its journal and for what is kept for its open batches
-abbrev pub ShardHasRoom : {D : Type 0} → (D → ℕ) → ShardOf D → Type 0
+abbrev pub ShardHasRoom : {D : Type 0} → (D → ℕ) → NodeOf D → Type 0
 ShardHasRoom limit s = used_of s.journal + kept_room s.header.shape s.journal ≤ limit s.disk
 
 -- what is in flight there had room
-abbrev pub LogFits : {D : Type 0} → (D → ℕ) → LogOf D → Type 0
+abbrev pub LogFits : {D : Type 0} → (D → ℕ) → NodeOf D → Type 0
 LogFits limit l = IfSome l.flight (λ r. used_of l.journal + need_of l.header.shape l.journal r ≤ limit l.disk)
 
 -- `LogFits`, `ShardFits`: a record in flight there had the room that it needs
-abbrev pub ShardFits : {D : Type 0} → (D → ℕ) → ShardOf D → Type 0
+abbrev pub ShardFits : {D : Type 0} → (D → ℕ) → NodeOf D → Type 0
 ShardFits limit s = IfSome s.flight (λ r. used_of s.journal + need_of s.header.shape s.journal r ≤ limit s.disk)
 
 -- so has each disk that is told, by these journals of its ledger's nodes

@@ -9,8 +9,7 @@ use Rattle.cbdc_model.specs.History.{header_of}
 use Rattle.cbdc_model.specs.Room.{kept_room}
 use Rattle.cbdc_model.specs.Due.{used_of}
 use Rattle.cbdc_model.specs.Coins.{Output, FullTx, genesis_id}
-use Rattle.coord_log.specs.Logs.{LogOf}
-use Rattle.shard_node.specs.Shards.{ShardOf}
+use Rattle.node_journal.specs.Nodes.{NodeOf}
 use Rattle.audit.specs.declared.place.Place.{Place}
 use Rattle.audit.specs.Rows.{rows_at}
 use Rattle.audit.specs.declared.verdict.Verdict.{Verdict}
@@ -27,7 +26,7 @@ use Rattle.rack_ledgers.proofs.CausedOnce.{same_shape, same_rows}
 use Rattle.rack_ledgers.specs.Audited.{HasVerdict, IsAudited, HistoryHasRoom, HistoryIsHeld}
 use Rattle.rack_ledgers.specs.AccountLaws.{HasOneVerdict, VerdictsAccount}
 
-module _ {D : Type 0} (content : D → Option (List ℕ)) (images : D → List ℕ → Type 0) (limit count : D → ℕ) (held : ℕ → Option D) (h : Header) (logs : List (LogOf D)) (shards : List (ShardOf D))
+module _ {D : Type 0} (content : D → Option (List ℕ)) (images : D → List ℕ → Type 0) (limit count : D → ℕ) (held : ℕ → Option D) (h : Header) (logs : List (NodeOf D)) (shards : List (NodeOf D))
     (are : AreOpened content images limit count held h logs shards) (rows : List Row) (merged : AreMerged (journals_of logs shards) rows) where
   abbrev HasRoomAt : ℕ → Type 0
   HasRoomAt n = OfTold (held n) (λ was. used_of (journal n (reverse rows)) + kept_room h.shape (journal n (reverse rows)) ≤ limit was)
@@ -38,13 +37,13 @@ module _ {D : Type 0} (content : D → Option (List ℕ)) (images : D → List �
       subst (λ (x : List Record). OfTold (held n) (λ was. used_of x + kept_room h.shape x ≤ limit was)) own
       (subst (λ (k : Shape). OfTold (held n) (λ was. used_of J + kept_room k J ≤ limit was)) shape is)
 
-  log_room : (n : ℕ) (l : LogOf D) → slice_get logs n ≡ Some l → HasRoomAt n
+  log_room : (n : ℕ) (l : NodeOf D) → slice_get logs n ≡ Some l → HasRoomAt n
   log_room n l at =
       let log = are.logs_at n l at in
       room_by n l.header.shape l.journal (ap (λ (k : Header). k.shape) log.header) (log_journal logs shards rows merged n l at)
       (λ was is. subst (λ m. used_of l.journal + kept_room l.header.shape l.journal ≤ m) (log.capacity ∙ (log.opened was is).read.room) log.room)
 
-  shard_room : (n : ℕ) (s : ShardOf D) → slice_get shards n ≡ Some s → HasRoomAt (h.shape.coordinators + n)
+  shard_room : (n : ℕ) (s : NodeOf D) → slice_get shards n ≡ Some s → HasRoomAt (h.shape.coordinators + n)
   shard_room n s at =
       let shard = are.shards_at n s at in
       room_by (h.shape.coordinators + n) s.header.shape s.journal (ap (λ (k : Header). k.shape) shard.header)
@@ -75,7 +74,7 @@ module _ {D : Type 0} (content : D → Option (List ℕ)) (images : D → List �
     holds_by : (n : ℕ) (J : List Record) → J ≡ journal n (reverse rows) → StillHolds content images (held n) (now n) (header_of h.shape h.genesis n) J → HoldsAt n
     holds_by n J own is = subst (λ (x : List Record). StillHolds content images (held n) (now n) (header_of h.shape h.genesis n) x) own is
 
-    shard_held : (n : ℕ) (s : ShardOf D) → slice_get shards n ≡ Some s → HoldsAt (h.shape.coordinators + n)
+    shard_held : (n : ℕ) (s : NodeOf D) → slice_get shards n ≡ Some s → HoldsAt (h.shape.coordinators + n)
     shard_held n s at =
         holds_by (h.shape.coordinators + n) s.journal (shard_journal logs shards rows merged n s at ∙ ap (λ (k : ℕ). journal (k + n) (reverse rows)) are.coordinators)
         (shard_holds content images limit count held now h (h.shape.coordinators + n) s (are.shards_at n s at) (subst (λ (k : ℕ). OfTold (now (k + n)) (λ d. d ≡ s.disk)) are.coordinators (closed_shards n s at)))
@@ -95,7 +94,7 @@ module _ {D : Type 0} (content : D → Option (List ℕ)) (images : D → List �
           ]
     ]
 
-module _ {D : Type 0} (content : D → Option (List ℕ)) (images : D → List ℕ → Type 0) (limit count : D → ℕ) (held : ℕ → Option D) (h : Header) (logs : List (LogOf D)) (shards : List (ShardOf D))
+module _ {D : Type 0} (content : D → Option (List ℕ)) (images : D → List ℕ → Type 0) (limit count : D → ℕ) (held : ℕ → Option D) (h : Header) (logs : List (NodeOf D)) (shards : List (NodeOf D))
     (are : AreOpened content images limit count held h logs shards) (mint : List Output) (minted : h.genesis ≡ genesis_id mint) (handed : List FullTx) where
   pub is_audited : (v : Verdict) → HasVerdict h.shape (journals_of logs shards) mint handed v → IsAudited content held mint handed v
   is_audited v has = record {

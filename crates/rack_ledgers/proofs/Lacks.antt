@@ -5,7 +5,7 @@ use Rattle.cbdc_types.specs.Limits.{IsWithinLimits}
 use Rattle.cbdc_types.specs.declared.answer.Answer.{Answer}
 use Rattle.cbdc_types.specs.declared.answer.Answer.TheVariants as answers
 use Rattle.cbdc_model.specs.Records.{Digest, Header}
-use Rattle.coord_log.specs.Logs.{LogOf}
+use Rattle.node_journal.specs.Nodes.{NodeOf}
 use Rattle.rack_ledgers.specs.Asked.{IsCoordinator, IsShardNode}
 use Rattle.rack_ledgers.specs.Places.{EachFrom, IsOpening}
 use Rattle.rack_ledgers.specs.Racked.{OfTold, FailsFirst}
@@ -45,7 +45,7 @@ module _ {D : Type 0} (content : D → Option (List ℕ)) (images : D → List �
         cause = λ was told. fails.1 was (kept ∙ told);
       })
 
-  pub lacks_log : (held mid : ℕ → Option D) (before between now after : ℕ → ℕ) (h : Header) (lead : LogOf D) (id : Option Digest) (from end : ℕ) (e : Answer) → from ≡ 1 → end ≡ h.shape.coordinators
+  pub lacks_log : (held mid : ℕ → Option D) (before between now after : ℕ → ℕ) (h : Header) (lead : NodeOf D) (id : Option Digest) (from end : ℕ) (e : Answer) → from ≡ 1 → end ≡ h.shape.coordinators
       → ((n : ℕ) → 1 ≤ n → mid n ≡ held n) → ((n : ℕ) → before n ≤ between n) → ((n : ℕ) → now n ≤ after n) → h.node ≡ 0 → IsWithinLimits h.shape → IsMintOf id h → IsLogAt content images limit count held h 0 lead
       → FailsFirst
       (OpensLog content images limit count mid between h)
@@ -66,7 +66,7 @@ module _ {D : Type 0} (content : D → Option (List ℕ)) (images : D → List �
         refused = refused_later held mid before between now after IsCoordinator (Some h) f.node (length (lead ∷ f.before)) e place (kept f.node (omega (arith, place))) (later f.node) (longer f.node) f.fails;
       }
 
-  pub lacks_shard : (held mid : ℕ → Option D) (before between now after : ℕ → ℕ) (h : Header) (logs : List (LogOf D)) (id : Option Digest) (from end : ℕ) (e : Answer) → from ≡ h.shape.coordinators → end ≡ h.shape.coordinators + h.shape.shards
+  pub lacks_shard : (held mid : ℕ → Option D) (before between now after : ℕ → ℕ) (h : Header) (logs : List (NodeOf D)) (id : Option Digest) (from end : ℕ) (e : Answer) → from ≡ h.shape.coordinators → end ≡ h.shape.coordinators + h.shape.shards
       → ((n : ℕ) → h.shape.coordinators ≤ n → mid n ≡ held n) → ((n : ℕ) → before n ≤ between n) → ((n : ℕ) → now n ≤ after n) → h.node ≡ 0 → IsWithinLimits h.shape → IsMintOf id h → length logs ≡ h.shape.coordinators
       → ByPlace (IsLogAt content images limit count held h) logs
       → FailsFirst

@@ -14,11 +14,10 @@ use Rattle.record_log.specs.Exact.{IsFirst}
 use Rattle.gate_journal.specs.Rows.{filling}
 use Rattle.gate_journal.proofs.Once.{tail_is, row_once}
 use Rattle.record_log.proofs.LogSizes.{first_small}
-use Rattle.coord_log.specs.Logs.{LogOf, HoldsJournal as LogHoldsJournal}
+use Rattle.node_journal.specs.Nodes.{NodeOf, HoldsJournal, HoldsWith}
 use Rattle.coord_log.specs.Opening.{IsNoCoord, IsCoordJournal, IsGenesis}
 use Rattle.shard_node.specs.Opening.{IsNoShard, IsShardJournal, IsStart}
 use Rattle.rack_ledgers.proofs.Wholes.{one_first}
-use Rattle.shard_node.specs.Shards.{ShardOf, HoldsJournal, HoldsWith}
 use Rattle.std.specs.Prelude.{IsSome, IsTrue, ◌↔◌}
 use Rattle.std.proofs.lemmas.Bool.{false≢true}
 use Rattle.rack_ledgers.specs.Places.{IsOpening}
@@ -66,7 +65,7 @@ shard_for_coordinator node ledger limit bytes kept J is fits =
     (refl, refl, record { journal = J; is = record { opens = is.opens; limits = is.limits; journal = is.journal }; fits = fits; differs = inr (λ below. absurd (omega (arith, below, is.shard.0))) })
 
 -- a shard that was opened tells its content
-pub shard_told : {D : Type 0} (content : D → Option (List ℕ)) (images : D → List ℕ → Type 0) (n : ShardOf D) → n.flight ≡ None → HoldsJournal content images n → IsSome (content n.disk)
+pub shard_told : {D : Type 0} (content : D → Option (List ℕ)) (images : D → List ℕ → Type 0) (n : NodeOf D) → n.flight ≡ None → HoldsJournal content images n → IsSome (content n.disk)
 shard_told content images n none holds =
     let whole = subst (λ (o : Option Record). HoldsWith o (content n.disk) (images n.disk) n.gate n.journal) none holds in
     subst (λ (o : Option (List ℕ)). IsSome o) (sym whole.told) (search rules)
@@ -147,7 +146,7 @@ not_both_kinds bytes start genesis =
     one_kind genesis.what (subst IsStart one start.has) genesis.has
 
 -- a coordinator that was opened tells its content
-pub coordinator_told : {D : Type 0} (content : D → Option (List ℕ)) (images : D → List ℕ → Type 0) (l : LogOf D) → l.broken ≡ None → LogHoldsJournal content images l → IsSome (content l.disk)
+pub coordinator_told : {D : Type 0} (content : D → Option (List ℕ)) (images : D → List ℕ → Type 0) (l : NodeOf D) → l.broken ≡ None → HoldsJournal content images l → IsSome (content l.disk)
 coordinator_told content images l none holds = subst (λ (o : Option (List ℕ)). IsSome o) (sym (holds.reads none).told) (search rules)
 
 -- a header that is kept, told in an answer

@@ -8,7 +8,7 @@ use Rattle.cbdc_model.specs.Records.{Digest, Shape, Header, Record}
 use Rattle.cbdc_model.specs.History.{header_of}
 use Rattle.cbdc_model.specs.Room.{kept_room}
 use Rattle.cbdc_model.specs.Due.{used_of}
-use Rattle.coord_log.specs.Logs.{LogOf}
+use Rattle.node_journal.specs.Nodes.{NodeOf}
 use Rattle.rack_ledgers.specs.Asked.{asked_of, IsCoordinator, IsShardNode}
 use Rattle.rack_ledgers.specs.Refused.{IsNodeJournal, IsNoNode}
 use Rattle.rack_ledgers.specs.Ledgers.{ByPlace, IsLogAt, IsRefused, IsMintOf, HasOtherMint, LacksLog, LacksShard, IsUnopenedBy}
@@ -45,13 +45,13 @@ module _ {D : Type 0} (content : D → Option (List ℕ)) (images : D → List �
         node_stands (header_of K g n) (J n) Is ledger (limit t.0) t.2.0 a t.2.2 asked is told (λ full. room full n low t.0 t.1) (refused.cause t.0 t.1 t.2.0 t.2.1)
 
     -- node 0 as it is opened has the header of the ledger
-    lead_is : (h : Header) (l : LogOf D) → IsLogAt content images limit count held h 0 l → l.header ≡ header_of K g 0
+    lead_is : (h : Header) (l : NodeOf D) → IsLogAt content images limit count held h 0 l → l.header ≡ header_of K g 0
     lead_is h l log =
         let t = tell.each 0 (omega (arith, tell.limits.some_coordinator)) in
         let opened = ((log.opened t.0 t.1).stands t.2.0 t.2.1).0 in
         (opens_once_law l.header (header_of K g 0) l.journal (J 0) t.2.0 opened.limits tell.limits opened.journal t.2.2.journal opened.opens t.2.2.opens).0
 
-    first_is : (h : Header) (logs : List (LogOf D)) → 1 ≤ length logs → ByPlace (IsLogAt content images limit count held h) logs → header_of h.shape h.genesis 0 ≡ header_of K g 0
+    first_is : (h : Header) (logs : List (NodeOf D)) → 1 ≤ length logs → ByPlace (IsLogAt content images limit count held h) logs → header_of h.shape h.genesis 0 ≡ header_of K g 0
     first_is h logs some logs_at = elim ((slice_get_cases logs 0).1) [
       | inl here ↦ let log = logs_at 0 here.0 here.2 in sym log.header ∙ lead_is h here.0 log
       | inr past ↦ absurd (omega (arith, past.0, some))

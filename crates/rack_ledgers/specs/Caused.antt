@@ -10,14 +10,13 @@ use Rattle.cbdc_model.specs.After.{IsJournal}
 use Rattle.cbdc_model.specs.History.{header_of, IsOrdered, IsHistoryOf}
 use Rattle.audit.specs.Rows.{journal_in}
 use Rattle.audit.specs.Walks.{AllCaused, IsFirstUncaused}
-use Rattle.coord_log.specs.Logs.{LogOf}
-use Rattle.shard_node.specs.Shards.{ShardOf}
+use Rattle.node_journal.specs.Nodes.{NodeOf}
 use Rattle.rack_ledgers.specs.Racked.{OfTold}
 use Rattle.rack_ledgers.specs.Refused.{IsNodeJournal}
 use Rattle.rack_ledgers.specs.Ledgers.{AreOpened, IsUnopened}
 
 -- the journals of all nodes, the coordinators first, each with its oldest record first
-abbrev pub journals_of : {D : Type 0} → List (LogOf D) → List (ShardOf D) → List (List Record)
+abbrev pub journals_of : {D : Type 0} → List (NodeOf D) → List (NodeOf D) → List (List Record)
 journals_of logs shards = map (λ l. reverse l.journal) logs ++ map (λ s. reverse s.journal) shards
 
 -- the rows, the oldest first, are the history of these journals
@@ -57,8 +56,8 @@ pub record IsCausedLedger {D : Type 0} (content : D → Option (List ℕ)) (held
 -- all nodes are opened, and the answer is the first place of their history that is not caused
 pub record IsUnsound {D : Type 0} (content : D → Option (List ℕ)) (images : D → List ℕ → Type 0) (limit count : D → ℕ) (held : ℕ → Option D) (answer : Answer) : Type 0 where
   pub header : Header
-  pub logs : List (LogOf D)
-  pub shards : List (ShardOf D)
+  pub logs : List (NodeOf D)
+  pub shards : List (NodeOf D)
   pub opened : AreOpened content images limit count held header logs shards
   pub place : ℕ
   pub told : answer ≡ answers.Unsound place Cause

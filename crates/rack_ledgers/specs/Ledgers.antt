@@ -9,9 +9,8 @@ use Rattle.cbdc_model.specs.After.{IsJournal}
 use Rattle.cbdc_model.specs.History.{header_of}
 use Rattle.cbdc_model.specs.Room.{kept_room}
 use Rattle.cbdc_model.specs.Due.{used_of}
-use Rattle.coord_log.specs.Logs.{LogOf, HoldsJournal as HoldsLog}
+use Rattle.node_journal.specs.Nodes.{NodeOf, HoldsJournal}
 use Rattle.coord_log.specs.Opening.{IsCoordJournal}
-use Rattle.shard_node.specs.Shards.{ShardOf, HoldsJournal as HoldsShard}
 use Rattle.shard_node.specs.Opening.{IsShardJournal}
 use Rattle.rack_ledgers.specs.Asked.{IsCoordinator, IsShardNode}
 use Rattle.rack_ledgers.specs.Places.{IsOpening}
@@ -23,7 +22,7 @@ abbrev pub ByPlace : {N : Type 0} → (ℕ → N → Type 0) → List N → Type
 ByPlace P nodes = (n : ℕ) (x : _) → slice_get nodes n ≡ Some x → P n x
 
 -- a coordinator of the ledger with this header has this place, and stands for what was told of its disk
-pub record IsLogAt {D : Type 0} (content : D → Option (List ℕ)) (images : D → List ℕ → Type 0) (limit count : D → ℕ) (held : ℕ → Option D) (h : Header) (place : ℕ) (l : LogOf D) : Type 0 where
+pub record IsLogAt {D : Type 0} (content : D → Option (List ℕ)) (images : D → List ℕ → Type 0) (limit count : D → ℕ) (held : ℕ → Option D) (h : Header) (place : ℕ) (l : NodeOf D) : Type 0 where
   pub header : l.header ≡ header_of h.shape h.genesis place
   pub journal : IsJournal l.header l.journal
   pub flight : l.flight ≡ None
@@ -32,20 +31,20 @@ pub record IsLogAt {D : Type 0} (content : D → Option (List ℕ)) (images : D 
   pub faults : l.faults ≡ count l.disk
   pub capacity : l.capacity ≡ limit l.disk
   pub room : used_of l.journal + kept_room l.header.shape l.journal ≤ l.capacity
-  pub opened : OfTold (held place) (λ was. IsOpened content images limit (λ x. x.disk) (λ x c. IsCoordJournal x.header x.journal c × HoldsLog content images x) was l)
+  pub opened : OfTold (held place) (λ was. IsOpened content images limit (λ x. x.disk) (λ x c. IsCoordJournal x.header x.journal c × HoldsJournal content images x) was l)
 
 -- so does a shard
-pub record IsShardAt {D : Type 0} (content : D → Option (List ℕ)) (images : D → List ℕ → Type 0) (limit count : D → ℕ) (held : ℕ → Option D) (h : Header) (place : ℕ) (s : ShardOf D) : Type 0 where
+pub record IsShardAt {D : Type 0} (content : D → Option (List ℕ)) (images : D → List ℕ → Type 0) (limit count : D → ℕ) (held : ℕ → Option D) (h : Header) (place : ℕ) (s : NodeOf D) : Type 0 where
   pub header : s.header ≡ header_of h.shape h.genesis place
   pub journal : IsJournal s.header s.journal
   pub flight : s.flight ≡ None
   pub broken : s.broken ≡ None
   pub since : s.opened ≡ count s.disk
   pub room : used_of s.journal + kept_room s.header.shape s.journal ≤ limit s.disk
-  pub opened : OfTold (held place) (λ was. IsOpened content images limit (λ x. x.disk) (λ x c. IsShardJournal x.header x.journal c × HoldsShard content images x) was s)
+  pub opened : OfTold (held place) (λ was. IsOpened content images limit (λ x. x.disk) (λ x c. IsShardJournal x.header x.journal c × HoldsJournal content images x) was s)
 
 -- these are all coordinators and all shards of the ledger with this header, which is that of node 0
-pub record AreOpened {D : Type 0} (content : D → Option (List ℕ)) (images : D → List ℕ → Type 0) (limit count : D → ℕ) (held : ℕ → Option D) (h : Header) (logs : List (LogOf D)) (shards : List (ShardOf D)) : Type 0 where
+pub record AreOpened {D : Type 0} (content : D → Option (List ℕ)) (images : D → List ℕ → Type 0) (limit count : D → ℕ) (held : ℕ → Option D) (h : Header) (logs : List (NodeOf D)) (shards : List (NodeOf D)) : Type 0 where
   pub first : h.node ≡ 0
   pub limits : IsWithinLimits h.shape
   pub coordinators : length logs ≡ h.shape.coordinators
@@ -71,7 +70,7 @@ IsOtherMint (Some id) h answer = (h.genesis ≢ id) × (answer ≡ answers.Forei
 
 -- node 0 is opened, and another mint than the one with this id began its ledger
 pub record HasOtherMint {D : Type 0} (content : D → Option (List ℕ)) (images : D → List ℕ → Type 0) (limit count : D → ℕ) (held : ℕ → Option D) (id : Option Digest) (answer : Answer) : Type 0 where
-  pub lead : LogOf D
+  pub lead : NodeOf D
   pub first : lead.header.node ≡ 0
   pub lead_at : IsLogAt content images limit count held lead.header 0 lead
   pub other : IsOtherMint id lead.header answer
@@ -80,7 +79,7 @@ pub record HasOtherMint {D : Type 0} (content : D → Option (List ℕ)) (images
 -- one is not
 pub record LacksLog {D : Type 0} (content : D → Option (List ℕ)) (images : D → List ℕ → Type 0) (limit count : D → ℕ) (held : ℕ → Option D) (before now : ℕ → ℕ) (id : Option Digest) (answer : Answer) : Type 0 where
   pub header : Header
-  pub logs : List (LogOf D)
+  pub logs : List (NodeOf D)
   pub first : header.node ≡ 0
   pub limits : IsWithinLimits header.shape
   pub minted : IsMintOf id header
@@ -92,8 +91,8 @@ pub record LacksLog {D : Type 0} (content : D → Option (List ℕ)) (images : D
 -- all coordinators and the shards before this one are opened, of a ledger that the mint with this id began, and why this one is not
 pub record LacksShard {D : Type 0} (content : D → Option (List ℕ)) (images : D → List ℕ → Type 0) (limit count : D → ℕ) (held : ℕ → Option D) (before now : ℕ → ℕ) (id : Option Digest) (answer : Answer) : Type 0 where
   pub header : Header
-  pub logs : List (LogOf D)
-  pub shards : List (ShardOf D)
+  pub logs : List (NodeOf D)
+  pub shards : List (NodeOf D)
   pub first : header.node ≡ 0
   pub limits : IsWithinLimits header.shape
   pub minted : IsMintOf id header

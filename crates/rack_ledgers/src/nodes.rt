@@ -67,7 +67,7 @@ fn coordinator_instead<D: Disk>(
 }
 
 impl<D: Disk> OnDisk<D> for CoordLog<D> {
-    ghost use Rattle.coord_log.specs.Logs.{HoldsJournal};
+    ghost use Rattle.node_journal.specs.Nodes.{HoldsJournal};
     ghost use Rattle.coord_log.specs.Opening.{IsCoordJournal};
     ghost use Rattle.cbdc_model.specs.After.{IsJournal};
     ghost use Rattle.cbdc_model.specs.Room.{kept_room};
@@ -118,7 +118,6 @@ impl<D: Disk> OnDisk<D> for CoordLog<D> {
 }
 
 impl<D: Disk> OnDisk<D> for ShardNode<D> {
-    ghost use Rattle.shard_node.specs.Shards.{HoldsJournal};
     ghost use Rattle.shard_node.specs.Opening.{IsShardJournal};
     ghost use Rattle.cbdc_model.specs.After.{IsJournal};
     ghost use Rattle.cbdc_model.specs.Room.{kept_room};

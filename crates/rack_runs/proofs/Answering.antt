@@ -10,8 +10,7 @@ use Rattle.cbdc_model.specs.Lanes.{IsEnd}
 use Rattle.lane_driver.specs.declared.fault.LaneFault.{LaneFault}
 use Rattle.lane_driver.specs.declared.fault.LaneFaultKind.{LaneFaultKind}
 use Rattle.lane_driver.specs.declared.fault.LaneFaultKind.TheVariants.{DiskFault as DiskStopped, Full as NoRoom, ClockEnd as NoStamp, Memory as NoMemory}
-use Rattle.coord_log.specs.Logs.{LogOf}
-use Rattle.shard_node.specs.Shards.{ShardOf}
+use Rattle.node_journal.specs.Nodes.{NodeOf}
 use Rattle.rack_ledgers.specs.Racked.{OfTold, SameRoom}
 use Rattle.rack_ledgers.specs.Ledgers.{ByPlace, AreOpened}
 use Rattle.rack_ledgers.specs.Caused.{journals_of as lent_journals, AreCaused}
@@ -142,7 +141,7 @@ none_before o x none (inr now) = now
 -- ---- on a rack
 
 module _ {D : Type 0} (content : D → Option (List ℕ)) (images : D → List ℕ → Type 0) (limit count : D → ℕ) (held back : ℕ → Option D) (h g : Header)
-    (logs now : List (LogOf D)) (shards after : List (ShardOf D)) (are : AreOpened content images limit count held h logs shards) (caused : AreCaused h.shape (lent_journals logs shards))
+    (logs now : List (NodeOf D)) (shards after : List (NodeOf D)) (are : AreOpened content images limit count held h logs shards) (caused : AreCaused h.shape (lent_journals logs shards))
     (is : IsLedger g now after) (shape : g.shape ≡ h.shape)
     (logs_back : ByPlace (λ n l. OfTold (back n) (λ d. d ≡ l.disk)) now) (shards_back : ByPlace (λ s x. OfTold (back (length now + s)) (λ d. d ≡ x.disk)) after)
     (stored : AreStored content images logs shards → AreStored content images now after) (seen : AreSeen count limit now after) (before behind : ℕ → ℕ)
@@ -151,7 +150,7 @@ module _ {D : Type 0} (content : D → Option (List ℕ)) (images : D → List �
   abbrev History : List Row
   History = reverse caused.rows
 
-  entry : journals_of count limit h.shape logs shards ≡ (λ n. journal n History)
+  entry : journals_of h.shape logs shards ≡ (λ n. journal n History)
   entry = λ i n. same_journals content images limit count held h logs shards are caused n i
 
   -- what is known at exit of the disks' counts since entry, and of what they may hold
@@ -161,19 +160,19 @@ module _ {D : Type 0} (content : D → Option (List ℕ)) (images : D → List �
   abbrev Holds : ℕ → ℕ → Type 0
   Holds n c = OfTold (held n) (λ d. c ≡ limit d)
 
-  risen : (n : ℕ) → n < node_count h.shape → HaveFailed (opened_of count limit h.shape logs shards) (faults_of count limit h.shape now after) n → Rises n
+  risen : (n : ℕ) → n < node_count h.shape → HaveFailed (opened_of h.shape logs shards) (faults_of h.shape now after) n → Rises n
   risen = have_risen content images limit count held h logs now shards after are g shape is seen.counts before behind logs_since shards_since logs_counted shards_counted
 
-  may : (n c : ℕ) → n < node_count h.shape → MayHold (capacity_of count limit h.shape logs shards) n c → Holds n c
+  may : (n c : ℕ) → n < node_count h.shape → MayHold (capacity_of h.shape logs shards) n c → Holds n c
   may n c inside is_so = may_hold content images limit count held h logs shards are n c inside is_so
 
   -- what the disks that are back have room for
-  rooms_back : HaveRoom limit back h.shape (journals_of count limit h.shape now after)
-  rooms_back = subst (λ k. HaveRoom limit back k (journals_of count limit k now after)) shape (rooms_each content images limit count back g now after is seen.log_rooms seen.shard_rooms logs_back shards_back)
+  rooms_back : HaveRoom limit back h.shape (journals_of h.shape now after)
+  rooms_back = subst (λ k. HaveRoom limit back k (journals_of k now after)) shape (rooms_each content images limit count back g now after is seen.log_rooms seen.shard_rooms logs_back shards_back)
 
   -- what was taken, and how it was left
-  pub took : HaveRoom limit held h.shape (journals_of count limit h.shape logs shards) → ((n : ℕ) → n < node_count h.shape → SameRoom limit (held n) (back n)) → ((n : ℕ) → node_count h.shape ≤ n → back n ≡ held n)
-      → ((n : ℕ) → IsEnd (journals_of count limit h.shape logs shards n) (journals_of count limit h.shape now after n)) → AreChecked count limit h.shape now after → AreQuiet now after → TookLedger content images limit held back
+  pub took : HaveRoom limit held h.shape (journals_of h.shape logs shards) → ((n : ℕ) → n < node_count h.shape → SameRoom limit (held n) (back n)) → ((n : ℕ) → node_count h.shape ≤ n → back n ≡ held n)
+      → ((n : ℕ) → IsEnd (journals_of h.shape logs shards n) (journals_of h.shape now after n)) → AreChecked h.shape now after → AreQuiet now after → TookLedger content images limit held back
   took room same_room spared grows checked quiet = record {
     ledger = record {
       shape = h.shape;
@@ -183,11 +182,11 @@ module _ {D : Type 0} (content : D → Option (List ℕ)) (images : D → List �
       caused = caused.caused;
     };
     room = subst (λ L. HaveRoom limit held h.shape L) entry room;
-    exit = journals_of count limit h.shape now after;
-    grows = subst (λ L. (n : ℕ) → IsEnd (L n) (journals_of count limit h.shape now after n)) entry grows;
+    exit = journals_of h.shape now after;
+    grows = subst (λ L. (n : ℕ) → IsEnd (L n) (journals_of h.shape now after n)) entry grows;
     caused = stays_caused content images limit count h g logs now shards after (is_ledger content images limit count held h logs shards are) is shape checked grows;
     disks = λ tells.
-        subst (λ k. HoldsEach images back k (journals_of count limit k now after)) shape
+        subst (λ k. HoldsEach images back k (journals_of k now after)) shape
         (holds_each content images limit count back g now after is (stored (told_stored content images limit count held h logs shards are tells)) logs_back shards_back quiet);
     rooms = rooms_back;
     same_room = same_room;
@@ -196,24 +195,24 @@ module _ {D : Type 0} (content : D → Option (List ℕ)) (images : D → List �
 
   -- what was in flight flies where the disk has failed since
   abbrev Flown : Type 0
-  Flown = (n : ℕ) (r : Record) → flights_of count limit h.shape now after n ≡ Some r → HaveFailed (opened_of count limit h.shape logs shards) (faults_of count limit h.shape now after) n
+  Flown = (n : ℕ) (r : Record) → flights_of h.shape now after n ≡ Some r → HaveFailed (opened_of h.shape logs shards) (faults_of h.shape now after) n
 
-  pub lane_fault : {Done : Type 0} (d : Deed Done) → ((lane : ℕ) (txs : List Compact) → d.next h.shape (journals_of count limit h.shape logs shards) (journals_of count limit h.shape now after) lane txs → FitsBatch h.shape txs)
-      → LeavesAll d h.shape (journals_of count limit h.shape logs shards) (journals_of count limit h.shape now after) (flights_of count limit h.shape logs shards) (flights_of count limit h.shape now after)
-      (HaveFailed (opened_of count limit h.shape logs shards) (faults_of count limit h.shape now after)) → Flown → (a : Answer)
-      → IsLaneAnswer h.shape (d.next h.shape (journals_of count limit h.shape logs shards) (journals_of count limit h.shape now after)) (journals_of count limit h.shape logs shards) (journals_of count limit h.shape now after)
-      (HaveFailed (opened_of count limit h.shape logs shards) (faults_of count limit h.shape now after)) (MayHold (capacity_of count limit h.shape logs shards)) a
-      → IsLeastAnswer (EndsWork d h.shape (journals_of count limit h.shape logs shards) (journals_of count limit h.shape now after)
-      (HaveFailed (opened_of count limit h.shape logs shards) (faults_of count limit h.shape now after)) (MayHold (capacity_of count limit h.shape logs shards))) a
-      → HaveRoom limit held h.shape (journals_of count limit h.shape logs shards) → ((n : ℕ) → n < node_count h.shape → SameRoom limit (held n) (back n)) → AreChecked count limit h.shape now after
-      → OfShown content held (IsCutShort images limit back d.handed (journals_of count limit h.shape now after)) → ((n : ℕ) → node_count h.shape ≤ n → back n ≡ held n)
+  pub lane_fault : {Done : Type 0} (d : Deed Done) → ((lane : ℕ) (txs : List Compact) → d.next h.shape (journals_of h.shape logs shards) (journals_of h.shape now after) lane txs → FitsBatch h.shape txs)
+      → LeavesAll d h.shape (journals_of h.shape logs shards) (journals_of h.shape now after) (flights_of h.shape logs shards) (flights_of h.shape now after)
+      (HaveFailed (opened_of h.shape logs shards) (faults_of h.shape now after)) → Flown → (a : Answer)
+      → IsLaneAnswer h.shape (d.next h.shape (journals_of h.shape logs shards) (journals_of h.shape now after)) (journals_of h.shape logs shards) (journals_of h.shape now after)
+      (HaveFailed (opened_of h.shape logs shards) (faults_of h.shape now after)) (MayHold (capacity_of h.shape logs shards)) a
+      → IsLeastAnswer (EndsWork d h.shape (journals_of h.shape logs shards) (journals_of h.shape now after)
+      (HaveFailed (opened_of h.shape logs shards) (faults_of h.shape now after)) (MayHold (capacity_of h.shape logs shards))) a
+      → HaveRoom limit held h.shape (journals_of h.shape logs shards) → ((n : ℕ) → n < node_count h.shape → SameRoom limit (held n) (back n)) → AreChecked h.shape now after
+      → OfShown content held (IsCutShort images limit back d.handed (journals_of h.shape now after)) → ((n : ℕ) → node_count h.shape ≤ n → back n ≡ held n)
       → IsLaneFault content images limit held back before behind d.next (EndsWork d) (BeginsWork d) d.handed a
   lane_fault d fits leaves flown a cause least room same_room checked kept spared =
       let K : Shape = h.shape in
-      let E : ℕ → List Record = journals_of count limit h.shape logs shards in
-      let X : ℕ → List Record = journals_of count limit h.shape now after in
-      let failed : ℕ → Type 0 = HaveFailed (opened_of count limit h.shape logs shards) (faults_of count limit h.shape now after) in
-      let holds : ℕ → ℕ → Type 0 = MayHold (capacity_of count limit h.shape logs shards) in
+      let E : ℕ → List Record = journals_of h.shape logs shards in
+      let X : ℕ → List Record = journals_of h.shape now after in
+      let failed : ℕ → Type 0 = HaveFailed (opened_of h.shape logs shards) (faults_of h.shape now after) in
+      let holds : ℕ → ℕ → Type 0 = MayHold (capacity_of h.shape logs shards) in
       record {
         ledger = record {
           shape = h.shape;
@@ -226,13 +225,13 @@ module _ {D : Type 0} (content : D → Option (List ℕ)) (images : D → List �
         grows = subst (λ L. (n : ℕ) → IsEnd (L n) (X n)) entry leaves.grows;
         caused = stays_caused content images limit count h g logs now shards after (is_ledger content images limit count held h logs shards are) is shape checked leaves.grows;
         prepared = subst (λ L. BeginsWork d K L X) entry (leaves.begun are.limits);
-        flights = flights_of count limit h.shape now after;
+        flights = flights_of h.shape now after;
         in_flight = λ n r inside there. risen n inside (flown n r there);
-        prepares = subst (λ L. (n t : ℕ) (b : Batch) (txs : List Compact) → n < node_count K → flights_of count limit h.shape now after n ≡ Some (Prepare t b txs) → IsLaneOf K b.lane × d.next K L X b.lane txs) entry
-            (λ n t b txs inside there. none_before (flights_of count limit h.shape logs shards n) (Prepare t b txs)
+        prepares = subst (λ L. (n t : ℕ) (b : Batch) (txs : List Compact) → n < node_count K → flights_of h.shape now after n ≡ Some (Prepare t b txs) → IsLaneOf K b.lane × d.next K L X b.lane txs) entry
+            (λ n t b txs inside there. none_before (flights_of h.shape logs shards n) (Prepare t b txs)
             (none_fly content images limit count h.shape logs shards (are_quiet content images limit count held h logs shards are) n) (leaves.launches n t b txs there));
         disks = λ tells.
-            subst (λ k. KeepsFlights images back k (journals_of count limit k now after) (flights_of count limit k now after)) shape
+            subst (λ k. KeepsFlights images back k (journals_of k now after) (flights_of k now after)) shape
             (keeps_flights content images limit count back g now after is (stored (told_stored content images limit count held h logs shards are tells)) logs_back shards_back);
         cause = subst (λ L. IsLaneAnswer K (d.next K L X) L X Rises Holds a) entry (answer_by K failed Rises holds Holds risen may (d.next K E X) E X a cause);
         may_come = subst (λ L. MayComeNext K h.genesis (d.next K L X) L X) entry

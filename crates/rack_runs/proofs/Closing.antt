@@ -6,8 +6,7 @@ use Rattle.cbdc_types.specs.declared.answer.Answer.{Answer}
 use Rattle.cbdc_types.specs.declared.answer.Answer.TheVariants as answers
 use Rattle.cbdc_model.specs.Records.{Header, Record}
 use Rattle.cbdc_model.specs.Sights.{HasRisen}
-use Rattle.coord_log.specs.Logs.{LogOf}
-use Rattle.shard_node.specs.Shards.{ShardOf}
+use Rattle.node_journal.specs.Nodes.{NodeOf}
 use Rattle.lane_driver.specs.declared.fault.LaneFault.{LaneFault}
 use Rattle.recovery.specs.declared.resumed.ResumedBatch.{ResumedBatch}
 use Rattle.rack_ledgers.specs.Places.{EachFrom, MayReturn}
@@ -30,63 +29,63 @@ use Rattle.rack_runs.proofs.Flown.{all_flown}
 use Rattle.rack_runs.proofs.Answering.{came_badly, took, lane_fault}
 use Rattle.rack_runs.proofs.Ledgers.{opened_room, ended, cut_short}
 
-module _ {D Done : Type 0} (content : D → Option (List ℕ)) (images : D → List ℕ → Type 0) (limit count : D → ℕ) (held : ℕ → Option D) (h g : Header) (logs now : List (LogOf D)) (shards after : List (ShardOf D))
+module _ {D Done : Type 0} (content : D → Option (List ℕ)) (images : D → List ℕ → Type 0) (limit count : D → ℕ) (held : ℕ → Option D) (h g : Header) (logs now : List (NodeOf D)) (shards after : List (NodeOf D))
     (deed : Deed Done) (resumed : List ResumedBatch) (came : Result Done LaneFault) (are : AreOpened content images limit count held h logs shards) (is : IsLedger g now after) (seen : AreSeen count limit now after)
-    (ran : HasRun count limit content images deed (ledger_of h logs shards) (ledger_of g now after) resumed came) where
+    (ran : HasRun content images deed (ledger_of h logs shards) (ledger_of g now after) resumed came) where
   shape : g.shape ≡ h.shape
   shape = ran.keeps_ledger.shape_same
 
   abbrev E : ℕ → List Record
-  E = journals_of count limit h.shape logs shards
+  E = journals_of h.shape logs shards
 
   abbrev X : ℕ → List Record
-  X = journals_of count limit h.shape now after
+  X = journals_of h.shape now after
 
   abbrev F : ℕ → Option Record
-  F = flights_of count limit h.shape logs shards
+  F = flights_of h.shape logs shards
 
   abbrev failed : ℕ → Type 0
-  failed = HaveFailed (opened_of count limit h.shape logs shards) (faults_of count limit h.shape now after)
+  failed = HaveFailed (opened_of h.shape logs shards) (faults_of h.shape now after)
 
   abbrev holds : ℕ → ℕ → Type 0
-  holds = MayHold (capacity_of count limit h.shape logs shards)
+  holds = MayHold (capacity_of h.shape logs shards)
 
   -- by what was known of the nodes before
-  opened_at : (n : ℕ) → opened_of count limit h.shape now after n ≡ opened_of count limit h.shape logs shards n
-  opened_at = subst (λ k. (n : ℕ) → opened_of count limit k now after n ≡ opened_of count limit h.shape logs shards n) shape ran.keeps_ledger.opened_same
+  opened_at : (n : ℕ) → opened_of h.shape now after n ≡ opened_of h.shape logs shards n
+  opened_at = subst (λ k. (n : ℕ) → opened_of k now after n ≡ opened_of h.shape logs shards n) shape ran.keeps_ledger.opened_same
 
-  opened_is : opened_of count limit h.shape now after ≡ opened_of count limit h.shape logs shards
+  opened_is : opened_of h.shape now after ≡ opened_of h.shape logs shards
   opened_is = λ i n. opened_at n i
 
-  capacity_at : (n : ℕ) → capacity_of count limit h.shape now after n ≡ capacity_of count limit h.shape logs shards n
-  capacity_at = subst (λ k. (n : ℕ) → capacity_of count limit k now after n ≡ capacity_of count limit h.shape logs shards n) shape ran.keeps_ledger.capacity_same
+  capacity_at : (n : ℕ) → capacity_of h.shape now after n ≡ capacity_of h.shape logs shards n
+  capacity_at = subst (λ k. (n : ℕ) → capacity_of k now after n ≡ capacity_of h.shape logs shards n) shape ran.keeps_ledger.capacity_same
 
-  capacity_is : capacity_of count limit h.shape now after ≡ capacity_of count limit h.shape logs shards
+  capacity_is : capacity_of h.shape now after ≡ capacity_of h.shape logs shards
   capacity_is = λ i n. capacity_at n i
 
-  leaves : LeavesAll deed h.shape E X F (flights_of count limit h.shape now after) failed
-  leaves = subst (λ o. LeavesAll deed h.shape E X F (flights_of count limit h.shape now after) (HaveFailed o (faults_of count limit h.shape now after))) opened_is
-      (subst (λ k. LeavesAll deed h.shape E (journals_of count limit k now after) F (flights_of count limit k now after) (HaveFailed (opened_of count limit k now after) (faults_of count limit k now after))) shape ran.leaves)
+  leaves : LeavesAll deed h.shape E X F (flights_of h.shape now after) failed
+  leaves = subst (λ o. LeavesAll deed h.shape E X F (flights_of h.shape now after) (HaveFailed o (faults_of h.shape now after))) opened_is
+      (subst (λ k. LeavesAll deed h.shape E (journals_of k now after) F (flights_of k now after) (HaveFailed (opened_of k now after) (faults_of k now after))) shape ran.leaves)
 
   well : IfOk came (AllWell deed h.shape E X resumed)
-  well = subst (λ k. IfOk came (AllWell deed h.shape E (journals_of count limit k now after) resumed)) shape ran.well
+  well = subst (λ k. IfOk came (AllWell deed h.shape E (journals_of k now after) resumed)) shape ran.well
 
   badly : IfErr came (AllBadly deed h.shape E X failed holds)
   badly = subst (λ c. IfErr came (AllBadly deed h.shape E X failed (MayHold c))) capacity_is
-      (subst (λ o. IfErr came (AllBadly deed h.shape E X (HaveFailed o (faults_of count limit h.shape now after)) (MayHold (capacity_of count limit h.shape now after)))) opened_is
-      (subst (λ k. IfErr came (AllBadly deed h.shape E (journals_of count limit k now after) (HaveFailed (opened_of count limit k now after) (faults_of count limit k now after)) (MayHold (capacity_of count limit k now after)))) shape ran.badly))
+      (subst (λ o. IfErr came (AllBadly deed h.shape E X (HaveFailed o (faults_of h.shape now after)) (MayHold (capacity_of h.shape now after)))) opened_is
+      (subst (λ k. IfErr came (AllBadly deed h.shape E (journals_of k now after) (HaveFailed (opened_of k now after) (faults_of k now after)) (MayHold (capacity_of k now after)))) shape ran.badly))
 
-  checked : AreChecked count limit h.shape now after
-  checked = subst (λ k. AreChecked count limit k now after) shape ran.checked
+  checked : AreChecked h.shape now after
+  checked = subst (λ k. AreChecked k now after) shape ran.checked
 
-  later : (n : ℕ) → faults_of count limit h.shape logs shards n ≤ faults_of count limit h.shape now after n
-  later = subst (λ k. (n : ℕ) → faults_of count limit h.shape logs shards n ≤ faults_of count limit k now after n) shape ran.keeps_ledger.later
+  later : (n : ℕ) → faults_of h.shape logs shards n ≤ faults_of h.shape now after n
+  later = subst (λ k. (n : ℕ) → faults_of h.shape logs shards n ≤ faults_of k now after n) shape ran.keeps_ledger.later
 
   stored : AreStored content images logs shards → AreStored content images now after
   stored = ran.keeps_ledger.held
 
-  flown : (n : ℕ) (r : Record) → flights_of count limit h.shape now after n ≡ Some r → failed n
-  flown n r there = subst (λ o. HasRisen o (faults_of count limit h.shape now after n)) (opened_at n) (all_flown count limit h.shape now after seen.log_flown seen.shard_flown n r there)
+  flown : (n : ℕ) (r : Record) → flights_of h.shape now after n ≡ Some r → failed n
+  flown n r there = subst (λ o. HasRisen o (faults_of h.shape now after n)) (opened_at n) (all_flown h.shape now after seen.log_flown seen.shard_flown n r there)
 
   -- as many nodes as before
   pub logs_are : length now ≡ length logs
@@ -142,10 +141,10 @@ module _ {D Done : Type 0} (content : D → Option (List ℕ)) (images : D → L
 
 -- the same from what a rack told at entry
 module _ {D Done : Type 0} (content : D → Option (List ℕ)) (images : D → List ℕ → Type 0) (limit count : D → ℕ) (deed : Deed Done) (e : AtEntry D) (middle : ℕ → Option D) (can_put : ℕ → ℕ → Type 0) (can_take : ℕ → Type 0)
-    (g : Header) (now : List (LogOf D)) (after : List (ShardOf D)) (is : IsLedger g now after) (seen : AreSeen count limit now after) (behind : LedgerOf D) (same : behind ≡ ledger_of g now after)
+    (g : Header) (now : List (NodeOf D)) (after : List (NodeOf D)) (is : IsLedger g now after) (seen : AreSeen count limit now after) (behind : LedgerOf D) (same : behind ≡ ledger_of g now after)
     (resumed : List ResumedBatch) (came : Result Done LaneFault) (has : HasCome content images limit count deed e middle can_put can_take behind resumed came) where
-  there : HasRun count limit content images deed (ledger_of e.header e.logs e.shards) (ledger_of g now after) resumed came
-  there = subst (λ l. HasRun count limit content images deed (ledger_of e.header e.logs e.shards) l resumed came) same has.ran
+  there : HasRun content images deed (ledger_of e.header e.logs e.shards) (ledger_of g now after) resumed came
+  there = subst (λ l. HasRun content images deed (ledger_of e.header e.logs e.shards) l resumed came) same has.ran
 
   as_many : (length now ≡ length e.logs) × (length after ≡ length e.shards)
   as_many = (
@@ -175,7 +174,7 @@ module _ {D Done : Type 0} (content : D → Option (List ℕ)) (images : D → L
 
 -- ---- as it is opened
 
-abbrev pub at_entry : {D : Type 0} → (ℕ → Option D) → (ℕ → ℕ) → Header → List (LogOf D) → List (ShardOf D) → AtEntry D
+abbrev pub at_entry : {D : Type 0} → (ℕ → Option D) → (ℕ → ℕ) → Header → List (NodeOf D) → List (NodeOf D) → AtEntry D
 at_entry held before h logs shards = record { held = held; before = before; header = h; logs = logs; shards = shards }
 
 module _ {D : Type 0} (content : D → Option (List ℕ)) (images : D → List ℕ → Type 0) (limit count : D → ℕ) (e : AtEntry D) (middle : ℕ → Option D) (can_put : ℕ → ℕ → Type 0) (can_take : ℕ → Type 0) where
@@ -197,8 +196,8 @@ module _ {D : Type 0} (content : D → Option (List ℕ)) (images : D → List �
 
   -- a lane met a fault as open batches were brought to their end
   pub stopped_come : {Done : Type 0} (deed : Deed Done) → IsOpen content images limit count e middle can_put can_take → (first ledger : LedgerOf D) → first ≡ entry_ledger e → (came : Result (Vec ResumedBatch) LaneFault) (f : LaneFault)
-      → came ≡ Err f → HasResumed count limit content images first ledger came → HasCome content images limit count deed e middle can_put can_take ledger [] (Err f)
+      → came ≡ Err f → HasResumed content images first ledger came → HasCome content images limit count deed e middle can_put can_take ledger [] (Err f)
   stopped_come deed begun first ledger same came f is resumed = record {
     begun = begun;
-    ran = stopped_run count limit content images deed (entry_ledger e) ledger [] came f is (subst (λ l. HasResumed count limit content images l ledger came) same resumed);
+    ran = stopped_run content images deed (entry_ledger e) ledger [] came f is (subst (λ l. HasResumed content images l ledger came) same resumed);
   }

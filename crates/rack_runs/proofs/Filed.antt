@@ -292,13 +292,13 @@ nothing_leaves K M F failed idle = record {
 }
 
 -- and that is a work
-pub nothing_worked : {D : Type 0} (count limit : D → ℕ) (content : D → Option (List ℕ)) (images : D → List ℕ → Type 0) (l : LedgerOf D) → AreIdle l.header.shape (journals count limit l) → IsChecked count limit l
-    → HasWorked count limit content images no_deed l l (Ok tt)
-nothing_worked count limit content images l idle checked = record {
+pub nothing_worked : {D : Type 0} (content : D → Option (List ℕ)) (images : D → List ℕ → Type 0) (l : LedgerOf D) → AreIdle l.header.shape (journals l) → IsChecked l
+    → HasWorked content images no_deed l l (Ok tt)
+nothing_worked content images l idle checked = record {
   keeps_ledger = ledger_same l;
   checked = checked;
   quiet = λ was. was;
-  leaves = nothing_leaves l.header.shape (journals count limit l) (flights count limit l) (HaveFailed (opened count limit l) (faults count limit l)) idle;
+  leaves = nothing_leaves l.header.shape (journals l) (flights l) (HaveFailed (opened l) (faults l)) idle;
   well = record { idle = idle; did = λ n. refl };
   badly = tt;
 }

@@ -19,8 +19,7 @@ use Rattle.ledger_laws.proofs.FirstJournals.{never_empty}
 use Rattle.run_laws.specs.Flights.{MayCome}
 use Rattle.run_laws.proofs.Rests.{none_beyond}
 use Rattle.record_log.specs.Held.{OpensToEither}
-use Rattle.coord_log.specs.Logs.{LogOf}
-use Rattle.shard_node.specs.Shards.{ShardOf}
+use Rattle.node_journal.specs.Nodes.{NodeOf}
 use Rattle.rack_ledgers.specs.Ledgers.{ByPlace, AreOpened}
 use Rattle.rack_ledgers.specs.Racked.{OfTold}
 use Rattle.rack_laws.specs.Shown.{Shows, OfShown, KeepsEach, HoldsEach, OpenTo, LogHasRoom, ShardHasRoom, LogFits, ShardFits, HaveRoom, node_count}
@@ -62,7 +61,7 @@ landed_room K mint submissions J flights n now limit inside kept room fits (inr 
     (subst (λ o. IfSome o (λ q. used_of (J n) + need_of K (J n) q ≤ limit)) flies fits))
 
 module _ {D Done : Type 0} (content : D → Option (List ℕ)) (images : D → List ℕ → Type 0) (limit count : D → ℕ) (held back : ℕ → Option D) (h g : Header)
-    (logs now : List (LogOf D)) (shards after : List (ShardOf D)) (deed : Deed Done)
+    (logs now : List (NodeOf D)) (shards after : List (NodeOf D)) (deed : Deed Done)
     (are : AreOpened content images limit count held h logs shards) (is : IsLedger g now after) (shape : g.shape ≡ h.shape)
     (logs_back : ByPlace (λ n l. OfTold (back n) (λ d. d ≡ l.disk)) now) (shards_back : ByPlace (λ s x. OfTold (back (length now + s)) (λ d. d ≡ x.disk)) after)
     (stored : AreStored content images logs shards → AreStored content images now after) where
@@ -72,19 +71,19 @@ module _ {D Done : Type 0} (content : D → Option (List ℕ)) (images : D → L
 
   -- what a run says of its journals, by the shape
   abbrev pub KeepsIt : Shape → Type 0
-  KeepsIt S = OfKept S (journals_of count limit S logs shards) (λ mint submissions. StaysKept S (journals_of count limit S logs shards) (journals_of count limit S now after) mint (submissions ++ joined deed.handed))
+  KeepsIt S = OfKept S (journals_of S logs shards) (λ mint submissions. StaysKept S (journals_of S logs shards) (journals_of S now after) mint (submissions ++ joined deed.handed))
 
   abbrev pub WellIt : List ResumedBatch → Done → Shape → Type 0
-  WellIt resumed done S = AllWell deed S (journals_of count limit S logs shards) (journals_of count limit S now after) resumed done
+  WellIt resumed done S = AllWell deed S (journals_of S logs shards) (journals_of S now after) resumed done
 
   abbrev pub FliesIt : Shape → Type 0
-  FliesIt S = OfKept S (journals_of count limit S logs shards) (FliesWith S (joined deed.handed) (journals_of count limit S logs shards) (journals_of count limit S now after) (flights_of count limit S logs shards) (flights_of count limit S now after))
+  FliesIt S = OfKept S (journals_of S logs shards) (FliesWith S (joined deed.handed) (journals_of S logs shards) (journals_of S now after) (flights_of S logs shards) (flights_of S now after))
 
   abbrev pub OrdersIt : Shape → Type 0
-  OrdersIt S = IsInOrder S (journals_of count limit S logs shards) (journals_of count limit S now after)
+  OrdersIt S = IsInOrder S (journals_of S logs shards) (journals_of S now after)
 
   -- each disk that was told had room for its journal and for what is kept for its open batches
-  pub opened_room : HaveRoom limit held h.shape (journals_of count limit h.shape logs shards)
+  pub opened_room : HaveRoom limit held h.shape (journals_of h.shape logs shards)
   opened_room n inside = elim (cases_lt n h.shape.coordinators) [
     | inl low ↦ λ was told.
         let l = at_place logs n (omega (arith, low, are.coordinators)) in
@@ -101,17 +100,17 @@ module _ {D Done : Type 0} (content : D → Option (List ℕ)) (images : D → L
         subst (λ m. used_of x.0.journal + kept_room x.0.header.shape x.0.journal ≤ m) ((shard.opened was (ap held place ∙ told)).read.room) shard.room in
         let here : used_of x.0.journal + kept_room h.shape x.0.journal ≤ limit was = subst (λ k. used_of x.0.journal + kept_room k x.0.journal ≤ limit was) (ap (λ k. k.shape) shard.header) own in
         subst (λ (J : List Record). used_of J + kept_room h.shape J ≤ limit was)
-        (sym (ap (λ m. journals_of count limit h.shape logs shards m) (sym place) ∙ shard_journal content images limit count h.shape logs shards (n - h.shape.coordinators) x.0 x.1)) here
+        (sym (ap (λ m. journals_of h.shape logs shards m) (sym place) ∙ shard_journal content images limit count h.shape logs shards (n - h.shape.coordinators) x.0 x.1)) here
   ]
 
   module _ (K : Shape) (mint : List Output) (submissions : List FullTx) (E : ℕ → List Record) (within : IsWithinLimits K) (shows : Shows content held K (genesis_id mint) E) (kept : KeptJournals K mint submissions E) where
     shape_is : h.shape ≡ K
     shape_is = same_shape content images limit count held h logs shards are K (genesis_id mint) E within shows
 
-    journals_are : journals_of count limit K logs shards ≡ E
+    journals_are : journals_of K logs shards ≡ E
     journals_are = λ i n. same_journals content images limit count held h logs shards are K (genesis_id mint) E within shows (beyond K mint submissions E kept) n i
 
-    kept_there : KeptJournals K mint submissions (journals_of count limit K logs shards)
+    kept_there : KeptJournals K mint submissions (journals_of K logs shards)
     kept_there = subst (KeptJournals K mint submissions) (sym journals_are) kept
 
     is_stored : AreStored content images now after
@@ -120,30 +119,30 @@ module _ {D Done : Type 0} (content : D → Option (List ℕ)) (images : D → L
       shards_are = shards_held content images limit count held h logs shards are K (genesis_id mint) E within shows;
     })
 
-    disks_keep : KeepsEach images back K (journals_of count limit K now after)
-    disks_keep = subst (λ k. KeepsEach images back k (journals_of count limit k now after)) (shape ∙ shape_is) (keeps_each content images limit count back g now after is is_stored logs_back shards_back)
+    disks_keep : KeepsEach images back K (journals_of K now after)
+    disks_keep = subst (λ k. KeepsEach images back k (journals_of k now after)) (shape ∙ shape_is) (keeps_each content images limit count back g now after is is_stored logs_back shards_back)
 
-    disks_hold : AreQuiet now after → HoldsEach images back K (journals_of count limit K now after)
-    disks_hold quiet = subst (λ k. HoldsEach images back k (journals_of count limit k now after)) (shape ∙ shape_is) (holds_each content images limit count back g now after is is_stored logs_back shards_back quiet)
+    disks_hold : AreQuiet now after → HoldsEach images back K (journals_of K now after)
+    disks_hold quiet = subst (λ k. HoldsEach images back k (journals_of k now after)) (shape ∙ shape_is) (holds_each content images limit count back g now after is is_stored logs_back shards_back quiet)
 
-    disks_fly : (n : ℕ) → n < node_count K → OfTold (back n) (λ d. (c : List ℕ) → images d c → OpensToEither (reverse (journals_of count limit K now after n)) (flights_of count limit K now after n) c)
-    disks_fly = subst (λ k. (n : ℕ) → n < node_count k → OfTold (back n) (λ d. (c : List ℕ) → images d c → OpensToEither (reverse (journals_of count limit k now after n)) (flights_of count limit k now after n) c))
+    disks_fly : (n : ℕ) → n < node_count K → OfTold (back n) (λ d. (c : List ℕ) → images d c → OpensToEither (reverse (journals_of K now after n)) (flights_of K now after n) c)
+    disks_fly = subst (λ k. (n : ℕ) → n < node_count k → OfTold (back n) (λ d. (c : List ℕ) → images d c → OpensToEither (reverse (journals_of k now after n)) (flights_of k now after n) c))
         (shape ∙ shape_is) (keeps_flights content images limit count back g now after is is_stored logs_back shards_back)
 
-    rooms_there : All (LogHasRoom limit) now → All (ShardHasRoom limit) after → HaveRoom limit back K (journals_of count limit K now after)
-    rooms_there log_rooms shard_rooms = subst (λ k. HaveRoom limit back k (journals_of count limit k now after)) (shape ∙ shape_is) (rooms_each content images limit count back g now after is log_rooms shard_rooms logs_back shards_back)
+    rooms_there : All (LogHasRoom limit) now → All (ShardHasRoom limit) after → HaveRoom limit back K (journals_of K now after)
+    rooms_there log_rooms shard_rooms = subst (λ k. HaveRoom limit back k (journals_of k now after)) (shape ∙ shape_is) (rooms_each content images limit count back g now after is log_rooms shard_rooms logs_back shards_back)
 
     -- nothing was in flight at entry
-    may_come : FliesIt h.shape → AllMayCome K mint (submissions ++ joined deed.handed) (journals_of count limit K now after) (flights_of count limit K now after)
+    may_come : FliesIt h.shape → AllMayCome K mint (submissions ++ joined deed.handed) (journals_of K now after) (flights_of K now after)
     may_come flies = subst FliesIt shape_is flies mint submissions kept_there (λ n r there.
-        absurd (let none : flights_of count limit K logs shards n ≡ None = none_fly content images limit count K logs shards (are_quiet content images limit count held h logs shards are) n in
+        absurd (let none : flights_of K logs shards n ≡ None = none_fly content images limit count K logs shards (are_quiet content images limit count held h logs shards are) n in
         let z : None ≡ Some r = sym none ∙ there in cc))
 
-    is_grown : KeepsIt h.shape → IsGrown K mint (submissions ++ joined deed.handed) E (journals_of count limit K now after)
+    is_grown : KeepsIt h.shape → IsGrown K mint (submissions ++ joined deed.handed) E (journals_of K now after)
     is_grown keeps =
         let a = subst KeepsIt shape_is keeps mint submissions kept_there in
         record {
-          grows = λ n. subst (λ L. IsEnd (L n) (journals_of count limit K now after n)) journals_are (a.grows n);
+          grows = λ n. subst (λ L. IsEnd (L n) (journals_of K now after n)) journals_are (a.grows n);
           kept = a.kept;
         }
 
@@ -151,42 +150,42 @@ module _ {D Done : Type 0} (content : D → Option (List ℕ)) (images : D → L
         → WellIt told.resumed.items told.done h.shape → CountAll (map (λ s. s.journal) after) told.unspent → HasEnded images limit back deed told K mint submissions E
     has_ended told keeps orders log_rooms shard_rooms quiet well counted =
         let grown = is_grown keeps in
-        let w : AllWell deed K E (journals_of count limit K now after) told.resumed.items told.done =
-        subst (λ L. AllWell deed K L (journals_of count limit K now after) told.resumed.items told.done) journals_are (subst (WellIt told.resumed.items told.done) shape_is well) in
+        let w : AllWell deed K E (journals_of K now after) told.resumed.items told.done =
+        subst (λ L. AllWell deed K L (journals_of K now after) told.resumed.items told.done) journals_are (subst (WellIt told.resumed.items told.done) shape_is well) in
         record {
-          exit = journals_of count limit K now after;
+          exit = journals_of K now after;
           well = w;
           grown = grown;
           disks = disks_hold (quiet (are_quiet content images limit count held h logs shards are));
           rooms = rooms_there log_rooms shard_rooms;
-          in_order = subst (λ L. IsInOrder K L (journals_of count limit K now after)) journals_are (subst OrdersIt shape_is orders);
-          unspent = subst (λ k. IsUnspentCount k (journals_of count limit k now after) told.unspent) (shape ∙ shape_is) (unspent_counted count limit g now after is told.unspent counted);
-          headline = λ clean. idle_law K mint (submissions ++ joined deed.handed) (journals_of count limit K now after) within.some_shard within.some_lane clean grown.kept w.well.idle;
+          in_order = subst (λ L. IsInOrder K L (journals_of K now after)) journals_are (subst OrdersIt shape_is orders);
+          unspent = subst (λ k. IsUnspentCount k (journals_of k now after) told.unspent) (shape ∙ shape_is) (unspent_counted g now after is told.unspent counted);
+          headline = λ clean. idle_law K mint (submissions ++ joined deed.handed) (journals_of K now after) within.some_shard within.some_lane clean grown.kept w.well.idle;
         }
 
   pub ended : (told : Told Done) → KeepsIt h.shape → OrdersIt h.shape → All (LogHasRoom limit) now → All (ShardHasRoom limit) after → (AreQuiet logs shards → AreQuiet now after)
       → WellIt told.resumed.items told.done h.shape → CountAll (map (λ s. s.journal) after) told.unspent → OfShown content held (HasEnded images limit back deed told)
   ended told keeps orders log_rooms shard_rooms quiet well counted K mint submissions E within shows kept = has_ended K mint submissions E within shows kept told keeps orders log_rooms shard_rooms quiet well counted
 
-  pub cut_short : KeepsIt h.shape → FliesIt h.shape → All (LogHasRoom limit) now → All (ShardHasRoom limit) after → All (LogFits limit) now → All (ShardFits limit) after → OfShown content held (IsCutShort images limit back deed.handed (journals_of count limit h.shape now after))
+  pub cut_short : KeepsIt h.shape → FliesIt h.shape → All (LogHasRoom limit) now → All (ShardHasRoom limit) after → All (LogFits limit) now → All (ShardFits limit) after → OfShown content held (IsCutShort images limit back deed.handed (journals_of h.shape now after))
   cut_short keeps flies log_rooms shard_rooms log_fits shard_fits K mint submissions E within shows kept =
       let grown = is_grown K mint submissions E within shows kept keeps in
       let rooms = rooms_there K mint submissions E within shows kept log_rooms shard_rooms in
-      let fits : HaveFit K (journals_of count limit K now after) (flights_of count limit K now after) = subst (λ k. HaveFit k (journals_of count limit k now after) (flights_of count limit k now after)) (shape ∙ shape_is K mint submissions E within shows kept)
+      let fits : HaveFit K (journals_of K now after) (flights_of K now after) = subst (λ k. HaveFit k (journals_of k now after) (flights_of k now after)) (shape ∙ shape_is K mint submissions E within shows kept)
       (fits_each content images limit count back g now after is log_fits shard_fits logs_back shards_back) in
-      subst (λ k. IsCutShort images limit back deed.handed (journals_of count limit k now after) K mint submissions E) (sym (shape_is K mint submissions E within shows kept)) (record {
+      subst (λ k. IsCutShort images limit back deed.handed (journals_of k now after) K mint submissions E) (sym (shape_is K mint submissions E within shows kept)) (record {
         grown = grown;
         disks = disks_keep K mint submissions E within shows kept;
         rooms = rooms;
         crashes = λ contents left.
-            let came : (X : ℕ → List Record) × OpenTo back K contents X × ((n : ℕ) → IsEnd (journals_of count limit K now after n) (X n)) × KeptJournals K mint (submissions ++ joined deed.handed) X
-            × ((n : ℕ) → LandsOrNot K mint (submissions ++ joined deed.handed) (journals_of count limit K now after) (flights_of count limit K now after) n (X n))
-            = crashed images back K mint (submissions ++ joined deed.handed) (journals_of count limit K now after) (flights_of count limit K now after) (may_come K mint submissions E within shows kept flies)
+            let came : (X : ℕ → List Record) × OpenTo back K contents X × ((n : ℕ) → IsEnd (journals_of K now after n) (X n)) × KeptJournals K mint (submissions ++ joined deed.handed) X
+            × ((n : ℕ) → LandsOrNot K mint (submissions ++ joined deed.handed) (journals_of K now after) (flights_of K now after) n (X n))
+            = crashed images back K mint (submissions ++ joined deed.handed) (journals_of K now after) (flights_of K now after) (may_come K mint submissions E within shows kept flies)
             (disks_fly K mint submissions E within shows kept) contents left within.some_shard grown.kept in (
               came.0,
               came.1,
-              record { grows = λ n. end_trans (E n) (journals_of count limit K now after n) (came.0 n) (grown.grows n) (came.2 n); kept = came.3 },
-              λ n inside d told. landed_room K mint (submissions ++ joined deed.handed) (journals_of count limit K now after) (flights_of count limit K now after) n (came.0 n) (limit d) inside grown.kept (rooms n inside d told) (fits n inside d told) (came.4 n),
+              record { grows = λ n. end_trans (E n) (journals_of K now after n) (came.0 n) (grown.grows n) (came.2 n); kept = came.3 },
+              λ n inside d told. landed_room K mint (submissions ++ joined deed.handed) (journals_of K now after) (flights_of K now after) n (came.0 n) (limit d) inside grown.kept (rooms n inside d told) (fits n inside d told) (came.4 n),
             );
       })
 

@@ -53,9 +53,9 @@ module _ {D : Type 0} (content : D → Option (List ℕ)) (images : D → List �
       are_back : (now : ℕ → ℕ) → AreBack content images limit e.before now e.held back
       are_back now n = same_back content images limit (e.before n) (now n) (e.held n) (back n) (unchanged n)
 
-      refused : (test : Test) (answer : Answer) → test.refuses first.header.shape (journals count limit first) answer → IsTestRefused content images limit e.held back test answer
+      refused : (test : Test) (answer : Answer) → test.refuses first.header.shape (journals first) answer → IsTestRefused content images limit e.held back test answer
       refused test answer told =
-          let own : test.refuses e.header.shape (journals count limit (entry_ledger e)) answer = subst (λ (x : LedgerOf D). test.refuses x.header.shape (journals count limit x) answer) made told in
+          let own : test.refuses e.header.shape (journals (entry_ledger e)) answer = subst (λ (x : LedgerOf D). test.refuses x.header.shape (journals x) answer) made told in
           record {
             ledger = record {
               shape = e.header.shape;
@@ -69,14 +69,14 @@ module _ {D : Type 0} (content : D → Option (List ℕ)) (images : D → List �
           }
 
       -- the test refused the ledger, or there was no memory for it
-      pub not_begun : {Done : Type 0} (d : Deed Done) (test : Test) (now : ℕ → ℕ) (answer : Answer) → (answer ≡ answers.Memory) ⊎ test.refuses first.header.shape (journals count limit first) answer
+      pub not_begun : {Done : Type 0} (d : Deed Done) (test : Test) (now : ℕ → ℕ) (answer : Answer) → (answer ≡ answers.Memory) ⊎ test.refuses first.header.shape (journals first) answer
           → WhyNotBegun content images limit count e.held back e.before now d test answer
       not_begun d test now answer (inl memory) = inl (inl (inr (inr memory), are_back now))
       not_begun d test now answer (inr told) = inr (refused test answer told)
 
   -- what holds of the opened ledger holds of whatever kept ledger the rack showed
-  pub passed_shown : (P : Shape → (ℕ → List Record) → Type 0) → P e.header.shape (journals count limit (entry_ledger e)) → OfShown content e.held (λ K mint submissions E. P K E)
+  pub passed_shown : (P : Shape → (ℕ → List Record) → Type 0) → P e.header.shape (journals (entry_ledger e)) → OfShown content e.held (λ K mint submissions E. P K E)
   passed_shown P told K mint submissions E within shows kept =
-      let there : P K (journals_of count limit K e.logs e.shards) =
-      subst (λ S. P S (journals_of count limit S e.logs e.shards)) (same_shape content images limit count e.held e.header e.logs e.shards begun.nodes K (genesis_id mint) E within shows) told in
+      let there : P K (journals_of K e.logs e.shards) =
+      subst (λ S. P S (journals_of S e.logs e.shards)) (same_shape content images limit count e.held e.header e.logs e.shards begun.nodes K (genesis_id mint) E within shows) told in
       subst (P K) (λ i n. shown_journals content images limit count e.held e.header e.logs e.shards begun.nodes K (genesis_id mint) E within shows (beyond K mint submissions E kept) n i) there

@@ -63,18 +63,18 @@ module _ {Done : Type 0} (d : Deed Done) (K : Shape) (E M X : ℕ → List Recor
     );
   }
 
-module _ {D Done : Type 0} (count limit : D → ℕ) (content : D → Option (List ℕ)) (images : D → List ℕ → Type 0) (d : Deed Done) where
+module _ {D Done : Type 0} (content : D → Option (List ℕ)) (images : D → List ℕ → Type 0) (d : Deed Done) where
   -- a lane met a fault as open batches were brought to their end: no work was begun
   pub stopped_run : (before now : LedgerOf D) (resumed : List ResumedBatch) (came : Result (Vec ResumedBatch) LaneFault) (e : LaneFault) → came ≡ Err e
-      → HasResumed count limit content images before now came → HasRun count limit content images d before now resumed (Err e)
+      → HasResumed content images before now came → HasRun content images d before now resumed (Err e)
   stopped_run before now resumed came e is r =
       let K : Shape = before.header.shape in
-      let E : ℕ → List Record = journals count limit before in
-      let M : ℕ → List Record = journals count limit now in
-      let F : ℕ → Option Record = flights count limit before in
-      let G : ℕ → Option Record = flights count limit now in
-      let failed : ℕ → Type 0 = HaveFailed (opened count limit now) (faults count limit now) in
-      let holds : ℕ → ℕ → Type 0 = MayHold (capacity count limit now) in
+      let E : ℕ → List Record = journals before in
+      let M : ℕ → List Record = journals now in
+      let F : ℕ → Option Record = flights before in
+      let G : ℕ → Option Record = flights now in
+      let failed : ℕ → Type 0 = HaveFailed (opened now) (faults now) in
+      let holds : ℕ → ℕ → Type 0 = MayHold (capacity now) in
       record {
         keeps_ledger = r.keeps_ledger;
         checked = r.checked;
@@ -99,19 +99,19 @@ module _ {D Done : Type 0} (count limit : D → ℕ) (content : D → Option (Li
 
   -- open batches are at their end, and the work was done behind that
   pub worked_run : (before middle now : LedgerOf D) (rs : Vec ResumedBatch) (came : Result (Vec ResumedBatch) LaneFault) (did : Result Done LaneFault) → came ≡ Ok rs
-      → HasResumed count limit content images before middle came → HasWorked count limit content images d middle now did
-      → HasRun count limit content images d before now rs.items did
+      → HasResumed content images before middle came → HasWorked content images d middle now did
+      → HasRun content images d before now rs.items did
   worked_run before middle now rs came did is r w =
       let K : Shape = before.header.shape in
-      let E : ℕ → List Record = journals count limit before in
-      let M : ℕ → List Record = journals count limit middle in
-      let X : ℕ → List Record = journals count limit now in
-      let F : ℕ → Option Record = flights count limit before in
-      let G : ℕ → Option Record = flights count limit middle in
-      let L : ℕ → Option Record = flights count limit now in
-      let opens : ℕ → ℕ = opened count limit now in
-      let counts : ℕ → ℕ = faults count limit now in
-      let holds : ℕ → ℕ = capacity count limit now in
+      let E : ℕ → List Record = journals before in
+      let M : ℕ → List Record = journals middle in
+      let X : ℕ → List Record = journals now in
+      let F : ℕ → Option Record = flights before in
+      let G : ℕ → Option Record = flights middle in
+      let L : ℕ → Option Record = flights now in
+      let opens : ℕ → ℕ = opened now in
+      let counts : ℕ → ℕ = faults now in
+      let holds : ℕ → ℕ = capacity now in
       let same : middle.header.shape ≡ K = r.keeps_ledger.shape_same in
       let behind : IsBehind K E M = record {
         grows = r.grows;

@@ -10,8 +10,7 @@ use Rattle.cbdc_model.specs.Lanes.{IsEnd}
 use Rattle.cbdc_model.specs.World.{AreIdle}
 use Rattle.cbdc_model.specs.Headline.{Headline}
 use Rattle.cbdc_model.specs.Waves.{IsResumed}
-use Rattle.coord_log.specs.Logs.{LogOf}
-use Rattle.shard_node.specs.Shards.{ShardOf}
+use Rattle.node_journal.specs.Nodes.{NodeOf}
 use Rattle.lane_driver.specs.declared.fault.LaneFault.{LaneFault}
 use Rattle.recovery.specs.declared.resumed.ResumedBatch.{ResumedBatch}
 use Rattle.ledger_runs.specs.Turning.{IsLaneOf, OfKept, StaysKept}
@@ -84,16 +83,16 @@ pub record EndsBadly {Done : Type 0} (d : Deed Done) (K : Shape) (M X : ℕ → 
   pub ends : d.ends K M X failed may_hold e
 
 -- A work was done over the nodes of a ledger with no open batch: what the ledger is behind it, and what came of it.
-pub record HasWorked {D Done : Type 0} (count limit : D → ℕ) (content : D → Option (List ℕ)) (images : D → List ℕ → Type 0) (d : Deed Done)
+pub record HasWorked {D Done : Type 0} (content : D → Option (List ℕ)) (images : D → List ℕ → Type 0) (d : Deed Done)
     (before now : LedgerOf D) (came : Result Done LaneFault) : Type 0 where
-  pub keeps_ledger : KeepsLedgerOf count limit content images before now
-  pub checked : IsChecked count limit now
+  pub keeps_ledger : KeepsLedgerOf content images before now
+  pub checked : IsChecked now
   pub quiet : OnOk came (IsQuiet before → IsQuiet now)
-  pub leaves : LeavesWork d before.header.shape (journals count limit before) (journals count limit now) (flights count limit before) (flights count limit now)
-      (HaveFailed (opened count limit now) (faults count limit now))
-  pub well : IfOk came (EndsWell d before.header.shape (journals count limit before) (journals count limit now))
-  pub badly : IfErr came (EndsBadly d before.header.shape (journals count limit before) (journals count limit now)
-      (HaveFailed (opened count limit now) (faults count limit now)) (MayHold (capacity count limit now)))
+  pub leaves : LeavesWork d before.header.shape (journals before) (journals now) (flights before) (flights now)
+      (HaveFailed (opened now) (faults now))
+  pub well : IfOk came (EndsWell d before.header.shape (journals before) (journals now))
+  pub badly : IfErr came (EndsBadly d before.header.shape (journals before) (journals now)
+      (HaveFailed (opened now) (faults now)) (MayHold (capacity now)))
 
 -- ---- the resuming and the work, from journals E at entry to X
 
@@ -145,20 +144,20 @@ pub record AllBadly {Done : Type 0} (d : Deed Done) (K : Shape) (E X : ℕ → L
   pub ends : EndsWork d K E X failed may_hold e
 
 -- The open batches of a ledger were brought to their end, and a work was done: what the ledger is behind it, and what came of it.
-pub record HasRun {D Done : Type 0} (count limit : D → ℕ) (content : D → Option (List ℕ)) (images : D → List ℕ → Type 0) (d : Deed Done)
+pub record HasRun {D Done : Type 0} (content : D → Option (List ℕ)) (images : D → List ℕ → Type 0) (d : Deed Done)
     (before now : LedgerOf D) (resumed : List ResumedBatch) (came : Result Done LaneFault) : Type 0 where
-  pub keeps_ledger : KeepsLedgerOf count limit content images before now
-  pub checked : IsChecked count limit now
+  pub keeps_ledger : KeepsLedgerOf content images before now
+  pub checked : IsChecked now
   pub quiet : OnOk came (IsQuiet before → IsQuiet now)
-  pub leaves : LeavesAll d before.header.shape (journals count limit before) (journals count limit now) (flights count limit before) (flights count limit now)
-      (HaveFailed (opened count limit now) (faults count limit now))
-  pub well : IfOk came (AllWell d before.header.shape (journals count limit before) (journals count limit now) resumed)
-  pub badly : IfErr came (AllBadly d before.header.shape (journals count limit before) (journals count limit now)
-      (HaveFailed (opened count limit now) (faults count limit now)) (MayHold (capacity count limit now)))
+  pub leaves : LeavesAll d before.header.shape (journals before) (journals now) (flights before) (flights now)
+      (HaveFailed (opened now) (faults now))
+  pub well : IfOk came (AllWell d before.header.shape (journals before) (journals now) resumed)
+  pub badly : IfErr came (AllBadly d before.header.shape (journals before) (journals now)
+      (HaveFailed (opened now) (faults now)) (MayHold (capacity now)))
 
 -- what nodes say of themselves: each one's count of faults and capacity are its disk's, which has room for its journal, for what is kept for its
 -- open batches and for what is in flight; and a record is in flight only where the disk failed
-pub record AreSeen {D : Type 0} (count limit : D → ℕ) (logs : List (LogOf D)) (shards : List (ShardOf D)) : Type 0 where
+pub record AreSeen {D : Type 0} (logs : List (NodeOf D)) (shards : List (NodeOf D)) : Type 0 where
   pub counts : All (λ l. l.faults ≡ count l.disk) logs
   pub capacities : All (λ l. l.capacity ≡ limit l.disk) logs
   pub log_rooms : All (LogHasRoom limit) logs
@@ -175,8 +174,8 @@ pub record AtEntry (D : Type 0) : Type 0 where
   pub held : ℕ → Option D
   pub before : ℕ → ℕ
   pub header : Header
-  pub logs : List (LogOf D)
-  pub shards : List (ShardOf D)
+  pub logs : List (NodeOf D)
+  pub shards : List (NodeOf D)
 
 abbrev pub entry_ledger : {D : Type 0} → AtEntry D → LedgerOf D
 entry_ledger e = record { header = e.header; logs = e.logs; shards = e.shards }
@@ -198,7 +197,7 @@ pub record IsOpen {D : Type 0} (content : D → Option (List ℕ)) (images : D �
 pub record HasCome {D Done : Type 0} (content : D → Option (List ℕ)) (images : D → List ℕ → Type 0) (limit count : D → ℕ) (d : Deed Done) (e : AtEntry D) (held : ℕ → Option D)
     (can_put : ℕ → ℕ → Type 0) (can_take : ℕ → Type 0) (ledger : LedgerOf D) (resumed : List ResumedBatch) (came : Result Done LaneFault) : Type 0 where
   pub begun : IsOpen content images limit count e held can_put can_take
-  pub ran : HasRun count limit content images d (entry_ledger e) ledger resumed came
+  pub ran : HasRun content images d (entry_ledger e) ledger resumed came
 
 -- where the ledger that the disks told was kept: it came through, each disk holds its journal and no record more and has room for it and for what is
 -- kept, open batches were taken up in the order of their lanes, so many hashes are unspent now, and the sentence holds of the journals

@@ -51,8 +51,8 @@ where
     // the work's own test let it pass.
     ensures begun { IfOk result (λ b. (e : AtEntry R.Disk) × (e.held ≡ R.held rack.old) × (e.before ≡ R.count rack.old)
         × IsOpen R.Disk.content R.Disk.images R.Disk.limit R.Disk.count e (R.held rack.new) (R.can_put rack.new) (R.can_take rack.new)
-        × HasResumed R.Disk.count R.Disk.limit R.Disk.content R.Disk.images (entry_ledger e) b.ledger (Ok b.resumed)
-        × (K.tests work.now).passes e.header.shape (journals R.Disk.count R.Disk.limit (entry_ledger e))) }
+        × HasResumed R.Disk.content R.Disk.images (entry_ledger e) b.ledger (Ok b.resumed)
+        × (K.tests work.now).passes e.header.shape (journals (entry_ledger e))) }
 
     // The nodes could not be opened, or a record is not caused, and the disks are back; or a lane met a fault; or the work's own test refuses the
     // ledger, and the disks are back unchanged.

@@ -21,7 +21,7 @@ begun h [] is e = is
 begun h (r ∷ J) is e = cc
 
 pub stands_for : (h : Header) (core : ShardCore) (J : List Record) → IsPlayed h core J → StandsFor core J
-stands_for h core J is = record { stands = is.stands; begun = begun h J is.journal; shard = subst (λ (k : Header). IsShard k.shape k.node) (sym is.header) is.shard }
+stands_for h core J is = record { stands = is.stands; begun = begun h J is.journal; shard = subst (λ (k : Header). IsShard k.shape k.node) (sym is.header) is.kind }
 
 -- a record that was admitted and taken in
 pub plays : (h : Header) (core mid new : ShardCore) (J : List Record) (r : Record) (given : Bool) → IsPlayed h core J → IsSameState core mid → given ≡ true → ((K : List Record) → StandsFor core K → (IsTrue given ↔ After core.header K r))
@@ -30,5 +30,5 @@ plays h core mid new J r given is same told next stands header = record {
   header = header ∙ same.header ∙ is.header;
   stands = stands J (stands_same core mid J same is.stands);
   journal = goes_on h J r is.journal (subst (λ (k : Header). After k J r) is.header ((next J (stands_for h core J is)).0 told));
-  shard = is.shard;
+  kind = is.kind;
 }

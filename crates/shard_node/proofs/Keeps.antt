@@ -18,7 +18,7 @@ use Rattle.shard_core.specs.declared.slots.Slot.{Slot as LaneSlot}
 use Rattle.shard_core.specs.declared.core_state.ShardCore.{ShardCore}
 use Rattle.shard_core.specs.Stands.{Stands, IsSameState}
 use Rattle.shard_node.specs.declared.parts.Parts.{Parts}
-use Rattle.shard_node.specs.Shards.{sight_of}
+use Rattle.node_journal.specs.Nodes.{sight}
 use Rattle.shard_node.specs.Parts.{HaveDecisions, HasRecords, IsShardOf, HasWritten, HasFailed, journal_of, view_of}
 use Rattle.shard_node.proofs.Follows.{goes_on}
 
@@ -135,11 +135,11 @@ module _ {D : Type 0} {G : Ghosts D} where
 
   -- ---- what a caller sees
 
-  pub stays : (p : Parts D G) → Stays (sight_of G.count G.limit (view_of p)) (sight_of G.count G.limit (view_of p)) (journal_of p)
+  pub stays : (p : Parts D G) → Stays (sight (view_of p)) (sight (view_of p)) (journal_of p)
   stays p = record { node = record { header = refl; opened = refl; capacity = refl; later = omega arith }; seen = refl; flight = refl }
 
-  pub appends : (p new : Parts D G) (r : Record) → HasWritten p new r → Appends (sight_of G.count G.limit (view_of p)) (sight_of G.count G.limit (view_of new)) (journal_of p) r
+  pub appends : (p new : Parts D G) (r : Record) → HasWritten p new r → Appends (sight (view_of p)) (sight (view_of new)) (journal_of p) r
   appends p new r w = record { node = record { header = w.header; opened = w.opened; capacity = w.limit; later = w.later }; seen = pushed p new r w; flight = w.flight }
 
-  pub fails : (p new : Parts D G) (r : Record) → HasFailed p new r → Fails (sight_of G.count G.limit (view_of p)) (sight_of G.count G.limit (view_of new)) (journal_of p) r
+  pub fails : (p new : Parts D G) (r : Record) → HasFailed p new r → Fails (sight (view_of p)) (sight (view_of new)) (journal_of p) r
   fails p new r f = record { node = record { header = f.header; opened = f.opened; capacity = f.limit; later = f.later }; seen = ap reverse f.records; flight = f.flight; rose = f.rose }

@@ -15,13 +15,13 @@ use Rattle.cbdc_types.specs.Limits.{IsWithinLimits}
 use Rattle.outside.specs.declared.disk.Disk.{Ghosts}
 use Rattle.gate_journal.specs.Shown.{disk_of, gate_of, broken_of}
 use Rattle.record_log.specs.declared.log.RecordLog.{RecordLog}
-use Rattle.record_log.specs.Held.{MayHold, OpensTo, Holds}
+use Rattle.record_log.specs.Held.{MayHold, OpensTo, OpensToEither, Holds}
 use Rattle.record_log.specs.Logs.{HoldsAll, HasRoom, IsUntouched}
 use Rattle.record_log.proofs.LogSizes.{limits_of}
 use Rattle.shard_core.specs.declared.core_state.ShardCore.{ShardCore}
 use Rattle.shard_core.specs.Stands.{Stands}
 use Rattle.shard_node.specs.declared.parts.Parts.{Parts}
-use Rattle.shard_node.specs.Shards.{HoldsJournal, HoldsWith}
+use Rattle.node_journal.specs.Nodes.{HoldsJournal}
 use Rattle.shard_node.specs.Parts.{HaveDecisions, IsShardOf, journal_of, view_of}
 use Rattle.shard_node.specs.Opening.{IsShardJournal, IsPlayed}
 use Rattle.shard_node.proofs.Lanes.{lock_few}
@@ -61,7 +61,7 @@ module _ {D : Type 0} {G : Ghosts D} where
         header = played.header ∙ sym header;
         stands = subst (λ (l : List Record). Stands core l) (sym same) played.stands;
         journal = subst (λ (h : Header). IsJournal h (reverse new.records.items)) (sym header) (subst (λ (l : List Record). IsJournal old.header l) (sym same) played.journal);
-        shard = subst (λ (h : Header). IsShard h.shape h.node) (sym header) played.shard;
+        shard = subst (λ (h : Header). IsShard h.shape h.node) (sym header) played.kind;
         limits = subst (λ (h : Header). IsWithinLimits h.shape) (sym header) limits;
         lanes = lanes ∙ ap (λ (h : Header). h.shape.coordinators * h.shape.lanes) (sym header);
         opened = since;
@@ -80,6 +80,14 @@ module _ {D : Type 0} {G : Ghosts D} where
         fits = tt;
       }
 
+  -- a disk that holds the journal, with nothing in flight
+  pub holds_now : (p : Parts D G) → p.flight ≡ None → Holds (G.content (disk_of p.log.journal)) (G.images (disk_of p.log.journal)) (gate_of p.log.journal) (reverse (journal_of p))
+      → HoldsJournal G.content G.images (view_of p)
+  holds_now p flight now = record {
+    each = λ c image. subst (λ (o : Option Record). OpensToEither (reverse (journal_of p)) o c) (sym flight) (subst (λ (b : List ℕ). OpensTo (reverse (journal_of p)) b) (sym (now.durable c image)) now.opens);
+    reads = λ whole. now;
+  }
+
   -- what its disk holds
   pub opened_holds : (old new : RecordLog D G) (p : Parts D G) (bytes : List ℕ) → p.log ≡ new → p.flight ≡ None → IsShardOf p → IsUntouched old new → new.records.items ≡ old.records.items → OpensTo old.records.items bytes → HoldsAll old old.records.items
       → IsShardJournal p.log.header (journal_of p) bytes × HoldsJournal G.content G.images (view_of p)
@@ -92,6 +100,6 @@ module _ {D : Type 0} {G : Ghosts D} where
       subst (λ (l : List Record). Holds (G.content (disk_of p.log.journal)) (G.images (disk_of p.log.journal)) (gate_of p.log.journal) l) (sym back)
       (subst (λ (k : ℕ). Holds (G.content (disk_of p.log.journal)) (G.images (disk_of p.log.journal)) k old.records.items) (sym gate)
       (subst (λ (d : D). Holds (G.content d) (G.images d) (gate_of old.journal) old.records.items) (sym disk) holds)) in (
-        record { opens = subst (λ (l : List Record). OpensTo l bytes) (sym back) opens; limits = is.limits; journal = is.journal; shard = is.shard },
-        subst (λ (o : Option Record). HoldsWith o (G.content (disk_of p.log.journal)) (G.images (disk_of p.log.journal)) (gate_of p.log.journal) (journal_of p)) (sym flight) now,
+        record { opens = subst (λ (l : List Record). OpensTo l bytes) (sym back) opens; limits = is.limits; journal = is.journal; kind = is.shard },
+        holds_now p flight now,
       )

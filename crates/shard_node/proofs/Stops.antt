@@ -22,7 +22,8 @@ use Rattle.record_log.specs.declared.opening.NoLog.TheVariants.{Fault}
 use Rattle.record_log.proofs.LogSizes.{body_small, limits_of, grammar_of, rows_size}
 use Rattle.shard_core.specs.declared.core_state.ShardCore.{ShardCore}
 use Rattle.shard_core.specs.Next.{StandsFor}
-use Rattle.shard_node.specs.Opening.{IsPlayed, IsStart, IsUnbegun, IsUnplayed, StopsBefore, IsDamagedAt, IsNoShard}
+use Rattle.node_journal.specs.Opening.{IsUnbegun, IsUnplayed, StopsBefore, IsDamagedAt}
+use Rattle.shard_node.specs.Opening.{IsPlayed, IsStart, IsNoShard, IsShardHeader}
 use Rattle.shard_node.proofs.Going.{stands_for}
 use Rattle.shard_node.proofs.Opens.{sum_reverse}
 
@@ -40,7 +41,7 @@ pub place_first : (records : List Record) (at : ℕ) (r : Record) → 0 < length
 place_first [] at r lt here place = absurd (omega (arith, lt))
 place_first (q ∷ records) at r lt here place = let same : r ≡ q = here in omega (arith, place, ap size_of same, sum_by-cons size_of q [])
 
-pub unbegun : (h : Header) (records : List Record) (r : Record) (fault : NodeOpenFault) → 0 < length records → r ≡ get_or records 0 r → IsUnbegun r fault → IsUnplayed h records fault
+pub unbegun : (h : Header) (records : List Record) (r : Record) (fault : NodeOpenFault) → 0 < length records → r ≡ get_or records 0 r → IsUnbegun IsStart r fault → IsUnplayed IsShardHeader IsStart h records fault
 unbegun h [] r fault lt here is = absurd (omega (arith, lt))
 unbegun h (q ∷ records) r OtherKind lt here is = subst IsStart here is
 unbegun h (q ∷ records) r Memory lt here is = tt
@@ -49,27 +50,27 @@ unbegun h (q ∷ records) r NotReady lt here is = absurd is
 unbegun h (q ∷ records) r (Damaged at) lt here is = absurd is
 unbegun h (q ∷ records) r (Full used need capacity) lt here is = absurd is
 
-no_memory : (h : Header) (records : List Record) → 0 < length records → IsUnplayed h records Memory
+no_memory : (h : Header) (records : List Record) → 0 < length records → IsUnplayed IsShardHeader IsStart h records Memory
 no_memory h [] lt = absurd (omega (arith, lt))
 no_memory h (r ∷ records) lt = tt
 
-pub memory_ran_out : (h : Header) (records : List Record) (i : ℕ) → i < length records → IsUnplayed h records Memory
+pub memory_ran_out : (h : Header) (records : List Record) (i : ℕ) → i < length records → IsUnplayed IsShardHeader IsStart h records Memory
 memory_ran_out h records i lt = no_memory h records (omega (arith, lt))
 
-damaged : (h : Header) (records : List Record) (at : ℕ) → 0 < length records → StopsBefore h records at → IsUnplayed h records (Damaged at)
+damaged : (h : Header) (records : List Record) (at : ℕ) → 0 < length records → StopsBefore IsShardHeader h records at → IsUnplayed IsShardHeader IsStart h records (Damaged at)
 damaged h [] at lt stops = absurd (omega (arith, lt))
 damaged h (r ∷ records) at lt stops = stops
 
 -- a record that was not admitted
 pub stopped : (h : Header) (core : ShardCore) (records : List Record) (at i : ℕ) (r : Record) (given : Bool) → IsPlayed h core (reverse (take i records)) → IsPlaceOf at (take i records) → i < length records → r ≡ get_or records i r
-    → given ≡ false → ((K : List Record) → StandsFor core K → (IsTrue given ↔ After core.header K r)) → IsUnplayed h records (Damaged at)
+    → given ≡ false → ((K : List Record) → StandsFor core K → (IsTrue given ↔ After core.header K r)) → IsUnplayed IsShardHeader IsStart h records (Damaged at)
 stopped h core records at i r given is place lt here never next = damaged h records at (omega (arith, lt)) (record {
   before = take i records;
   next = r;
   rest = drop (suc i) records;
   parts = sym (take-append-drop i records) ∙ ap (λ (l : List Record). take i records ++ l) (drop-cons records i r lt ∙ ap (λ (x : Record). x ∷ drop (suc i) records) (sym here));
   is = is.journal;
-  shard = is.shard;
+  kind = is.kind;
   none = λ after. refused ((next (reverse (take i records)) (stands_for h core (reverse (take i records)) is)).1 (subst (λ (k : Header). After k (reverse (take i records)) r) (sym is.header) after)) never;
   place = place;
 })
@@ -93,7 +94,7 @@ rows_at before next rest tail =
     ∙ ap (λ (l : List ℕ). rows (bodies_of before) ++ l) (append_assoc (row (body_of next)) (rows (bodies_of rest)) tail)
 
 -- bytes of records that stop before one that is not next
-pub stops_damage : (h : Header) (records : List Record) (at : ℕ) (bytes tail : List ℕ) → MayHold h records → StopsBefore h records at → bytes ≡ rows (bodies_of records) ++ tail → length (rows (bodies_of records)) < 2 ^ 64 → IsDamagedAt at bytes
+pub stops_damage : (h : Header) (records : List Record) (at : ℕ) (bytes tail : List ℕ) → MayHold h records → StopsBefore IsShardHeader h records at → bytes ≡ rows (bodies_of records) ++ tail → length (rows (bodies_of records)) < 2 ^ 64 → IsDamagedAt IsShardHeader at bytes
 stops_damage h records at bytes tail may stops parts fits =
     let limits = limits_of h records may in
     let all : All (IsInGrammar h) (stops.before ++ stops.next ∷ stops.rest) = subst (All (IsInGrammar h)) stops.parts (grammar_of h records may) in
@@ -109,7 +110,7 @@ stops_damage h records at bytes tail may stops parts fits =
       journal = reverse stops.before;
       limits = limits;
       is = stops.is;
-      shard = stops.shard;
+      kind = stops.kind;
       cut = subst (λ (l : List Record). CutsOff (After h (reverse stops.before)) l at bytes) (sym back) (record {
         rest = row (body_of stops.next) ++ behind;
         parts = split;
@@ -133,7 +134,7 @@ start_row r later bytes tail is parts some = record {
 }
 
 -- why records that bytes begin with are no shard's
-pub unplayed_is : (limit : ℕ) (h : Header) (records : List Record) (fault : NodeOpenFault) (bytes tail : List ℕ) → MayHold h records → IsUnplayed h records fault → bytes ≡ rows (bodies_of records) ++ tail → 1 ≤ length tail
+pub unplayed_is : (limit : ℕ) (h : Header) (records : List Record) (fault : NodeOpenFault) (bytes tail : List ℕ) → MayHold h records → IsUnplayed IsShardHeader IsStart h records fault → bytes ≡ rows (bodies_of records) ++ tail → 1 ≤ length tail
     → length (rows (bodies_of records)) < 2 ^ 64 → IsNoShard limit bytes fault
 unplayed_is limit h [] fault bytes tail may is parts some fits = absurd may
 unplayed_is limit h (r ∷ later) OtherKind bytes tail may is parts some fits = start_row r later bytes tail is parts some
@@ -143,10 +144,10 @@ unplayed_is limit h (r ∷ later) DiskFault bytes tail may is parts some fits = 
 unplayed_is limit h (r ∷ later) NotReady bytes tail may is parts some fits = absurd is
 unplayed_is limit h (r ∷ later) (Full used need capacity) bytes tail may is parts some fits = absurd is
 
-pub not_disk : (h : Header) (records : List Record) (fault : NodeOpenFault) → IsUnplayed h records fault → fault ≡ DiskFault → ⊥
-not_disk h records fault is e = none h records (subst (IsUnplayed h records) e is)
+pub not_disk : (h : Header) (records : List Record) (fault : NodeOpenFault) → IsUnplayed IsShardHeader IsStart h records fault → fault ≡ DiskFault → ⊥
+not_disk h records fault is e = none h records (subst (IsUnplayed IsShardHeader IsStart h records) e is)
   where
-    none : (h : Header) (records : List Record) → IsUnplayed h records DiskFault → ⊥
+    none : (h : Header) (records : List Record) → IsUnplayed IsShardHeader IsStart h records DiskFault → ⊥
     none h [] is = is
     none h (r ∷ later) is = is
 
@@ -155,13 +156,13 @@ open_some [] is = absurd is
 open_some (gate ∷ rest) is = omega arith
 
 -- records that are all next, and behind them an open gate with no record of the grammar
-pub all_played : (h : Header) (core : ShardCore) (records : List Record) (at : ℕ) (bytes : List ℕ) → IsWithinLimits h.shape → IsPlayed h core (reverse records) → CutsOff (IsInGrammar h) records at bytes → IsDamagedAt at bytes
+pub all_played : (h : Header) (core : ShardCore) (records : List Record) (at : ℕ) (bytes : List ℕ) → IsWithinLimits h.shape → IsPlayed h core (reverse records) → CutsOff (IsInGrammar h) records at bytes → IsDamagedAt IsShardHeader at bytes
 all_played h core records at bytes limits is cuts = record {
   header = h;
   journal = reverse records;
   limits = limits;
   is = is.journal;
-  shard = is.shard;
+  kind = is.kind;
   cut = subst (λ (l : List Record). CutsOff (After h (reverse records)) l at bytes) (sym (reverse-reverse records)) (record {
     rest = cuts.rest;
     parts = cuts.parts;
@@ -171,10 +172,10 @@ all_played h core records at bytes limits is cuts = record {
   });
 }
 
-pub cut_unplayed : (limit : ℕ) (h : Header) (records : List Record) (at : ℕ) (fault : NodeOpenFault) (bytes : List ℕ) → MayHold h records → IsUnplayed h records fault → CutsOff (IsInGrammar h) records at bytes → at < 2 ^ 64 → IsNoShard limit bytes fault
+pub cut_unplayed : (limit : ℕ) (h : Header) (records : List Record) (at : ℕ) (fault : NodeOpenFault) (bytes : List ℕ) → MayHold h records → IsUnplayed IsShardHeader IsStart h records fault → CutsOff (IsInGrammar h) records at bytes → at < 2 ^ 64 → IsNoShard limit bytes fault
 cut_unplayed limit h records at fault bytes may is cuts fits = unplayed_is limit h records fault bytes cuts.rest may is cuts.parts (open_some cuts.rest cuts.opened) (omega (arith, cuts.place, fits))
 
-pub open_unplayed : (limit : ℕ) (h : Header) (records : List Record) (fault : NodeOpenFault) (bytes : List ℕ) (gate : ℕ) → MayHold h records → IsUnplayed h records fault → OpensTo records bytes → gate ≡ sum_by size_of records → gate + 1 < 2 ^ 64 → IsNoShard limit bytes fault
+pub open_unplayed : (limit : ℕ) (h : Header) (records : List Record) (fault : NodeOpenFault) (bytes : List ℕ) (gate : ℕ) → MayHold h records → IsUnplayed IsShardHeader IsStart h records fault → OpensTo records bytes → gate ≡ sum_by size_of records → gate + 1 < 2 ^ 64 → IsNoShard limit bytes fault
 open_unplayed limit h records fault bytes gate may is opens ends fits =
     unplayed_is limit h records fault bytes opens.rest may is opens.parts (end_len opens.rest (inl opens.shut)) (omega (arith, rows_size h records (limits_of h records may) (grammar_of h records may), ends, fits))
 
@@ -194,7 +195,7 @@ full_is h core records used need capacity limit bytes limits is opens used_is ne
   record {
     header = h;
     journal = reverse records;
-    is = record { opens = subst (λ (l : List Record). OpensTo l bytes) (sym (reverse-reverse records)) opens; limits = limits; journal = is.journal; shard = is.shard };
+    is = record { opens = subst (λ (l : List Record). OpensTo l bytes) (sym (reverse-reverse records)) opens; limits = limits; journal = is.journal; kind = is.kind };
     used_is = omega (arith, used_is, sum_reverse records);
     need_is = need_is;
     passes = passes;

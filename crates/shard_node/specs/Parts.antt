@@ -20,7 +20,8 @@ use Rattle.outside.specs.Counts.{Rose}
 use Rattle.record_log.specs.Bodies.{body_of}
 use Rattle.shard_core.specs.Stands.{Stands}
 use Rattle.shard_node.specs.declared.parts.Parts.{Parts}
-use Rattle.shard_node.specs.Shards.{ShardOf}
+use Rattle.node_journal.specs.Nodes.{NodeOf}
+use Rattle.node_journal.specs.Shown.{shown}
 
 -- for each locked batch there is memory for a decision on each entry
 abbrev pub HaveDecisions : List Record → List (Vec Bool) → Type 0
@@ -46,16 +47,8 @@ abbrev pub journal_of : {D : Type 0} {G : Ghosts D} → Parts D G → List Recor
 journal_of p = reverse p.log.records.items
 
 -- what contracts see of it
-abbrev pub view_of : {D : Type 0} {G : Ghosts D} → Parts D G → ShardOf D
-view_of p = record {
-  header = p.log.header;
-  journal = journal_of p;
-  flight = p.flight;
-  opened = p.opened;
-  broken = broken_of p.log.journal;
-  gate = gate_of p.log.journal;
-  disk = disk_of p.log.journal;
-}
+abbrev pub view_of : {D : Type 0} {G : Ghosts D} → Parts D G → NodeOf D
+view_of p = shown p.log p.opened p.flight
 
 -- the core stands for the journal, which is a shard's
 pub record IsShardOf {D : Type 0} {G : Ghosts D} (p : Parts D G) : Type 0 where

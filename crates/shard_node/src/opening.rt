@@ -11,8 +11,9 @@ ghost use Rattle.cbdc_model.specs.Due.{used_of};
 ghost use Rattle.record_log.specs.Held.{MayHold, OpensTo, CutsOff};
 ghost use Rattle.record_log.specs.LogReading.{HoldsBefore, IsNoLog};
 ghost use Rattle.record_log.specs.Logs.{IsUntouched};
-ghost use Rattle.shard_node.specs.Shards.{HoldsJournal};
-ghost use Rattle.shard_node.specs.Opening.{IsShardJournal, IsPlayed, IsUnbegun, IsUnplayed, IsNoShard};
+ghost use Rattle.node_journal.specs.Nodes.{HoldsJournal};
+ghost use Rattle.node_journal.specs.Opening.{IsUnbegun, IsUnplayed};
+ghost use Rattle.shard_node.specs.Opening.{IsShardJournal, IsPlayed, IsNoShard, IsShardHeader, IsStart};
 ghost use Rattle.shard_node.specs.Parts.{IsShardOf, HaveDecisions};
 
 use crate::ShardNode;
@@ -39,7 +40,7 @@ struct Opened {
 fn first_core(alloc: Global, header: &Header, first: &Record) -> Result<ShardCore, NodeOpenFault>
     requires { MayHold header.now (first.now ∷ []) }
     ensures played { IfOk result (λ core. IsPlayed header.now core (first.now ∷ [])) }
-    ensures unplayed { IfErr result (IsUnbegun first.now) }
+    ensures unplayed { IfErr result (IsUnbegun IsStart first.now) }
 {
     match first {
         Record::Genesis { hashes, .. } => match ShardCore::new(alloc, header, hashes.as_slice()) {
@@ -55,7 +56,7 @@ fn first_core(alloc: Global, header: &Header, first: &Record) -> Result<ShardCor
 fn replayed(alloc: Global, header: &Header, records: &[Record]) -> Result<ShardCore, NodeOpenFault>
     requires { MayHold header.now records.now }
     ensures played { IfOk result (λ core. IsPlayed header.now core (reverse records.now)) }
-    ensures unplayed { IfErr result (IsUnplayed header.now records.now) }
+    ensures unplayed { IfErr result (IsUnplayed IsShardHeader IsStart header.now records.now) }
 {
     let mut core = match first_core(alloc, header, &records[0]) {
         Ok(core) => core,
@@ -166,13 +167,15 @@ impl<D: Disk> ShardNode<D> {
 
         // Which refusal it is.
         ensures refusal { IfErr result (λ e. Tells (D.content disk) (λ c. IsNoShard (D.limit disk) c e.1)) }
-        ensures fresh { IfOk result (λ n. (n.flight ≡ None) × (n.broken ≡ None) × (n.opened ≡ D.count n.disk)) }
-        ensures later { MatchResult result (λ n. D.count disk ≤ D.count n.disk) (λ e. D.count disk ≤ D.count e.0) }
+        ensures fresh { IfOk result (λ n. (n.flight ≡ None) × (n.broken ≡ None) × (n.opened ≡ n.faults)) }
+        ensures later { MatchResult result (λ n. D.count disk ≤ n.faults) (λ e. D.count disk ≤ D.count e.0) }
         ensures fault { IfErr result (λ e. e.1 ≡ NodeOpenFault.DiskFault → Rose (D.count disk) (D.count e.0)) }
-        ensures limit { MatchResult result (λ n. D.limit n.disk ≡ D.limit disk) (λ e. D.limit e.0 ≡ D.limit disk) }
+        ensures limit { MatchResult result (λ n. n.capacity ≡ D.limit disk) (λ e. D.limit e.0 ≡ D.limit disk) }
+
+        ensures shows { IfOk result (λ n. (n.faults ≡ D.count n.disk) × (n.capacity ≡ D.limit n.disk)) }
 
         // It fits on the disk with all that its batches still need.
-        ensures room { IfOk result (λ n. used_of n.journal + kept_room n.header.shape n.journal ≤ D.limit n.disk) }
+        ensures room { IfOk result (λ n. used_of n.journal + kept_room n.header.shape n.journal ≤ n.capacity) }
 
         // Unless it failed, the disk reads as before, and a crash may leave nothing more than before.
         ensures same { MatchResult result (λ n. D.content n.disk ≡ D.content disk)

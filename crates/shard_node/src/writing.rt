@@ -6,7 +6,7 @@ ghost use Rattle.record_log.specs.Bodies.{body_of};
 ghost use Rattle.record_log.specs.Logs.{HasRoom};
 ghost use Rattle.shard_core.specs.Admitted.{IsAdmitted};
 ghost use Rattle.shard_core.specs.Stands.{Stands};
-ghost use Rattle.shard_node.specs.Shards.{HoldsJournal, LeavesBetween};
+ghost use Rattle.node_journal.specs.Nodes.{HoldsJournal, LeavesBetween};
 ghost use Rattle.shard_node.specs.Parts.{HasWritten, HasFailed, view_of};
 
 use crate::parts::Parts;

@@ -54,7 +54,7 @@ pub returns-in-Ok-reserve-clause-coordinator : goal.returns-in-Ok-reserve-clause
 returns-in-Ok-reserve-clause-coordinator g c =
     let log = c.args.log.now in
     let played : IsPlayed log.header c.in-Ok.core (reverse log.records.items) = rw c.deref.ensures.value at c.in-Ok.ensures.played in
-    rw c.reserve.ensures.header played.coordinator
+    rw c.reserve.ensures.header played.kind
 
 pub returns-in-Ok-reserve-clause-room : goal.returns-in-Ok-reserve-clause-room
 returns-in-Ok-reserve-clause-room g c =

@@ -1,4 +1,5 @@
-use Rattle.coord_log.specs.Logs.{sight, commit_due}
+use Rattle.coord_log.specs.Logs.{commit_due}
+use Rattle.node_journal.specs.Nodes.{sight}
 use Rattle.std.proofs.Common.{◌^◌, false, None, sym}
 use Rattle.node_ports.proofs.Owed.{still_decided}
 use Rattle.node_ports.proofs.Deciding.{decided_moves}

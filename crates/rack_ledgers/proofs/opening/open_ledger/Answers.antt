@@ -1,6 +1,6 @@
 use Rattle.std.proofs.Common.{◌≡◌, ◌∙◌, ◌+◌, ℕ, length, sym, subst, ap, arith, inl, inr}
 use Rattle.std.specs.Option.{option_copied}
-use Rattle.coord_log.specs.Logs.{LogOf}
+use Rattle.node_journal.specs.Nodes.{NodeOf}
 use Rattle.rack_ledgers.specs.Places.{EachFrom, MayReturn}
 use Rattle.rack_ledgers.specs.Racked.{OfTold, IsBack}
 use Rattle.rack_ledgers.proofs.Each.{each_weaker}
@@ -71,7 +71,7 @@ returns-in-Err-open_at_once-clause-refusal g c =
 
 pub returns-in-Err-open_at_once-clause-held : goal.returns-in-Err-open_at_once-clause-held
 returns-in-Err-open_at_once-clause-held g c =
-    let Q : ℕ → LogOf g.row.R-Disk.Denot → Type 0 = λ n x. OfTold (g.R.Rack.held c.close_all.new.rack n) (λ now. now ≡ x.disk) in
+    let Q : ℕ → NodeOf g.row.R-Disk.Denot → Type 0 = λ n x. OfTold (g.R.Rack.held c.close_all.new.rack n) (λ now. now ≡ x.disk) in
     let count = c.in-Ok.ensures.logs.0 in
     let first = c.coordinators-first.ensures.value in
     let before = g.R.Rack.count c.args.rack.now in

@@ -1,7 +1,7 @@
 use Rattle.std.proofs.Common.{◌≡◌, ◌≤◌, ◌+◌, ℕ, List, length, ◌∙◌, sym, subst, ap, arith, inr}
 use Rattle.std.specs.Option.{option_copied}
 use Rattle.cbdc_model.specs.Records.{Header}
-use Rattle.coord_log.specs.Logs.{LogOf}
+use Rattle.node_journal.specs.Nodes.{NodeOf}
 use Rattle.rack_ledgers.specs.Places.{EachFrom}
 use Rattle.rack_ledgers.specs.Racked.{OfTold, IsBack}
 use Rattle.rack_ledgers.specs.Ledgers.{IsLogAt, IsMintOf}
@@ -59,9 +59,9 @@ returns-in-Err-open_at_once-clause-refusal g c =
 pub returns-in-Err-open_at_once-clause-held : goal.returns-in-Err-open_at_once-clause-held
 returns-in-Err-open_at_once-clause-held g c =
     let lead = subst (λ (k : Header). IsLogAt g.R.Disk.Disk.content g.R.Disk.Disk.images g.R.Disk.Disk.limit g.R.Disk.Disk.count (g.R.Rack.held c.args.rack.now) k 0 c.in-Ok.lead) (sym c.header.ensures.header) c.in-Ok.ensures.opened.1 in
-    let Q : ℕ → LogOf g.row.R-Disk.Denot → Type 0 = λ n x. OfTold (g.R.Rack.held c.open_at_once.new.rack n) (λ now. now ≡ x.disk) in
+    let Q : ℕ → NodeOf g.row.R-Disk.Denot → Type 0 = λ n x. OfTold (g.R.Rack.held c.open_at_once.new.rack n) (λ now. now ≡ x.disk) in
     let put : OfTold (g.R.Rack.held c.open_at_once.new.rack 0) (λ now. now ≡ c.in-Ok.lead.disk) =
-    (subst (λ (l : List (LogOf g.row.R-Disk.Denot)). EachFrom Q 0 l) c.in-Ok-lead_alone.ensures.alone c.in-Err-open_at_once.ensures.closed).0 in
+    (subst (λ (l : List (NodeOf g.row.R-Disk.Denot)). EachFrom Q 0 l) c.in-Ok-lead_alone.ensures.alone c.in-Err-open_at_once.ensures.closed).0 in
     let before = g.R.Rack.count c.args.rack.now in
     let after = g.R.Rack.count c.open_at_once.new.rack in
     let here : IsBack g.R.Disk.Disk.content g.R.Disk.Disk.images g.R.Disk.Disk.limit (before 0) (after 0) (g.R.Rack.held c.args.rack.now 0) (g.R.Rack.held c.open_at_once.new.rack 0) =

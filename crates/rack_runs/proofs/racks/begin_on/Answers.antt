@@ -14,7 +14,7 @@ ledger_of-ledger-requires g c =
     is_ledger g.R.Disk.Disk.content g.R.Disk.Disk.images g.R.Disk.Disk.limit g.R.Disk.Disk.count (g.R.Rack.held c.args.rack.now) c.in-Ok.nodes.header c.in-Ok.nodes.logs.items c.in-Ok.nodes.shards.items c.in-Ok.ensures.opened
 
 pub test-requires : goal.test-requires
-test-requires g c = subst (λ l. IsChecked g.R.Disk.Disk.count g.R.Disk.Disk.limit l) (sym c.ledger_of-ledger.ensures)
+test-requires g c = subst (λ l. IsChecked l) (sym c.ledger_of-ledger.ensures)
     (opened_checked g.R.Disk.Disk.content g.R.Disk.Disk.images g.R.Disk.Disk.limit g.R.Disk.Disk.count (g.R.Rack.held c.args.rack.now) c.in-Ok.nodes.header c.in-Ok.nodes.logs.items c.in-Ok.nodes.shards.items c.in-Ok.ensures.opened c.in-Ok.ensures.caused)
 
 -- ---- the work's own test refuses the ledger
@@ -63,7 +63,7 @@ returns-in-Err-test-clause-later g c n = omega (arith, c.in-Ok.ensures.later n, 
 
 pub resume_ledger-ledger-requires : goal.resume_ledger-ledger-requires
 resume_ledger-ledger-requires g c = record {
-  checked = subst (λ l. IsChecked g.R.Disk.Disk.count g.R.Disk.Disk.limit l) (sym c.ledger_of-ledger.ensures)
+  checked = subst (λ l. IsChecked l) (sym c.ledger_of-ledger.ensures)
       (opened_checked g.R.Disk.Disk.content g.R.Disk.Disk.images g.R.Disk.Disk.limit g.R.Disk.Disk.count (g.R.Rack.held c.args.rack.now) c.in-Ok.nodes.header c.in-Ok.nodes.logs.items c.in-Ok.nodes.shards.items c.in-Ok.ensures.opened c.in-Ok.ensures.caused);
 }
 
@@ -79,9 +79,9 @@ returns-in-Ok-came-clause-begun g c =
       refl,
       refl,
       begun,
-      subst (λ k. HasResumed g.R.Disk.Disk.count g.R.Disk.Disk.limit g.R.Disk.Disk.content g.R.Disk.Disk.images (entry_ledger e) c.resume_ledger-ledger.result.ledger k) c.in-Ok-came.is
-          (subst (λ l. HasResumed g.R.Disk.Disk.count g.R.Disk.Disk.limit g.R.Disk.Disk.content g.R.Disk.Disk.images l c.resume_ledger-ledger.result.ledger c.resume_ledger-ledger.result.came) c.ledger_of-ledger.ensures c.resume_ledger-ledger.ensures),
-      subst (λ l. (g.K.Work.tests c.args.work.now).passes l.header.shape (journals g.R.Disk.Disk.count g.R.Disk.Disk.limit l)) c.ledger_of-ledger.ensures c.in_default.ensures.passes,
+      subst (λ k. HasResumed g.R.Disk.Disk.content g.R.Disk.Disk.images (entry_ledger e) c.resume_ledger-ledger.result.ledger k) c.in-Ok-came.is
+          (subst (λ l. HasResumed g.R.Disk.Disk.content g.R.Disk.Disk.images l c.resume_ledger-ledger.result.ledger c.resume_ledger-ledger.result.came) c.ledger_of-ledger.ensures c.resume_ledger-ledger.ensures),
+      subst (λ l. (g.K.Work.tests c.args.work.now).passes l.header.shape (journals l)) c.ledger_of-ledger.ensures c.in_default.ensures.passes,
     )
 
 pub close_nodes-requires-2-clause-few : goal.close_nodes-requires-2-clause-few

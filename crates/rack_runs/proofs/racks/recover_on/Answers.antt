@@ -26,7 +26,7 @@ end_on-requires-clause-fit g c K E X lane txs none = absurd none
 pub work_none-ledger-requires-clause-idle : goal.work_none-ledger-requires-clause-idle
 work_none-ledger-requires-clause-idle g c =
     let r = c.in-Ok.ensures.begun.4 in
-    subst (λ h. AreIdle h (journals g.R.Disk.Disk.count g.R.Disk.Disk.limit c.in-Ok.begun.ledger)) (sym r.keeps_ledger.shape_same) r.idle
+    subst (λ h. AreIdle h (journals c.in-Ok.begun.ledger)) (sym r.keeps_ledger.shape_same) r.idle
 
 pub work_none-ledger-requires-clause-checked : goal.work_none-ledger-requires-clause-checked
 work_none-ledger-requires-clause-checked g c = c.in-Ok.ensures.begun.4.checked
@@ -36,7 +36,7 @@ end_on-requires-clause-come g c =
     let begun = c.in-Ok.ensures.begun in
     let has : HasCome g.R.Disk.Disk.content g.R.Disk.Disk.images g.R.Disk.Disk.limit g.R.Disk.Disk.count no_deed begun.0 (g.R.Rack.held c.begin_on.new.rack) (g.R.Rack.can_put c.begin_on.new.rack) (g.R.Rack.can_take c.begin_on.new.rack) c.work_none-ledger.result.ledger c.in-Ok.begun.resumed.items c.work_none-ledger.result.came = record {
       begun = begun.3;
-      ran = worked_run g.R.Disk.Disk.count g.R.Disk.Disk.limit g.R.Disk.Disk.content g.R.Disk.Disk.images no_deed (entry_ledger begun.0) c.in-Ok.begun.ledger c.work_none-ledger.result.ledger c.in-Ok.begun.resumed (Ok c.in-Ok.begun.resumed) c.work_none-ledger.result.came refl begun.4 c.work_none-ledger.ensures;
+      ran = worked_run g.R.Disk.Disk.content g.R.Disk.Disk.images no_deed (entry_ledger begun.0) c.in-Ok.begun.ledger c.work_none-ledger.result.ledger c.in-Ok.begun.resumed (Ok c.in-Ok.begun.resumed) c.work_none-ledger.result.came refl begun.4 c.work_none-ledger.ensures;
     } in
     (begun.0, has)
 
@@ -50,7 +50,7 @@ returns-in-Ok-end_on-clause-caused g c =
     let begun = c.in-Ok.ensures.begun in
     let has : HasCome g.R.Disk.Disk.content g.R.Disk.Disk.images g.R.Disk.Disk.limit g.R.Disk.Disk.count no_deed begun.0 (g.R.Rack.held c.begin_on.new.rack) (g.R.Rack.can_put c.begin_on.new.rack) (g.R.Rack.can_take c.begin_on.new.rack) c.work_none-ledger.result.ledger c.in-Ok.begun.resumed.items c.work_none-ledger.result.came = record {
       begun = begun.3;
-      ran = worked_run g.R.Disk.Disk.count g.R.Disk.Disk.limit g.R.Disk.Disk.content g.R.Disk.Disk.images no_deed (entry_ledger begun.0) c.in-Ok.begun.ledger c.work_none-ledger.result.ledger c.in-Ok.begun.resumed (Ok c.in-Ok.begun.resumed) c.work_none-ledger.result.came refl begun.4 c.work_none-ledger.ensures;
+      ran = worked_run g.R.Disk.Disk.content g.R.Disk.Disk.images no_deed (entry_ledger begun.0) c.in-Ok.begun.ledger c.work_none-ledger.result.ledger c.in-Ok.begun.resumed (Ok c.in-Ok.begun.resumed) c.work_none-ledger.result.came refl begun.4 c.work_none-ledger.ensures;
     } in
     let done : HasDone g.R.Disk.Disk.content g.R.Disk.Disk.images g.R.Disk.Disk.limit g.R.Disk.Disk.count (g.R.Rack.held c.args.rack.now) (g.R.Rack.held c.end_on.new.rack) (g.R.Rack.count c.args.rack.now) (g.R.Rack.count c.end_on.new.rack) no_deed c.end_on.result =
     subst (λ b. HasDone g.R.Disk.Disk.content g.R.Disk.Disk.images g.R.Disk.Disk.limit g.R.Disk.Disk.count (g.R.Rack.held c.args.rack.now) (g.R.Rack.held c.end_on.new.rack) b (g.R.Rack.count c.end_on.new.rack) no_deed c.end_on.result) begun.2
@@ -62,7 +62,7 @@ returns-in-Ok-end_on-clause-recovered g c =
     let begun = c.in-Ok.ensures.begun in
     let has : HasCome g.R.Disk.Disk.content g.R.Disk.Disk.images g.R.Disk.Disk.limit g.R.Disk.Disk.count no_deed begun.0 (g.R.Rack.held c.begin_on.new.rack) (g.R.Rack.can_put c.begin_on.new.rack) (g.R.Rack.can_take c.begin_on.new.rack) c.work_none-ledger.result.ledger c.in-Ok.begun.resumed.items c.work_none-ledger.result.came = record {
       begun = begun.3;
-      ran = worked_run g.R.Disk.Disk.count g.R.Disk.Disk.limit g.R.Disk.Disk.content g.R.Disk.Disk.images no_deed (entry_ledger begun.0) c.in-Ok.begun.ledger c.work_none-ledger.result.ledger c.in-Ok.begun.resumed (Ok c.in-Ok.begun.resumed) c.work_none-ledger.result.came refl begun.4 c.work_none-ledger.ensures;
+      ran = worked_run g.R.Disk.Disk.content g.R.Disk.Disk.images no_deed (entry_ledger begun.0) c.in-Ok.begun.ledger c.work_none-ledger.result.ledger c.in-Ok.begun.resumed (Ok c.in-Ok.begun.resumed) c.work_none-ledger.result.came refl begun.4 c.work_none-ledger.ensures;
     } in
     let done : HasDone g.R.Disk.Disk.content g.R.Disk.Disk.images g.R.Disk.Disk.limit g.R.Disk.Disk.count (g.R.Rack.held c.args.rack.now) (g.R.Rack.held c.end_on.new.rack) (g.R.Rack.count c.args.rack.now) (g.R.Rack.count c.end_on.new.rack) no_deed c.end_on.result =
     subst (λ b. HasDone g.R.Disk.Disk.content g.R.Disk.Disk.images g.R.Disk.Disk.limit g.R.Disk.Disk.count (g.R.Rack.held c.args.rack.now) (g.R.Rack.held c.end_on.new.rack) b (g.R.Rack.count c.end_on.new.rack) no_deed c.end_on.result) begun.2
@@ -76,7 +76,7 @@ returns-in-Ok-end_on-clause-told g c =
     let begun = c.in-Ok.ensures.begun in
     let has : HasCome g.R.Disk.Disk.content g.R.Disk.Disk.images g.R.Disk.Disk.limit g.R.Disk.Disk.count no_deed begun.0 (g.R.Rack.held c.begin_on.new.rack) (g.R.Rack.can_put c.begin_on.new.rack) (g.R.Rack.can_take c.begin_on.new.rack) c.work_none-ledger.result.ledger c.in-Ok.begun.resumed.items c.work_none-ledger.result.came = record {
       begun = begun.3;
-      ran = worked_run g.R.Disk.Disk.count g.R.Disk.Disk.limit g.R.Disk.Disk.content g.R.Disk.Disk.images no_deed (entry_ledger begun.0) c.in-Ok.begun.ledger c.work_none-ledger.result.ledger c.in-Ok.begun.resumed (Ok c.in-Ok.begun.resumed) c.work_none-ledger.result.came refl begun.4 c.work_none-ledger.ensures;
+      ran = worked_run g.R.Disk.Disk.content g.R.Disk.Disk.images no_deed (entry_ledger begun.0) c.in-Ok.begun.ledger c.work_none-ledger.result.ledger c.in-Ok.begun.resumed (Ok c.in-Ok.begun.resumed) c.work_none-ledger.result.came refl begun.4 c.work_none-ledger.ensures;
     } in
     let done : HasDone g.R.Disk.Disk.content g.R.Disk.Disk.images g.R.Disk.Disk.limit g.R.Disk.Disk.count (g.R.Rack.held c.args.rack.now) (g.R.Rack.held c.end_on.new.rack) (g.R.Rack.count c.args.rack.now) (g.R.Rack.count c.end_on.new.rack) no_deed c.end_on.result =
     subst (λ b. HasDone g.R.Disk.Disk.content g.R.Disk.Disk.images g.R.Disk.Disk.limit g.R.Disk.Disk.count (g.R.Rack.held c.args.rack.now) (g.R.Rack.held c.end_on.new.rack) b (g.R.Rack.count c.end_on.new.rack) no_deed c.end_on.result) begun.2
@@ -91,7 +91,7 @@ returns-in-Err-end_on-clause-stopped g c =
     let begun = c.in-Ok.ensures.begun in
     let has : HasCome g.R.Disk.Disk.content g.R.Disk.Disk.images g.R.Disk.Disk.limit g.R.Disk.Disk.count no_deed begun.0 (g.R.Rack.held c.begin_on.new.rack) (g.R.Rack.can_put c.begin_on.new.rack) (g.R.Rack.can_take c.begin_on.new.rack) c.work_none-ledger.result.ledger c.in-Ok.begun.resumed.items c.work_none-ledger.result.came = record {
       begun = begun.3;
-      ran = worked_run g.R.Disk.Disk.count g.R.Disk.Disk.limit g.R.Disk.Disk.content g.R.Disk.Disk.images no_deed (entry_ledger begun.0) c.in-Ok.begun.ledger c.work_none-ledger.result.ledger c.in-Ok.begun.resumed (Ok c.in-Ok.begun.resumed) c.work_none-ledger.result.came refl begun.4 c.work_none-ledger.ensures;
+      ran = worked_run g.R.Disk.Disk.content g.R.Disk.Disk.images no_deed (entry_ledger begun.0) c.in-Ok.begun.ledger c.work_none-ledger.result.ledger c.in-Ok.begun.resumed (Ok c.in-Ok.begun.resumed) c.work_none-ledger.result.came refl begun.4 c.work_none-ledger.ensures;
     } in
     let done : HasDone g.R.Disk.Disk.content g.R.Disk.Disk.images g.R.Disk.Disk.limit g.R.Disk.Disk.count (g.R.Rack.held c.args.rack.now) (g.R.Rack.held c.end_on.new.rack) (g.R.Rack.count c.args.rack.now) (g.R.Rack.count c.end_on.new.rack) no_deed c.end_on.result =
     subst (λ b. HasDone g.R.Disk.Disk.content g.R.Disk.Disk.images g.R.Disk.Disk.limit g.R.Disk.Disk.count (g.R.Rack.held c.args.rack.now) (g.R.Rack.held c.end_on.new.rack) b (g.R.Rack.count c.end_on.new.rack) no_deed c.end_on.result) begun.2

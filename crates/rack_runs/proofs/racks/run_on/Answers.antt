@@ -21,7 +21,7 @@ end_on-requires-clause-fit g c K E X lane txs piece = piece_fits K (g.V.Verifier
 pub work_files-ledger-requires-clause-idle : goal.work_files-ledger-requires-clause-idle
 work_files-ledger-requires-clause-idle g c κs lives =
     let r = c.in-Ok.ensures.begun.4 in
-    subst (λ h. AreIdle h (journals g.R.Disk.Disk.count g.R.Disk.Disk.limit c.in-Ok.begun.ledger)) (sym r.keeps_ledger.shape_same) r.idle
+    subst (λ h. AreIdle h (journals c.in-Ok.begun.ledger)) (sym r.keeps_ledger.shape_same) r.idle
 
 pub work_files-ledger-requires-clause-checked : goal.work_files-ledger-requires-clause-checked
 work_files-ledger-requires-clause-checked g c κs lives = c.in-Ok.ensures.begun.4.checked
@@ -31,7 +31,7 @@ end_on-requires-clause-come g c =
     let begun = c.in-Ok.ensures.begun in
     let has : HasCome g.R.Disk.Disk.content g.R.Disk.Disk.images g.R.Disk.Disk.limit g.R.Disk.Disk.count (files_deed (g.V.Verifier.verdict_of c.args.verifier.now) c.args.files.now) begun.0 (g.R.Rack.held c.begin_on.new.rack) (g.R.Rack.can_put c.begin_on.new.rack) (g.R.Rack.can_take c.begin_on.new.rack) c.work_files-ledger.result.ledger c.in-Ok.begun.resumed.items c.work_files-ledger.result.came = record {
       begun = begun.3;
-      ran = worked_run g.R.Disk.Disk.count g.R.Disk.Disk.limit g.R.Disk.Disk.content g.R.Disk.Disk.images (files_deed (g.V.Verifier.verdict_of c.args.verifier.now) c.args.files.now) (entry_ledger begun.0) c.in-Ok.begun.ledger c.work_files-ledger.result.ledger c.in-Ok.begun.resumed (Ok c.in-Ok.begun.resumed) c.work_files-ledger.result.came refl begun.4 c.work_files-ledger.ensures;
+      ran = worked_run g.R.Disk.Disk.content g.R.Disk.Disk.images (files_deed (g.V.Verifier.verdict_of c.args.verifier.now) c.args.files.now) (entry_ledger begun.0) c.in-Ok.begun.ledger c.work_files-ledger.result.ledger c.in-Ok.begun.resumed (Ok c.in-Ok.begun.resumed) c.work_files-ledger.result.came refl begun.4 c.work_files-ledger.ensures;
     } in
     (begun.0, has)
 
@@ -45,7 +45,7 @@ returns-in-Ok-end_on-clause-caused g c =
     let begun = c.in-Ok.ensures.begun in
     let has : HasCome g.R.Disk.Disk.content g.R.Disk.Disk.images g.R.Disk.Disk.limit g.R.Disk.Disk.count (files_deed (g.V.Verifier.verdict_of c.args.verifier.now) c.args.files.now) begun.0 (g.R.Rack.held c.begin_on.new.rack) (g.R.Rack.can_put c.begin_on.new.rack) (g.R.Rack.can_take c.begin_on.new.rack) c.work_files-ledger.result.ledger c.in-Ok.begun.resumed.items c.work_files-ledger.result.came = record {
       begun = begun.3;
-      ran = worked_run g.R.Disk.Disk.count g.R.Disk.Disk.limit g.R.Disk.Disk.content g.R.Disk.Disk.images (files_deed (g.V.Verifier.verdict_of c.args.verifier.now) c.args.files.now) (entry_ledger begun.0) c.in-Ok.begun.ledger c.work_files-ledger.result.ledger c.in-Ok.begun.resumed (Ok c.in-Ok.begun.resumed) c.work_files-ledger.result.came refl begun.4 c.work_files-ledger.ensures;
+      ran = worked_run g.R.Disk.Disk.content g.R.Disk.Disk.images (files_deed (g.V.Verifier.verdict_of c.args.verifier.now) c.args.files.now) (entry_ledger begun.0) c.in-Ok.begun.ledger c.work_files-ledger.result.ledger c.in-Ok.begun.resumed (Ok c.in-Ok.begun.resumed) c.work_files-ledger.result.came refl begun.4 c.work_files-ledger.ensures;
     } in
     let done : HasDone g.R.Disk.Disk.content g.R.Disk.Disk.images g.R.Disk.Disk.limit g.R.Disk.Disk.count (g.R.Rack.held c.args.rack.now) (g.R.Rack.held c.end_on.new.rack) (g.R.Rack.count c.args.rack.now) (g.R.Rack.count c.end_on.new.rack) (files_deed (g.V.Verifier.verdict_of c.args.verifier.now) c.args.files.now) c.end_on.result =
     subst (λ b. HasDone g.R.Disk.Disk.content g.R.Disk.Disk.images g.R.Disk.Disk.limit g.R.Disk.Disk.count (g.R.Rack.held c.args.rack.now) (g.R.Rack.held c.end_on.new.rack) b (g.R.Rack.count c.end_on.new.rack) (files_deed (g.V.Verifier.verdict_of c.args.verifier.now) c.args.files.now) c.end_on.result) begun.2
@@ -57,7 +57,7 @@ returns-in-Ok-end_on-clause-ran g c =
     let begun = c.in-Ok.ensures.begun in
     let has : HasCome g.R.Disk.Disk.content g.R.Disk.Disk.images g.R.Disk.Disk.limit g.R.Disk.Disk.count (files_deed (g.V.Verifier.verdict_of c.args.verifier.now) c.args.files.now) begun.0 (g.R.Rack.held c.begin_on.new.rack) (g.R.Rack.can_put c.begin_on.new.rack) (g.R.Rack.can_take c.begin_on.new.rack) c.work_files-ledger.result.ledger c.in-Ok.begun.resumed.items c.work_files-ledger.result.came = record {
       begun = begun.3;
-      ran = worked_run g.R.Disk.Disk.count g.R.Disk.Disk.limit g.R.Disk.Disk.content g.R.Disk.Disk.images (files_deed (g.V.Verifier.verdict_of c.args.verifier.now) c.args.files.now) (entry_ledger begun.0) c.in-Ok.begun.ledger c.work_files-ledger.result.ledger c.in-Ok.begun.resumed (Ok c.in-Ok.begun.resumed) c.work_files-ledger.result.came refl begun.4 c.work_files-ledger.ensures;
+      ran = worked_run g.R.Disk.Disk.content g.R.Disk.Disk.images (files_deed (g.V.Verifier.verdict_of c.args.verifier.now) c.args.files.now) (entry_ledger begun.0) c.in-Ok.begun.ledger c.work_files-ledger.result.ledger c.in-Ok.begun.resumed (Ok c.in-Ok.begun.resumed) c.work_files-ledger.result.came refl begun.4 c.work_files-ledger.ensures;
     } in
     let done : HasDone g.R.Disk.Disk.content g.R.Disk.Disk.images g.R.Disk.Disk.limit g.R.Disk.Disk.count (g.R.Rack.held c.args.rack.now) (g.R.Rack.held c.end_on.new.rack) (g.R.Rack.count c.args.rack.now) (g.R.Rack.count c.end_on.new.rack) (files_deed (g.V.Verifier.verdict_of c.args.verifier.now) c.args.files.now) c.end_on.result =
     subst (λ b. HasDone g.R.Disk.Disk.content g.R.Disk.Disk.images g.R.Disk.Disk.limit g.R.Disk.Disk.count (g.R.Rack.held c.args.rack.now) (g.R.Rack.held c.end_on.new.rack) b (g.R.Rack.count c.end_on.new.rack) (files_deed (g.V.Verifier.verdict_of c.args.verifier.now) c.args.files.now) c.end_on.result) begun.2
@@ -70,7 +70,7 @@ returns-in-Ok-end_on-clause-told g c =
     let begun = c.in-Ok.ensures.begun in
     let has : HasCome g.R.Disk.Disk.content g.R.Disk.Disk.images g.R.Disk.Disk.limit g.R.Disk.Disk.count (files_deed (g.V.Verifier.verdict_of c.args.verifier.now) c.args.files.now) begun.0 (g.R.Rack.held c.begin_on.new.rack) (g.R.Rack.can_put c.begin_on.new.rack) (g.R.Rack.can_take c.begin_on.new.rack) c.work_files-ledger.result.ledger c.in-Ok.begun.resumed.items c.work_files-ledger.result.came = record {
       begun = begun.3;
-      ran = worked_run g.R.Disk.Disk.count g.R.Disk.Disk.limit g.R.Disk.Disk.content g.R.Disk.Disk.images (files_deed (g.V.Verifier.verdict_of c.args.verifier.now) c.args.files.now) (entry_ledger begun.0) c.in-Ok.begun.ledger c.work_files-ledger.result.ledger c.in-Ok.begun.resumed (Ok c.in-Ok.begun.resumed) c.work_files-ledger.result.came refl begun.4 c.work_files-ledger.ensures;
+      ran = worked_run g.R.Disk.Disk.content g.R.Disk.Disk.images (files_deed (g.V.Verifier.verdict_of c.args.verifier.now) c.args.files.now) (entry_ledger begun.0) c.in-Ok.begun.ledger c.work_files-ledger.result.ledger c.in-Ok.begun.resumed (Ok c.in-Ok.begun.resumed) c.work_files-ledger.result.came refl begun.4 c.work_files-ledger.ensures;
     } in
     let done : HasDone g.R.Disk.Disk.content g.R.Disk.Disk.images g.R.Disk.Disk.limit g.R.Disk.Disk.count (g.R.Rack.held c.args.rack.now) (g.R.Rack.held c.end_on.new.rack) (g.R.Rack.count c.args.rack.now) (g.R.Rack.count c.end_on.new.rack) (files_deed (g.V.Verifier.verdict_of c.args.verifier.now) c.args.files.now) c.end_on.result =
     subst (λ b. HasDone g.R.Disk.Disk.content g.R.Disk.Disk.images g.R.Disk.Disk.limit g.R.Disk.Disk.count (g.R.Rack.held c.args.rack.now) (g.R.Rack.held c.end_on.new.rack) b (g.R.Rack.count c.end_on.new.rack) (files_deed (g.V.Verifier.verdict_of c.args.verifier.now) c.args.files.now) c.end_on.result) begun.2
@@ -83,7 +83,7 @@ returns-in-Err-end_on-clause-stopped g c =
     let begun = c.in-Ok.ensures.begun in
     let has : HasCome g.R.Disk.Disk.content g.R.Disk.Disk.images g.R.Disk.Disk.limit g.R.Disk.Disk.count (files_deed (g.V.Verifier.verdict_of c.args.verifier.now) c.args.files.now) begun.0 (g.R.Rack.held c.begin_on.new.rack) (g.R.Rack.can_put c.begin_on.new.rack) (g.R.Rack.can_take c.begin_on.new.rack) c.work_files-ledger.result.ledger c.in-Ok.begun.resumed.items c.work_files-ledger.result.came = record {
       begun = begun.3;
-      ran = worked_run g.R.Disk.Disk.count g.R.Disk.Disk.limit g.R.Disk.Disk.content g.R.Disk.Disk.images (files_deed (g.V.Verifier.verdict_of c.args.verifier.now) c.args.files.now) (entry_ledger begun.0) c.in-Ok.begun.ledger c.work_files-ledger.result.ledger c.in-Ok.begun.resumed (Ok c.in-Ok.begun.resumed) c.work_files-ledger.result.came refl begun.4 c.work_files-ledger.ensures;
+      ran = worked_run g.R.Disk.Disk.content g.R.Disk.Disk.images (files_deed (g.V.Verifier.verdict_of c.args.verifier.now) c.args.files.now) (entry_ledger begun.0) c.in-Ok.begun.ledger c.work_files-ledger.result.ledger c.in-Ok.begun.resumed (Ok c.in-Ok.begun.resumed) c.work_files-ledger.result.came refl begun.4 c.work_files-ledger.ensures;
     } in
     let done : HasDone g.R.Disk.Disk.content g.R.Disk.Disk.images g.R.Disk.Disk.limit g.R.Disk.Disk.count (g.R.Rack.held c.args.rack.now) (g.R.Rack.held c.end_on.new.rack) (g.R.Rack.count c.args.rack.now) (g.R.Rack.count c.end_on.new.rack) (files_deed (g.V.Verifier.verdict_of c.args.verifier.now) c.args.files.now) c.end_on.result =
     subst (λ b. HasDone g.R.Disk.Disk.content g.R.Disk.Disk.images g.R.Disk.Disk.limit g.R.Disk.Disk.count (g.R.Rack.held c.args.rack.now) (g.R.Rack.held c.end_on.new.rack) b (g.R.Rack.count c.end_on.new.rack) (files_deed (g.V.Verifier.verdict_of c.args.verifier.now) c.args.files.now) c.end_on.result) begun.2

@@ -1,9 +1,10 @@
 use Rattle.std.proofs.Common.{arith, sym, subst}
 use Rattle.shard_node.proofs.Keeps.{stays}
 use Rattle.shard_node.proofs.Locks.{HasTaken, size_exact, kept_exact, lock_full_is, taken_shard, lock_memory, lock_room, lock_wrote, lock_done, lock_left, lock_failed}
-use Rattle.shard_node.specs.Shards.{HoldsJournal, LeavesBetween}
+use Rattle.node_journal.specs.Nodes.{HoldsJournal, LeavesBetween}
 use Rattle.shard_node.specs.Parts.{view_of}
-use Rattle.shard_node.proofs.Leaving.{same_view, still}
+use Rattle.shard_node.proofs.Leaving.{same_view}
+use Rattle.node_journal.proofs.Leaving.{still}
 use Rattle.shard_node.proofs.locking.append_lock.Goals as goal
 
 pub overflow_add-later-2 : goal.overflow_add-later-2

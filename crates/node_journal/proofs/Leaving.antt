@@ -1,4 +1,4 @@
--- What a crash leaves while a coordinator is called.
+-- What a node's disk holds, and what a crash leaves while it is called.
 use Rattle.std.proofs.Common.{◌≡◌, inl, inr, ⊎_elim, ℕ, List, [], ◌∷◌, ◌++◌, reverse, Option, Some, None, sym, ◌∙◌, ap, subst}
 use Rattle.std.specs.Prelude.{IsTrue}
 use Rattle.std.proofs.lemmas.List.{reverse-reverse, map-append}
@@ -7,23 +7,24 @@ use Rattle.outside.specs.Images.{Leaves}
 use Rattle.outside.specs.declared.disk.Disk.{Ghosts}
 use Rattle.outside.proofs.Moments.{started, weakened}
 use Rattle.gate_journal.specs.Rows.{Opens, OpensWithOrWithout}
-use Rattle.gate_journal.specs.Shown.{disk_of}
+use Rattle.gate_journal.specs.Shown.{disk_of, broken_of}
 use Rattle.record_log.specs.Bodies.{body_of}
 use Rattle.record_log.specs.declared.log.RecordLog.{RecordLog}
 use Rattle.record_log.specs.Held.{bodies_of, OpensTo, OpensToEither}
-use Rattle.coord_log.specs.Logs.{LogOf, HoldsJournal, OpensToSeen, IsLeftBetween, LeavesBetween}
-use Rattle.coord_log.specs.Inside.{shown}
+use Rattle.record_log.specs.Logs.{HoldsAll}
+use Rattle.node_journal.specs.Nodes.{NodeOf, HoldsJournal, OpensToSeen, IsLeftBetween, LeavesBetween}
+use Rattle.node_journal.specs.Shown.{shown}
 
 -- a call that writes nothing
-pub still : {D : Type 0} (G : Ghosts D) (s : LogOf D) → ((c : List ℕ) → IsTrue (G.tells_past s.disk) → G.images_since s.disk (G.moment s.disk) c → G.images s.disk c)
+pub still : {D : Type 0} (G : Ghosts D) (s : NodeOf D) → ((c : List ℕ) → IsTrue (G.tells_past s.disk) → G.images_since s.disk (G.moment s.disk) c → G.images s.disk c)
     → HoldsJournal G.content G.images s → LeavesBetween G.tells_past G.moment G.images_since G.images s s
 still G s only_now holds = started G.tells_past G.moment G.images_since G.images s.disk (IsLeftBetween s s) only_now (λ c image. inl (holds.each c image))
 
 -- the same, seen in another way
-pub still_seen : {D : Type 0} (G : Ghosts D) (s t : LogOf D) → t ≡ s → ((c : List ℕ) → IsTrue (G.tells_past s.disk) → G.images_since s.disk (G.moment s.disk) c → G.images s.disk c)
+pub still_seen : {D : Type 0} (G : Ghosts D) (s t : NodeOf D) → t ≡ s → ((c : List ℕ) → IsTrue (G.tells_past s.disk) → G.images_since s.disk (G.moment s.disk) c → G.images s.disk c)
     → HoldsJournal G.content G.images s → LeavesBetween G.tells_past G.moment G.images_since G.images s t
 still_seen {D} G s t same only_now holds =
-    let P : LogOf D → Type 0 = λ x. LeavesBetween G.tells_past G.moment G.images_since G.images s x in
+    let P : NodeOf D → Type 0 = λ x. LeavesBetween G.tells_past G.moment G.images_since G.images s x in
     subst P (sym same) (still G s only_now holds)
 
 module _ {D : Type 0} {G : Ghosts D} where
@@ -54,3 +55,28 @@ module _ {D : Type 0} {G : Ghosts D} where
       weakened G.tells_past G.moment G.images_since G.images (disk_of old.journal) (disk_of new.journal) (OpensWithOrWithout (bodies_of old.records.items) (body_of r))
       (IsLeftBetween (shown old opened flight) (shown new opened (Some r))) leaves
       (λ c either. inr (subst (λ (k : List Record). OpensWithOrWithout (bodies_of k) (body_of r) c) same either))
+
+-- a disk that holds the records, and nothing in flight
+pub to_journal : {D : Type 0} {G : Ghosts D} (l : RecordLog D G) (opened : ℕ) (flight : Option Record) → flight ≡ None → HoldsAll l l.records.items → HoldsJournal G.content G.images (shown l opened flight)
+to_journal {D} {G} l opened flight none holds =
+    let same : reverse (reverse l.records.items) ≡ l.records.items = reverse-reverse l.records.items in
+    record {
+      each = λ c image. rw (none, same) (let P : List ℕ → Type 0 = λ x. OpensToEither l.records.items None x in subst P (sym (holds.durable c image)) holds.opens);
+      reads = λ e. rw same holds;
+    }
+
+pub from_journal : {D : Type 0} {G : Ghosts D} (l : RecordLog D G) (opened : ℕ) (flight : Option Record) → broken_of l.journal ≡ None → HoldsJournal G.content G.images (shown l opened flight) → HoldsAll l l.records.items
+from_journal {D} {G} l opened flight whole journal =
+    let same : reverse (reverse l.records.items) ≡ l.records.items = reverse-reverse l.records.items in
+    let h = journal.reads whole in
+    rw same at h
+
+-- a disk that failed leaves the record in flight
+pub to_broken : {D : Type 0} {G : Ghosts D} (l : RecordLog D G) (records : List Record) (opened : ℕ) (r : Record) → l.records.items ≡ records → broken_of l.journal ≡ Some (G.count (disk_of l.journal))
+    → ((c : List ℕ) → G.images (disk_of l.journal) c → OpensWithOrWithout (bodies_of records) (body_of r) c) → HoldsJournal G.content G.images (shown l opened (Some r))
+to_broken {D} {G} l records opened r same broken each =
+    let twice : reverse (reverse l.records.items) ≡ records = reverse-reverse l.records.items ∙ same in
+    record {
+      each = λ c image. rw twice (each c image);
+      reads = λ e. cc;
+    }
