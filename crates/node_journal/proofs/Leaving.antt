@@ -11,7 +11,7 @@ use Rattle.gate_journal.specs.Shown.{disk_of, broken_of}
 use Rattle.record_log.specs.Bodies.{body_of}
 use Rattle.record_log.specs.declared.log.RecordLog.{RecordLog}
 use Rattle.record_log.specs.Held.{bodies_of, OpensTo, OpensToEither}
-use Rattle.record_log.specs.Logs.{HoldsAll}
+use Rattle.record_log.specs.Logs.{HoldsAll, IsUntouched}
 use Rattle.node_journal.specs.Nodes.{NodeOf, HoldsJournal, OpensToSeen, IsLeftBetween, LeavesBetween}
 use Rattle.node_journal.specs.Shown.{shown}
 
@@ -55,6 +55,20 @@ module _ {D : Type 0} {G : Ghosts D} where
       weakened G.tells_past G.moment G.images_since G.images (disk_of old.journal) (disk_of new.journal) (OpensWithOrWithout (bodies_of old.records.items) (body_of r))
       (IsLeftBetween (shown old opened flight) (shown new opened (Some r))) leaves
       (λ c either. inr (subst (λ (k : List Record). OpensWithOrWithout (bodies_of k) (body_of r) c) same either))
+
+-- room that a log takes is not seen
+pub shown_same : {D : Type 0} {G : Ghosts D} (old new : RecordLog D G) (opened : ℕ) (flight : Option Record) → IsUntouched old new → new.records.items ≡ old.records.items → new.header ≡ old.header → shown new opened flight ≡ shown old opened flight
+shown_same {D} {G} old new opened flight untouched records header = λ i. record {
+  header = header i;
+  journal = reverse (records i);
+  flight = flight;
+  faults = G.count (untouched.disk i);
+  opened = opened;
+  broken = untouched.broken i;
+  gate = untouched.gate i;
+  capacity = G.limit (untouched.disk i);
+  disk = untouched.disk i;
+}
 
 -- a disk that holds the records, and nothing in flight
 pub to_journal : {D : Type 0} {G : Ghosts D} (l : RecordLog D G) (opened : ℕ) (flight : Option Record) → flight ≡ None → HoldsAll l l.records.items → HoldsJournal G.content G.images (shown l opened flight)

@@ -9,4 +9,3 @@ pub mod Going
 pub mod Opens
 pub mod Later
 pub mod Stops
-pub mod Leaving
