@@ -44,12 +44,12 @@ module _ {D : Type 0} (content : D → Option (List ℕ)) (images : D → List �
   at_log : (n : ℕ) → n < h.shape.coordinators → journals_of h.shape logs shards n ≡ journal n History
   at_log n low =
       let l = at_place logs n (omega (arith, low, are.coordinators)) in
-      log_seen content images limit count h.shape logs shards n l.0 low l.1 ∙ log_told logs shards caused.rows caused.merged n l.0 l.1
+      log_seen h.shape logs shards n l.0 low l.1 ∙ log_told logs shards caused.rows caused.merged n l.0 l.1
 
   at_shard : (s : ℕ) → s < h.shape.shards → journals_of h.shape logs shards (h.shape.coordinators + s) ≡ journal (h.shape.coordinators + s) History
   at_shard s low =
       let x = at_place shards s (omega (arith, low, are.shards_are)) in
-      shard_seen content images limit count h.shape logs shards s x.0 x.1 ∙ shard_told logs shards caused.rows caused.merged s x.0 x.1 ∙ ap (λ k. journal (k + s) History) are.coordinators
+      shard_seen h.shape logs shards s x.0 x.1 ∙ shard_told logs shards caused.rows caused.merged s x.0 x.1 ∙ ap (λ k. journal (k + s) History) are.coordinators
 
   no_node : (n : ℕ) → h.shape.coordinators + h.shape.shards ≤ n → journal n History ≡ []
   no_node n past = none_told logs shards caused.rows caused.merged n (omega (arith, past, are.coordinators, are.shards_are))
