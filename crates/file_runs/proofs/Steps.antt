@@ -69,14 +69,14 @@ module _ {D : Type 0} where
   none_there (s ∷ shards) zero le = absurd (omega (arith, le))
   none_there (s ∷ shards) (suc n) le = none_there shards n (omega (arith, le))
 
-  pub are_nodes : (h : Header) (logs : List (NodeOf D)) (shards : List (NodeOf D)) → IsLedger h logs shards → AreNodes h.shape (sight_at sight logs) (sight_at sight shards)
+  pub are_nodes : (h : Header) (logs shards : List (NodeOf D)) → IsLedger h logs shards → AreNodes h.shape (sight_at sight logs) (sight_at sight shards)
   are_nodes h logs shards ledger = record {
     logs_are = λ n lt. journal_at logs ledger.log_journals n (subst (λ m. n < m) (sym ledger.coordinators) lt);
     shards_are = λ s lt. journal_at shards ledger.shard_journals s (subst (λ m. s < m) (sym ledger.shards_are) lt);
     beyond = λ s le. none_there shards s (subst (λ m. m ≤ s) (sym ledger.shards_are) le);
   }
 
-  pub are_next : (h : Header) (logs : List (NodeOf D)) (shards : List (NodeOf D)) → length logs ≡ h.shape.coordinators → length shards ≡ h.shape.shards → All FliesNext logs → All FliesNext shards
+  pub are_next : (h : Header) (logs shards : List (NodeOf D)) → length logs ≡ h.shape.coordinators → length shards ≡ h.shape.shards → All FliesNext logs → All FliesNext shards
       → AreNext h.shape (sight_at sight logs) (sight_at sight shards)
   are_next h logs shards log_count shard_count log_flights shard_flights = record {
     logs_are = λ n lt. next_at logs log_flights n (subst (λ m. n < m) (sym log_count) lt);
@@ -84,18 +84,18 @@ module _ {D : Type 0} where
     beyond = λ s le. none_flies shards s (subst (λ m. m ≤ s) (sym shard_count) le);
   }
 
-  pub are_shards : (h : Header) (logs : List (NodeOf D)) (shards : List (NodeOf D)) → IsLedger h logs shards → AreShardsOf h.shape (sight_at sight shards)
+  pub are_shards : (h : Header) (logs shards : List (NodeOf D)) → IsLedger h logs shards → AreShardsOf h.shape (sight_at sight shards)
   are_shards h logs shards ledger s lt =
       let e : (sight_at sight shards s).header ≡ header_of h.shape h.genesis (shard_node h.shape s) = ledger.shard_headers s lt in
       (ap (λ k. k.shape) e, ap (λ k. k.node) e)
 
-  pub is_lane : (h : Header) (logs : List (NodeOf D)) (shards : List (NodeOf D)) (lane at : ℕ) → IsLedger h logs shards → IsLaneOf h.shape lane → at ≡ home_of h.shape lane
+  pub is_lane : (h : Header) (logs shards : List (NodeOf D)) (lane at : ℕ) → IsLedger h logs shards → IsLaneOf h.shape lane → at ≡ home_of h.shape lane
       → IsLane (sight_at sight logs at).header lane
   is_lane h logs shards lane at ledger lt e =
       subst (λ m. IsLane (sight_at sight logs m).header lane) (sym e)
       (subst (λ k. IsLane k lane) (sym (ledger.log_headers (home_of h.shape lane) (home_inside lane h.shape.coordinators h.shape.lanes lt))) (lt, refl))
 
-  pub open_at : (h : Header) (logs : List (NodeOf D)) (shards : List (NodeOf D)) (lane at : ℕ) (o : OpenLane) → IsLedger h logs shards → IsLaneOf h.shape lane → at ≡ home_of h.shape lane
+  pub open_at : (h : Header) (logs shards : List (NodeOf D)) (lane at : ℕ) (o : OpenLane) → IsLedger h logs shards → IsLaneOf h.shape lane → at ≡ home_of h.shape lane
       → open_lane (sight_at sight logs (home_of h.shape lane)).seen lane ≡ Some o
       → IsOpen (sight_at sight logs at).header (λ l. (slot (sight_at sight logs at).seen l).phase) (λ l. txs_of (sight_at sight logs at).seen (open_batch (sight_at sight logs at).seen l)) o
   open_at h logs shards lane at o ledger lt e told =
@@ -103,7 +103,7 @@ module _ {D : Type 0} where
       (journal_at logs ledger.log_journals at (subst (λ n. n < length logs) (sym e) (subst (λ m. home_of h.shape lane < m) (sym ledger.coordinators) (home_inside lane h.shape.coordinators h.shape.lanes lt))))
       (is_lane h logs shards lane at ledger lt e) (subst (λ n. open_lane (sight_at sight logs n).seen lane ≡ Some o) (sym e) told)
 
-  module _ (content : D → Option (List ℕ)) (images : D → List ℕ → Type 0) (h : Header) (lane at at' : ℕ) (logs : List (NodeOf D)) (shards : List (NodeOf D)) (logs' : List (NodeOf D)) (shards' : List (NodeOf D))
+  module _ (content : D → Option (List ℕ)) (images : D → List ℕ → Type 0) (h : Header) (lane at at' : ℕ) (logs shards : List (NodeOf D)) (logs' : List (NodeOf D)) (shards' : List (NodeOf D))
       (ledger : IsLedger h logs shards) (lt : IsLaneOf h.shape lane) (at_is : at ≡ home_of h.shape lane) (at_same : at' ≡ at)
       (named : ℕ) (named_is : named ≡ lane) (log_count : length logs' ≡ length logs) (shard_count : length shards' ≡ length shards)
       (elsewhere : (n : ℕ) → n ≢ at → sight_at sight logs' n ≡ sight_at sight logs n) (log_nodes : KeepNodes (sight_at sight logs) (sight_at sight logs')) (shard_nodes : KeepNodes (sight_at sight shards) (sight_at sight shards'))

@@ -45,7 +45,7 @@ batch_of : (J : List Record) (lane : ℕ) (phase : Option OpenPhase) (o : OpenLa
 batch_of J lane None o told = absurd (let z : None ≡ Some o = told in cc)
 batch_of J lane (Some p) o told = let same : o ≡ batch_in J lane p = cc in ap (λ l. l.batch) same
 
-module _ {D : Type 0} (content : D → Option (List ℕ)) (images : D → List ℕ → Type 0) (h : Header) (lane : ℕ) (logs : List (NodeOf D)) (shards : List (NodeOf D))
+module _ {D : Type 0} (content : D → Option (List ℕ)) (images : D → List ℕ → Type 0) (h : Header) (lane : ℕ) (logs shards : List (NodeOf D))
     (ledger : IsLedger h logs shards) (lt : IsLaneOf h.shape lane) where
   abbrev K : Shape
   K = h.shape

@@ -43,7 +43,7 @@ module _ (K : Shape) (logs shards : ℕ → Sight) where
       back : shard_node K s - K.coordinators ≡ s
       back = omega arith
 
-module _ {D : Type 0} (content : D → Option (List ℕ)) (images : D → List ℕ → Type 0) (h : Header) (logs : List (NodeOf D)) (shards : List (NodeOf D)) (logs' : List (NodeOf D)) (shards' : List (NodeOf D))
+module _ {D : Type 0} (content : D → Option (List ℕ)) (images : D → List ℕ → Type 0) (h : Header) (logs shards : List (NodeOf D)) (logs' : List (NodeOf D)) (shards' : List (NodeOf D))
     (old new : List LaneOf) (ledger : IsLedger h logs shards) (places : length old ≡ h.shape.coordinators * h.shape.lanes)
     (ran : WaveRan h.shape (sight_at sight logs) (sight_at sight shards) (sight_at sight logs') (sight_at sight shards') old new)
     (logs_go : WentOn sight (λ a b. IsNodeHeld content images a → IsNodeHeld content images b) logs logs') (shards_go : WentOn sight (λ a b. IsNodeHeld content images a → IsNodeHeld content images b) shards shards')
@@ -122,7 +122,7 @@ module _ {D : Type 0} (content : D → Option (List ℕ)) (images : D → List �
       log_at n (inl lt) = sym (log_flight K L' S' n lt) ∙ none n
       log_at n (inr le) = ap (λ x. x.flight) (past_end sight Goes logs' n (subst (λ m. m ≤ n) (sym still.coordinators) le))
 
-pub wave_law : {D : Type 0} (content : D → Option (List ℕ)) (images : D → List ℕ → Type 0) (h : Header) (logs : List (NodeOf D)) (shards : List (NodeOf D)) (logs' : List (NodeOf D)) (shards' : List (NodeOf D))
+pub wave_law : {D : Type 0} (content : D → Option (List ℕ)) (images : D → List ℕ → Type 0) (h : Header) (logs shards : List (NodeOf D)) (logs' : List (NodeOf D)) (shards' : List (NodeOf D))
     (old new : List LaneOf) → WaveLaw content images h logs shards logs' shards' old new
 wave_law content images h logs shards logs' shards' old new ledger places ran logs_go shards_go log_journals log_flights shard_journals shard_flights =
     let a = all content images h logs shards logs' shards' old new ledger places ran logs_go shards_go log_journals log_flights shard_journals shard_flights in
@@ -143,7 +143,7 @@ wave_law content images h logs shards logs' shards' old new ledger places ran lo
 
 -- ---- what a wave asks of the nodes and of the lanes
 
-module _ {D : Type 0} (h : Header) (logs : List (NodeOf D)) (shards : List (NodeOf D)) (ledger : IsLedger h logs shards) where
+module _ {D : Type 0} (h : Header) (logs shards : List (NodeOf D)) (ledger : IsLedger h logs shards) where
   pub nodes_of : AreNodesOf h.shape (sight_at sight logs) (sight_at sight shards)
   nodes_of = record {
     logs_are = λ n lt. (ap (λ k. k.shape) (ledger.log_headers n lt), ap (λ k. k.node) (ledger.log_headers n lt));

@@ -38,7 +38,7 @@ record IsThat (Holds : Type 0) (header : Header) (journal : List Record) (K : Sh
   pub journal_is : journal ≡ J
   pub holds : Holds
 
-module _ {D : Type 0} (content : D → Option (List ℕ)) (images : D → List ℕ → Type 0) (limit count : D → ℕ) (held : ℕ → Option D) (h : Header) (logs : List (NodeOf D)) (shards : List (NodeOf D))
+module _ {D : Type 0} (content : D → Option (List ℕ)) (images : D → List ℕ → Type 0) (limit count : D → ℕ) (held : ℕ → Option D) (h : Header) (logs shards : List (NodeOf D))
     (are : AreOpened content images limit count held h logs shards)
     (K : Shape) (genesis : Digest) (J : ℕ → List Record) (within : IsWithinLimits K) (shows : Shows content held K genesis J) where
   log_that : (n : ℕ) (l : NodeOf D) → slice_get logs n ≡ Some l → n < node_count K → IsThat (HoldsJournal content images l) l.header l.journal K genesis n (J n)

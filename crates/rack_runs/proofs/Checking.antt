@@ -35,7 +35,7 @@ beyond_all see [] n h = refl
 beyond_all see (x ∷ xs) zero h = absurd (omega (arith, h))
 beyond_all see (x ∷ xs) (suc n) h = beyond_all see xs n (omega (arith, h))
 
-module _ {D : Type 0} (content : D → Option (List ℕ)) (images : D → List ℕ → Type 0) (limit count : D → ℕ) (held : ℕ → Option D) (h : Header) (logs : List (NodeOf D)) (shards : List (NodeOf D))
+module _ {D : Type 0} (content : D → Option (List ℕ)) (images : D → List ℕ → Type 0) (limit count : D → ℕ) (held : ℕ → Option D) (h : Header) (logs shards : List (NodeOf D))
     (are : AreOpened content images limit count held h logs shards) (caused : AreCaused h.shape (lent_journals logs shards)) where
   abbrev History : List Row
   History = reverse caused.rows

@@ -275,7 +275,7 @@ wants_next K genesis m next E X limits checked were are fits lane node front r l
 
 module _ {D : Type 0} (content : D → Option (List ℕ)) (images : D → List ℕ → Type 0) (limit count : D → ℕ) where
   -- each node's journal has its header of the ledger
-  node_header : (h : Header) (logs : List (NodeOf D)) (shards : List (NodeOf D)) → IsLedger h logs shards → (n : ℕ) → n < node_count h.shape → IsJournal (header_of h.shape h.genesis n) (journals_of h.shape logs shards n)
+  node_header : (h : Header) (logs shards : List (NodeOf D)) → IsLedger h logs shards → (n : ℕ) → n < node_count h.shape → IsJournal (header_of h.shape h.genesis n) (journals_of h.shape logs shards n)
   node_header h logs shards is n inside = elim (cases_lt n h.shape.coordinators) [
     | inl low ↦
         let l = at_place logs n (omega (arith, low, is.coordinators)) in

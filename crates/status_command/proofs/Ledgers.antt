@@ -22,7 +22,7 @@ use Rattle.status_command.specs.Outcomes.{DidStatus}
 use Rattle.status_command.specs.Texts.{told_lines, journal_there, journals_at, status_among}
 use Rattle.status_command.proofs.Items.{at_place, journal_some}
 
-module _ {D : Type 0} (K : Shape) (logs : List (NodeOf D)) (shards : List (NodeOf D)) where
+module _ {D : Type 0} (K : Shape) (logs shards : List (NodeOf D)) where
   pub journal_low : (n : ℕ) → n < K.coordinators → journals_at K logs shards n ≡ journal_there (λ (l : NodeOf D). l.journal) logs n
   journal_low n low = go (nat_lt n K.coordinators) refl
     where
@@ -50,7 +50,7 @@ module _ {D : Type 0} (K : Shape) (logs : List (NodeOf D)) (shards : List (NodeO
       ap (λ (t : Text). t ++ told_lines xs (map (status_among shards) xs)) (ap (status_line x) here)
       ∙ ap (λ (t : Text). status_line x (status_at K (journals_at K logs shards) x) ++ t) (lines_are count xs)
 
-module _ {D : Type 0} (content : D → Option (List ℕ)) (images : D → List ℕ → Type 0) (limit count : D → ℕ) (held : ℕ → Option D) (h : Header) (logs : List (NodeOf D)) (shards : List (NodeOf D))
+module _ {D : Type 0} (content : D → Option (List ℕ)) (images : D → List ℕ → Type 0) (limit count : D → ℕ) (held : ℕ → Option D) (h : Header) (logs shards : List (NodeOf D))
     (are : AreOpened content images limit count held h logs shards) where
   pub few_shards : length shards ≤ 64
   few_shards = omega (arith, are.shards_are, are.limits.shards)
