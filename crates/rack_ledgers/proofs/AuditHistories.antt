@@ -1,5 +1,5 @@
 -- The verdict on the history of a ledger's nodes.
-use Rattle.std.proofs.Common.{◌≡◌, ◌≤◌, ◌+◌, ◌∙◌, ℕ, List, length, reverse, Option, Result, Ok, Err, sym, ap, subst, arith}
+use Rattle.std.proofs.Common.{◌≡◌, ◌+◌, ◌∙◌, ℕ, List, length, reverse, Option, Result, Ok, Err, sym, ap, subst, arith}
 use Rattle.std.specs.Prelude.{IfOk}
 use Rattle.std.proofs.lemmas.List.{reverse-reverse}
 use Rattle.cbdc_model.specs.Records.{Digest, Shape, Header, Record, Row, journal}
@@ -38,12 +38,11 @@ module _ {D : Type 0} (content : D → Option (List ℕ)) (images : D → List �
   audited_room now closed_logs closed_shards v has =
       let logs_own = log_journal logs shards has.rows has.merged in
       let shards_own = shard_journal logs shards has.rows has.merged in
-      let J : ℕ → List Record = λ n. journal n (reverse has.rows) in
-      (
+      let J : ℕ → List Record = λ n. journal n (reverse has.rows) in (
         is_audited v has,
         each_room content images limit count held h logs shards are J logs_own shards_own,
         subst (λ (g : Digest). HistoryIsHeld content images held now h.shape g has.rows) minted
-        (each_holds content images limit count held h logs shards are J logs_own shards_own now closed_logs closed_shards),
+            (each_holds content images limit count held h logs shards are J logs_own shards_own now closed_logs closed_shards),
       )
 
 -- what the walk over the history says

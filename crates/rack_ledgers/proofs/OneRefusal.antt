@@ -1,7 +1,6 @@
 -- A node's disk is refused in one way at most.
-use Rattle.std.proofs.Common.{◌≡◌, ◌+◌, ◌<◌, ℕ, List, [], ◌∷◌, ◌++◌, length, reverse, refl, sym, ap, ap₂, ◌∙◌, subst, arith}
+use Rattle.std.proofs.Common.{◌≡◌, ℕ, List, [], ◌∷◌, ◌++◌, length, reverse, refl, sym, ap, ap₂, ◌∙◌, subst, arith}
 use Rattle.cbdc_types.specs.Limits.{IsWithinLimits}
-use Rattle.cbdc_types.specs.declared.calls.NodeOpenFault.{NodeOpenFault}
 use Rattle.cbdc_types.specs.declared.calls.NodeOpenFault.TheVariants.{DiskFault, NotReady, OtherKind, Damaged, Full, Memory}
 use Rattle.cbdc_model.specs.Records.{Header, Record, Genesis, Lock, Finish, Forget, Start, Prepare, Commit, Discard, Done}
 use Rattle.cbdc_model.specs.Grammar.{IsInGrammar}
@@ -13,7 +12,7 @@ use Rattle.gate_journal.specs.Rows.{filling, row, rows}
 use Rattle.gate_journal.proofs.Once.{tail_is, row_once}
 use Rattle.record_log.specs.Held.{bodies_of, HasRow}
 use Rattle.record_log.proofs.LogSizes.{body_small, first_small}
-use Rattle.node_journal.specs.Opening.{IsJournalOf, IsDamagedAt, IsTooFull, IsNoNodeOf}
+use Rattle.node_journal.specs.Opening.{IsJournalOf, IsDamagedAt, IsNoNodeOf}
 use Rattle.shard_node.specs.Opening.{IsShardHeader, IsStart}
 use Rattle.coord_log.specs.Opening.{IsCoord, IsGenesis}
 use Rattle.rack_ledgers.proofs.Once.{same_record}
