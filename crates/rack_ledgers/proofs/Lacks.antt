@@ -1,5 +1,5 @@
 -- The first node that can't be opened.
-use Rattle.std.proofs.Common.{◌≡◌, ◌≤◌, ◌+◌, ◌∷◌, ℕ, List, length, Option, Some, None, inl, inr, sym, ◌∙◌, subst, arith}
+use Rattle.std.proofs.Common.{◌≡◌, ◌≤◌, ◌+◌, ◌∷◌, [], ℕ, List, length, Option, Some, None, inl, inr, refl, sym, ◌∙◌, subst, arith}
 use Rattle.outside.specs.Images.{Tells}
 use Rattle.cbdc_types.specs.Limits.{IsWithinLimits}
 use Rattle.cbdc_types.specs.declared.answer.Answer.{Answer}
@@ -13,7 +13,7 @@ use Rattle.rack_ledgers.specs.Racked.{OfTold, FailsFirst}
 use Rattle.rack_ledgers.specs.Refused.{IsNoNode, IsNodeRefusal}
 use Rattle.rack_ledgers.proofs.Range.{opening_later}
 use Rattle.rack_ledgers.specs.Ledgers.{ByPlace, IsNodeAt, IsRefused, IsMintOf, IsOtherMint, LacksLog, LacksShard, IsUnopenedBy}
-use Rattle.rack_ledgers.proofs.Opened.{OpensNode, led_at, nodes_at}
+use Rattle.rack_ledgers.proofs.Opened.{OpensNode, led_whole, nodes_at}
 
 -- want of memory may always be
 pub memory_refused : {D : Type 0} (content : D → Option (List ℕ)) (limit : D → ℕ) (held : ℕ → Option D) (before now : ℕ → ℕ) (Is : Header → Type 0) (ledger : Option Header) (place : ℕ) (e : Answer)
@@ -63,7 +63,8 @@ module _ {D : Type 0} (content : D → Option (List ℕ)) (images : D → List �
         minted = minted;
         some = omega arith;
         inside = omega (arith, f.inside, f.places, start, stop);
-        logs_at = led_at content images limit count IsCoord held mid between h lead f.before kept at_lead (subst (λ (k : ℕ). EachFrom (OpensNode content images limit count IsCoord mid between h) k f.before) start f.opened);
+        logs_at = led_whole content images limit count IsCoord held mid between h lead (lead ∷ []) (lead ∷ f.before) refl kept at_lead
+            (record { more = f.before; parts = refl; each = subst (λ (k : ℕ). EachFrom (OpensNode content images limit count IsCoord mid between h) k f.before) start f.opened });
         refused = refused_later held mid before between now after IsCoord (Some h) f.node (length (lead ∷ f.before)) e place (kept f.node (omega (arith, place))) (later f.node) (longer f.node) f.fails;
       }
 

@@ -10,6 +10,14 @@ use Rattle.rack_ledgers.proofs.Told.{back_opened}
 use Rattle.rack_ledgers.specs.Ledgers.{ByPlace, IsNodeAt}
 use Rattle.rack_ledgers.proofs.Places.{at_place, by_place}
 
+-- the first item, and those behind it
+led_each : {N : Type 0} (P Q : ℕ → N → Type 0) (lead : N) (front whole : List N) → front ≡ lead ∷ [] → ((k : ℕ) (x : N) → 1 ≤ k → P k x → Q k x) → Q 0 lead → GoesOn P 0 front whole → ByPlace Q whole
+led_each P Q lead front whole alone step first all =
+    let same : whole ≡ lead ∷ all.more = all.parts ∙ ap (λ (l : List _). l ++ all.more) alone in
+    let one : 0 + length front ≡ 1 = omega (arith, ap length alone) in
+    subst (λ (l : List _). ByPlace Q l) (sym same)
+    (by_place Q (lead ∷ all.more) (first, each_weaker P Q 1 all.more (λ k x ge lt is. step k x ge is) (subst (λ (k : ℕ). EachFrom P k all.more) one all.each)))
+
 module _ {D : Type 0} (content : D → Option (List ℕ)) (images : D → List ℕ → Type 0) (limit count : D → ℕ) (Is : Header → Type 0) where
   -- what opening all says of each node of the kind, with what the rack tells as it begins
   abbrev pub OpensNode : (ℕ → Option D) → (ℕ → ℕ) → Header → ℕ → NodeOf D → Type 0
@@ -26,24 +34,16 @@ module _ {D : Type 0} (content : D → Option (List ℕ)) (images : D → List �
   lead_at held h l same fits opened =
       node_at held h 0 l (fits.0 ∙ ap (λ (k : Header). record { node = 0; shape = k.shape; genesis = k.genesis }) (sym same), fits.1, fits.2, fits.3, fits.4, fits.5, fits.6, fits.7, fits.8) opened
 
-  -- node 0 and those behind it
-  pub led_at : (held mid : ℕ → Option D) (before : ℕ → ℕ) (h : Header) (lead : NodeOf D) (more : List (NodeOf D)) → ((n : ℕ) → 1 ≤ n → mid n ≡ held n)
-      → IsNodeAt content images limit count held Is h 0 lead
-      → EachFrom (OpensNode mid before h) 1 more
-      → ByPlace (IsNodeAt content images limit count held Is h) (lead ∷ more)
-  led_at held mid before h lead more kept first others = by_place (IsNodeAt content images limit count held Is h) (lead ∷ more) (
-    first,
-    each_weaker (OpensNode mid before h) (IsNodeAt content images limit count held Is h) 1 more
-        (λ k x ge lt is. node_at held h k x is.0.0 (λ was told. is.1 was (kept k ge ∙ told))) others,
-  )
+  -- by what was told as the others were opened
+  node_later : (held mid : ℕ → Option D) (before : ℕ → ℕ) (h : Header) (first : ℕ) → ((n : ℕ) → first ≤ n → mid n ≡ held n) → (k : ℕ) (x : NodeOf D) → first ≤ k → OpensNode mid before h k x
+      → IsNodeAt content images limit count held Is h k x
+  node_later held mid before h first kept k x ge is = node_at held h k x is.0.0 (λ was told. is.1 was (kept k ge ∙ told))
 
+  -- node 0 and those behind it
   pub led_whole : (held mid : ℕ → Option D) (before : ℕ → ℕ) (h : Header) (lead : NodeOf D) (front whole : List (NodeOf D)) → front ≡ lead ∷ [] → ((n : ℕ) → 1 ≤ n → mid n ≡ held n)
       → IsNodeAt content images limit count held Is h 0 lead → GoesOn (OpensNode mid before h) 0 front whole → ByPlace (IsNodeAt content images limit count held Is h) whole
   led_whole held mid before h lead front whole alone kept first all =
-      let same : whole ≡ lead ∷ all.more = all.parts ∙ ap (λ (l : List (NodeOf D)). l ++ all.more) alone in
-      let one : 0 + length front ≡ 1 = omega (arith, ap length alone) in
-      subst (λ (l : List (NodeOf D)). ByPlace (IsNodeAt content images limit count held Is h) l) (sym same)
-      (led_at held mid before h lead all.more kept first (subst (λ (k : ℕ). EachFrom (OpensNode mid before h) k all.more) one all.each))
+      led_each (OpensNode mid before h) (IsNodeAt content images limit count held Is h) lead front whole alone (node_later held mid before h 1 kept) first all
 
   -- those from a place on
   pub nodes_at : (held mid : ℕ → Option D) (before : ℕ → ℕ) (h : Header) (first : ℕ) (nodes : List (NodeOf D)) → ((n : ℕ) → first ≤ n → mid n ≡ held n)
@@ -51,19 +51,13 @@ module _ {D : Type 0} (content : D → Option (List ℕ)) (images : D → List �
       → ByPlace (λ s x. IsNodeAt content images limit count held Is h (first + s) x) nodes
   nodes_at held mid before h first nodes kept all s x is =
       at_place (IsNodeAt content images limit count held Is h) first nodes
-      (each_weaker (OpensNode mid before h) (IsNodeAt content images limit count held Is h) first nodes
-      (λ k x ge lt is. node_at held h k x is.0.0 (λ was told. is.1 was (kept k ge ∙ told))) all) s x is
+      (each_weaker (OpensNode mid before h) (IsNodeAt content images limit count held Is h) first nodes (λ k y ge lt own. node_later held mid before h first kept k y ge own) all) s x is
 
   -- how often the disk of each node had failed before it was opened
   pub logs_since : (mid : ℕ → Option D) (before between : ℕ → ℕ) (h : Header) (lead : NodeOf D) (front whole : List (NodeOf D)) → front ≡ lead ∷ [] → ((n : ℕ) → before n ≤ between n)
       → before 0 ≤ count lead.disk → GoesOn (OpensNode mid between h) 0 front whole → ByPlace (λ n l. before n ≤ count l.disk) whole
   logs_since mid before between h lead front whole alone later first all =
-      let P : ℕ → NodeOf D → Type 0 = λ n l. before n ≤ count l.disk in
-      let same : whole ≡ lead ∷ all.more = all.parts ∙ ap (λ (l : List (NodeOf D)). l ++ all.more) alone in
-      let one : 0 + length front ≡ 1 = omega (arith, ap length alone) in
-      let others : EachFrom (OpensNode mid between h) 1 all.more = subst (λ (k : ℕ). EachFrom (OpensNode mid between h) k all.more) one all.each in
-      subst (λ (l : List (NodeOf D)). ByPlace P l) (sym same)
-      (by_place P (lead ∷ all.more) (first, each_weaker (OpensNode mid between h) P 1 all.more (λ k x ge lt is. le_trans (later k) is.0.1) others))
+      led_each (OpensNode mid between h) (λ (n : ℕ) (l : NodeOf D). before n ≤ count l.disk) lead front whole alone (λ k x ge is. le_trans (later k) is.0.1) first all
 
   pub nodes_since : (mid : ℕ → Option D) (before between : ℕ → ℕ) (h : Header) (first : ℕ) (nodes : List (NodeOf D)) → ((n : ℕ) → before n ≤ between n)
       → EachFrom (OpensNode mid between h) first nodes → ByPlace (λ s x. before (first + s) ≤ count x.disk) nodes
