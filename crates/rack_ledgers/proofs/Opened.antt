@@ -1,6 +1,7 @@
 -- Nodes that were opened, one by one.
 use Rattle.std.proofs.Common.{◌≡◌, ◌≤◌, le_trans, ◌+◌, ◌++◌, ◌∷◌, [], ℕ, List, length, Option, Some, None, sym, ◌∙◌, subst, ap, arith}
 use Rattle.cbdc_model.specs.Records.{Header}
+use Rattle.cbdc_model.specs.History.{header_of}
 use Rattle.node_journal.specs.Nodes.{NodeOf}
 use Rattle.rack_ledgers.specs.Fresh.{FitsNode, StandsNode}
 use Rattle.rack_ledgers.specs.Places.{EachFrom}
@@ -24,20 +25,29 @@ module _ {D : Type 0} (content : D → Option (List ℕ)) (images : D → List �
   OpensNode mid before h n x = (FitsNode limit count Is n (Some h) x × (before n ≤ count x.disk)) × OfTold (mid n) (λ was. IsOpened content images limit (λ y. y.disk) (StandsNode content images Is) was x)
 
   -- a node of the ledger
-  pub node_at : (held : ℕ → Option D) (h : Header) (n : ℕ) (x : NodeOf D) → FitsNode limit count Is n (Some h) x
+  node_at : (held : ℕ → Option D) (h : Header) (n : ℕ) (x : NodeOf D) (ledger : Option Header) → x.header ≡ header_of h.shape h.genesis n → FitsNode limit count Is n ledger x
       → OfTold (held n) (λ was. IsOpened content images limit (λ y. y.disk) (StandsNode content images Is) was x) → IsNodeAt content images limit count held Is h n x
-  node_at held h n x fits opened = record { header = fits.0; journal = fits.2; flight = fits.3; broken = fits.4; since = fits.5; faults = fits.6; capacity = fits.7; room = fits.8; opened = opened }
+  node_at held h n x ledger header fits opened = record {
+    header = header;
+    journal = fits.journal;
+    flight = fits.flight;
+    broken = fits.broken;
+    since = fits.since;
+    faults = fits.faults;
+    capacity = fits.capacity;
+    room = fits.room;
+    opened = opened;
+  }
 
   -- node 0, whose header is its own
   pub lead_at : (held : ℕ → Option D) (h : Header) (l : NodeOf D) → h ≡ l.header → FitsNode limit count Is 0 None l
       → OfTold (held 0) (λ was. IsOpened content images limit (λ x. x.disk) (StandsNode content images Is) was l) → IsNodeAt content images limit count held Is h 0 l
-  lead_at held h l same fits opened =
-      node_at held h 0 l (fits.0 ∙ ap (λ (k : Header). record { node = 0; shape = k.shape; genesis = k.genesis }) (sym same), fits.1, fits.2, fits.3, fits.4, fits.5, fits.6, fits.7, fits.8) opened
+  lead_at held h l same fits opened = node_at held h 0 l None (fits.asked ∙ ap (λ (k : Header). header_of k.shape k.genesis 0) (sym same)) fits opened
 
   -- by what was told as the others were opened
   node_later : (held mid : ℕ → Option D) (before : ℕ → ℕ) (h : Header) (first : ℕ) → ((n : ℕ) → first ≤ n → mid n ≡ held n) → (k : ℕ) (x : NodeOf D) → first ≤ k → OpensNode mid before h k x
       → IsNodeAt content images limit count held Is h k x
-  node_later held mid before h first kept k x ge is = node_at held h k x is.0.0 (λ was told. is.1 was (kept k ge ∙ told))
+  node_later held mid before h first kept k x ge is = node_at held h k x (Some h) is.0.0.asked is.0.0 (λ was told. is.1 was (kept k ge ∙ told))
 
   -- node 0 and those behind it
   pub led_whole : (held mid : ℕ → Option D) (before : ℕ → ℕ) (h : Header) (lead : NodeOf D) (front whole : List (NodeOf D)) → front ≡ lead ∷ [] → ((n : ℕ) → 1 ≤ n → mid n ≡ held n)

@@ -8,12 +8,18 @@ use Rattle.node_journal.specs.Nodes.{NodeOf, HoldsJournal}
 use Rattle.node_journal.specs.Opening.{IsJournalOf}
 use Rattle.rack_ledgers.specs.Asked.{IsAsked}
 
--- it is the node of the kind with this number, of the ledger with this header or of any, nothing is in flight, its disk has not failed since, and what
--- its batches still need has room
-abbrev pub FitsNode : {D : Type 0} → (D → ℕ) → (D → ℕ) → (Header → Type 0) → ℕ → Option Header → NodeOf D → Type 0
-FitsNode limit count Is node ledger n =
-    IsAsked node ledger n.header × Is n.header × IsJournal n.header n.journal × (n.flight ≡ None) × (n.broken ≡ None) × (n.opened ≡ n.faults) × (n.faults ≡ count n.disk) × (n.capacity ≡ limit n.disk)
-    × (used_of n.journal + kept_room n.header.shape n.journal ≤ n.capacity)
+-- it is the node of the kind with this number, of the ledger with this header or of any; nothing is in flight, its disk has not failed since, and there
+-- is room for what its batches still need
+pub record FitsNode {D : Type 0} (limit count : D → ℕ) (Is : Header → Type 0) (node : ℕ) (ledger : Option Header) (n : NodeOf D) : Type 0 where
+  pub asked : IsAsked node ledger n.header
+  pub kind : Is n.header
+  pub journal : IsJournal n.header n.journal
+  pub flight : n.flight ≡ None
+  pub broken : n.broken ≡ None
+  pub since : n.opened ≡ n.faults
+  pub faults : n.faults ≡ count n.disk
+  pub capacity : n.capacity ≡ limit n.disk
+  pub room : used_of n.journal + kept_room n.header.shape n.journal ≤ n.capacity
 
 -- this content opens to its journal, which its disk holds
 abbrev pub StandsNode : {D : Type 0} → (D → Option (List ℕ)) → (D → List ℕ → Type 0) → (Header → Type 0) → NodeOf D → List ℕ → Type 0
