@@ -7,4 +7,4 @@ pub mod Same
 pub mod Rooms
 pub mod Journals
 pub mod Kept
-pub mod Replaying
+pub mod Roomy
