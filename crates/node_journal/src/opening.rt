@@ -79,7 +79,7 @@ pub fn open_node<C: Core, D: Disk>(
     alloc: Global,
     disk: D,
 ) -> Result<Opened<C, D>, (D, NodeOpenFault)>
-    ensures opened { IfOk result IsOpened }
+    ensures opened { IfOk result (IsOpened C.header C.stands C.kind) }
 
     // The content opens to just this journal, and a crash leaves nothing else.
     ensures opens { IfOk result (λ o. Tells (D.content disk) (λ c. IsJournalOf C.kind o.log.header (reverse o.log.records.items) c × HoldsJournal D.content D.images (opened_view o.log))) }
