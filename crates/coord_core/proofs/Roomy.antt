@@ -1,5 +1,5 @@
 -- A coordinator that replays its journal.
-use Rattle.std.proofs.Common.{◌≡◌, ◌≢◌, List, [], ◌∷◌, sym, subst}
+use Rattle.std.proofs.Common.{◌≢◌, List, [], ◌∷◌, sym, subst}
 use Rattle.cbdc_model.specs.Records.{Header, Record, Start}
 use Rattle.cbdc_model.specs.After.{IsJournal}
 use Rattle.coord_core.specs.Lanes.{CoordOf, IsWhole, IsFresh, IsNext, IsSameButRoom, HasGrown, Takes}

@@ -29,8 +29,9 @@ use Rattle.coord_core.specs.Stands.{StandsFor}
 use Rattle.node_journal.specs.Nodes.{HoldsJournal}
 use Rattle.node_journal.specs.Shown.{shown}
 use Rattle.coord_log.specs.Inside.{largest, HasPlace, IsSound, IsDue}
-use Rattle.coord_log.proofs.Journals.{follows_next, journal_more}
-use Rattle.coord_log.proofs.Going.{takes_header}
+use Rattle.coord_core.proofs.Journals.{follows_next}
+use Rattle.node_journal.proofs.Journals.{goes_on}
+use Rattle.coord_core.proofs.Same.{takes_header}
 
 -- where there is room, only the disk can fail
 pub only_disk : {T : Type 0} (P : AppendFault → Type 0) (broken : Option ℕ) (used need limit : ℕ) (result : Result T LogFault) → broken ≡ None → used + need ≤ limit
@@ -80,7 +81,7 @@ sound_after {D} {G} old new c d flight r opened due since later records header g
         header = takes_header c d r takes ∙ due.on.header ∙ sym header;
         limits = let P : Header → Type 0 = λ h. IsWithinLimits h.shape in subst P (sym header) due.on.limits;
         stands = let P : List Record → Type 0 = λ x. StandsFor d x in subst P (sym J) stands;
-        journal = let P : Header → List Record → Type 0 = λ h x. IsJournal h x in rw (header, J) (journal_more old.header (reverse old.records.items) r due.on.journal after);
+        journal = let P : Header → List Record → Type 0 = λ h x. IsJournal h x in rw (header, J) (goes_on old.header (reverse old.records.items) r due.on.journal after);
       };
       since_opened = omega arith;
       broken = let B : Option ℕ → Type 0 = λ b. IsBrokenSince opened (G.count (disk_of new.journal)) b in subst B (sym whole) tt;

@@ -11,9 +11,9 @@ use Rattle.gate_journal.specs.Shown.{disk_of, broken_of}
 use Rattle.record_log.specs.Bodies.{body_of}
 use Rattle.record_log.specs.declared.log.RecordLog.{RecordLog}
 use Rattle.record_log.specs.Held.{bodies_of, OpensTo, OpensToEither}
-use Rattle.record_log.specs.Logs.{HoldsAll}
+use Rattle.record_log.specs.Logs.{HoldsAll, IsUntouched}
 use Rattle.node_journal.specs.Nodes.{NodeOf, HoldsJournal, OpensToSeen, IsLeftBetween, LeavesBetween}
-use Rattle.node_journal.specs.Shown.{shown}
+use Rattle.node_journal.specs.Shown.{shown, opened_view}
 
 -- a call that writes nothing
 pub still : {D : Type 0} (G : Ghosts D) (s : NodeOf D) → ((c : List ℕ) → IsTrue (G.tells_past s.disk) → G.images_since s.disk (G.moment s.disk) c → G.images s.disk c)
@@ -80,3 +80,17 @@ to_broken {D} {G} l records opened r same broken each =
       each = λ c image. rw twice (each c image);
       reads = λ e. cc;
     }
+
+-- memory that is taken is not seen
+pub same_shown : {D : Type 0} {G : Ghosts D} (old new : RecordLog D G) (opened : ℕ) (flight : Option Record) → IsUntouched old new → new.records.items ≡ old.records.items → new.header ≡ old.header
+    → shown new opened flight ≡ shown old opened flight
+same_shown old new opened flight untouched records header =
+    let disk = untouched.disk in
+    let gate = untouched.gate in
+    let broken = untouched.broken in
+    let journal : reverse new.records.items ≡ reverse old.records.items = ap reverse records in
+    cc
+
+pub same_opened : {D : Type 0} {G : Ghosts D} (old new : RecordLog D G) → IsUntouched old new → new.records.items ≡ old.records.items → new.header ≡ old.header → opened_view new ≡ opened_view old
+same_opened {D} {G} old new untouched records header =
+    same_shown old new (G.count (disk_of new.journal)) None untouched records header ∙ ap (λ d. shown old (G.count d) None) untouched.disk

@@ -1,11 +1,10 @@
 -- A core that takes in the records of a journal.
-use Rattle.std.proofs.Common.{◌≡◌, ℕ, ◌-◌, ◌^◌, min, List, [], ◌∷◌, length, get_or, ◌<◌, ◌∙◌, sym, ap, subst, arith}
+use Rattle.std.proofs.Common.{◌≡◌, ℕ, min, List, ◌∷◌, ◌∙◌, sym, ap, subst, arith}
 use Rattle.std.specs.Prelude.{◌↔◌, IsTrue, Bool, true, false}
 use Rattle.cbdc_types.specs.Limits.{IsWithinLimits}
 use Rattle.cbdc_model.specs.Records.{Header, Record}
 use Rattle.cbdc_model.specs.After.{After, IsJournal}
 use Rattle.cbdc_model.specs.Room.{kept_room}
-use Rattle.record_log.specs.Held.{MayHold}
 use Rattle.node_journal.specs.Opening.{IsPlayed}
 use Rattle.node_journal.proofs.Journals.{goes_on, in_grammar}
 use Rattle.node_journal.proofs.Kept.{kept_small}

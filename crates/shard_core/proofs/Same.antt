@@ -1,5 +1,5 @@
 -- Room made in a shard changes nothing that it stands for.
-use Rattle.std.proofs.Common.{◌≡◌, ◌∙◌, sym, ap, subst, List, Option, Some, option_map}
+use Rattle.std.proofs.Common.{◌≡◌, ◌∙◌, ap, subst, List, Some, option_map}
 use Rattle.std.specs.Prelude.{slice_get}
 use Rattle.cbdc_model.specs.Records.{Record}
 use Rattle.shard_core.specs.declared.slots.Slot.{Slot as LaneSlot}

@@ -1,4 +1,4 @@
-use Rattle.std.proofs.Common.{◌≡◌, ◌+◌, List, reverse, refl, sym, subst, arith}
+use Rattle.std.proofs.Common.{List, refl, sym, subst, arith}
 use Rattle.std.proofs.lemmas.List.{reverse-reverse}
 use Rattle.cbdc_model.specs.Records.{Record}
 use Rattle.gate_journal.specs.Shown.{disk_of}
