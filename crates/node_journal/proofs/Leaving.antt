@@ -82,9 +82,9 @@ to_broken {D} {G} l records opened r same broken each =
     }
 
 -- memory that is taken is not seen
-pub same_shown : {D : Type 0} {G : Ghosts D} (old new : RecordLog D G) (opened : ℕ) (flight : Option Record) → IsUntouched old new → new.records.items ≡ old.records.items → new.header ≡ old.header
+pub shown_same : {D : Type 0} {G : Ghosts D} (old new : RecordLog D G) (opened : ℕ) (flight : Option Record) → IsUntouched old new → new.records.items ≡ old.records.items → new.header ≡ old.header
     → shown new opened flight ≡ shown old opened flight
-same_shown old new opened flight untouched records header =
+shown_same old new opened flight untouched records header =
     let disk = untouched.disk in
     let gate = untouched.gate in
     let broken = untouched.broken in
@@ -93,4 +93,4 @@ same_shown old new opened flight untouched records header =
 
 pub same_opened : {D : Type 0} {G : Ghosts D} (old new : RecordLog D G) → IsUntouched old new → new.records.items ≡ old.records.items → new.header ≡ old.header → opened_view new ≡ opened_view old
 same_opened {D} {G} old new untouched records header =
-    same_shown old new (G.count (disk_of new.journal)) None untouched records header ∙ ap (λ d. shown old (G.count d) None) untouched.disk
+    shown_same old new (G.count (disk_of new.journal)) None untouched records header ∙ ap (λ d. shown old (G.count d) None) untouched.disk

@@ -20,18 +20,8 @@ use Rattle.shard_core.specs.Stands.{Stands, IsSameState}
 use Rattle.shard_node.specs.declared.parts.Parts.{Parts}
 use Rattle.node_journal.specs.Nodes.{sight}
 use Rattle.shard_node.specs.Parts.{HaveDecisions, HasRecords, IsShardOf, HasWritten, HasFailed, journal_of, view_of}
-use Rattle.shard_node.proofs.Follows.{goes_on}
-
--- room made in the core changes nothing that it stands for
-pub stands_same : (old new : ShardCore) (J : List Record) → IsSameState old new → Stands old J → Stands new J
-stands_same old new J same stands = record {
-  lanes = λ lane s is. stands.lanes lane s (subst (λ (slots : List LaneSlot). slice_get slots lane ≡ Some s) same.slots is);
-  last = same.last ∙ stands.last;
-  hashes = record {
-    unspent = λ x. same.unspent x ∙ stands.hashes.unspent x;
-    locked = λ x. ap (option_map (λ p. p.0)) (same.locks x) ∙ stands.hashes.locked x;
-  };
-}
+use Rattle.shard_core.proofs.Same.{stands_same}
+use Rattle.node_journal.proofs.Journals.{goes_on}
 
 none_some : {A : Type 0} (n : ℕ) (o : Option ℕ) → o ≡ Some n → o ≡ None → A
 none_some n o e f = cc

@@ -1,11 +1,8 @@
 -- What is kept free for unfinished batches, as records come.
-use Rattle.std.proofs.Common.{◌≡◌, ◌≢◌, ℕ, zero, suc, ◌+◌, ◌*◌, ◌^◌, ◌≤◌, ◌<◌, List, All, refl, ap, arith, mul-le-mul_left}
-use Rattle.cbdc_types.specs.Limits.{IsWithinLimits}
-use Rattle.cbdc_model.specs.Records.{Header, Record}
-use Rattle.cbdc_model.specs.Grammar.{IsInGrammar}
-use Rattle.cbdc_model.specs.Room.{lane_room, kept_below, kept_room}
+use Rattle.std.proofs.Common.{◌≡◌, ◌≢◌, ℕ, zero, suc, ◌+◌, ◌≤◌, ◌<◌, List, refl, ap, arith}
+use Rattle.cbdc_model.specs.Records.{Record}
+use Rattle.cbdc_model.specs.Room.{lane_room, kept_below}
 use Rattle.shard_core.proofs.Applies.{Yes, No, same_nat}
-use Rattle.shard_node.proofs.Lanes.{lane_few}
 
 kept_same : (J N : List Record) (lane n : ℕ) → ((l : ℕ) → lane ≢ l → lane_room N l ≡ lane_room J l) → n ≤ lane → kept_below N n ≡ kept_below J n
 kept_same J N lane zero others le = refl
