@@ -66,19 +66,6 @@ sound_kept {D} {G} old new b c opened flight untouched records header keeps same
       free = omega (arith, sound.free, used, same.kept, limit);
     }
 
-pub shown_same : {D : Type 0} {G : Ghosts D} (old new : RecordLog D G) (opened : ℕ) (flight : Option Record) → IsUntouched old new → new.records.items ≡ old.records.items → new.header ≡ old.header → shown new opened flight ≡ shown old opened flight
-shown_same {D} {G} old new opened flight untouched records header = λ i. record {
-  header = header i;
-  journal = reverse (records i);
-  flight = flight;
-  faults = G.count (untouched.disk i);
-  opened = opened;
-  broken = untouched.broken i;
-  gate = untouched.gate i;
-  capacity = G.limit (untouched.disk i);
-  disk = untouched.disk i;
-}
-
 -- there was no room
 pub room_refused : {A : Type 0} (due : Due A) (old new : Sight) (J : List Record) (used need limit : ℕ) (fault : NodeFault) → IsNoRoom used need limit fault
     → (limit < used + need → due ≡ Answers (Err (Full used need limit))) → Stays old new J → MeetsFault true due old new J fault

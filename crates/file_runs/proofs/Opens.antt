@@ -43,7 +43,7 @@ same_open lane L M same =
     stamps : slot_stamp M lane ≡ slot_stamp L lane
     stamps = stamp_own lane M ∙ ap (λ N. slot_stamp N lane) same ∙ sym (stamp_own lane L)
 
-module _ {D : Type 0} (content : D → Option (List ℕ)) (images : D → List ℕ → Type 0) (h : Header) (lane : ℕ) (logs : List (NodeOf D)) (shards : List (NodeOf D))
+module _ {D : Type 0} (content : D → Option (List ℕ)) (images : D → List ℕ → Type 0) (h : Header) (lane : ℕ) (logs shards : List (NodeOf D))
     (ledger : IsLedger h logs shards) (lt : IsLaneOf h.shape lane) where
   abbrev K : Shape
   K = h.shape

@@ -33,7 +33,7 @@ use Rattle.ledger_runs.specs.Pieces.{HasPrepared}
 use Rattle.ledger_runs.specs.Faults.{IsOpenCause, HaveFailed, MayHold, Nothing}
 use Rattle.file_runs.specs.Ledgers.{IsLedger, journals_of, flights_of, faults_of, opened_of, capacity_of, AreChecked, AreQuiet, KeepsLedgerOf}
 use Rattle.file_runs.specs.Steps.{IsStep}
-use Rattle.file_runs.proofs.Steps.{home_inside, are_nodes, are_shards, is_lane, log_is, same_flight}
+use Rattle.file_runs.proofs.Steps.{home_inside, are_nodes, are_shards, is_lane, journal_at}
 
 -- the node that was read at a place is what is seen there
 read_at : {D : Type 0} (logs : List (NodeOf D)) (n : ℕ) (x : NodeOf D) → n < length logs → x ≡ get_or logs n x → sight_at sight logs n ≡ sight x
@@ -45,7 +45,7 @@ batch_of : (J : List Record) (lane : ℕ) (phase : Option OpenPhase) (o : OpenLa
 batch_of J lane None o told = absurd (let z : None ≡ Some o = told in cc)
 batch_of J lane (Some p) o told = let same : o ≡ batch_in J lane p = cc in ap (λ l. l.batch) same
 
-module _ {D : Type 0} (content : D → Option (List ℕ)) (images : D → List ℕ → Type 0) (h : Header) (lane : ℕ) (logs : List (NodeOf D)) (shards : List (NodeOf D))
+module _ {D : Type 0} (content : D → Option (List ℕ)) (images : D → List ℕ → Type 0) (h : Header) (lane : ℕ) (logs shards : List (NodeOf D))
     (ledger : IsLedger h logs shards) (lt : IsLaneOf h.shape lane) where
   abbrev K : Shape
   K = h.shape
@@ -76,7 +76,7 @@ module _ {D : Type 0} (content : D → Option (List ℕ)) (images : D → List �
   pub none_open : open_lane (L (home_of K lane)).seen lane ≡ None → phase_at K I lane ≡ Idle
   none_open told =
       ap (λ J. (slot J lane).phase) at_log
-      ∙ is_idle (L (home_of K lane)).header (L (home_of K lane)).seen (log_is logs ledger.log_journals (home_of K lane) (subst (λ m. home_of K lane < m) (sym ledger.coordinators) home)) lane
+      ∙ is_idle (L (home_of K lane)).header (L (home_of K lane)).seen (journal_at logs ledger.log_journals (home_of K lane) (subst (λ m. home_of K lane < m) (sym ledger.coordinators) home)) lane
       (is_lane h logs shards lane (home_of K lane) ledger lt refl)
       (subst (λ k. k.node < k.shape.coordinators) (sym (ledger.log_headers (home_of K lane) home)) home) told
 
@@ -119,7 +119,7 @@ module _ {D : Type 0} (content : D → Option (List ℕ)) (images : D → List �
     quiet_on : SameFlights L S L' S' → AreQuiet logs shards → AreQuiet logs' shards'
     quiet_on same was = record {
       logs_are = λ n. same.logs_same n ∙ was.logs_are n;
-      shards_are = λ s. sym (same_flight shards' s) ∙ same.shards_same s ∙ same_flight shards s ∙ was.shards_are s;
+      shards_are = λ s. same.shards_same s ∙ was.shards_are s;
     }
 
     -- what no turn changes of the nodes

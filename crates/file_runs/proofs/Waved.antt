@@ -21,7 +21,7 @@ use Rattle.lane_waves.specs.Laws.{WentOn}
 use Rattle.lane_waves.proofs.NodePlaces.{same_length, past_end, beyond, all_held}
 use Rattle.file_runs.specs.Ledgers.{IsLedger, FliesNext, journals_of, AreChecked, AreStored, AreQuiet}
 use Rattle.file_runs.specs.Waving.{WaveLaw}
-use Rattle.file_runs.proofs.Steps.{are_nodes, are_next, are_shards, same_header, same_flight, held_logs, held_shards}
+use Rattle.file_runs.proofs.Steps.{are_nodes, are_next, are_shards, all_held as all_held_there}
 
 is_low : (a b : ℕ) → a < b → nat_lt a b ≡ true
 is_low a b lt = grind (arith, lt)
@@ -43,7 +43,7 @@ module _ (K : Shape) (logs shards : ℕ → Sight) where
       back : shard_node K s - K.coordinators ≡ s
       back = omega arith
 
-module _ {D : Type 0} (content : D → Option (List ℕ)) (images : D → List ℕ → Type 0) (h : Header) (logs : List (NodeOf D)) (shards : List (NodeOf D)) (logs' : List (NodeOf D)) (shards' : List (NodeOf D))
+module _ {D : Type 0} (content : D → Option (List ℕ)) (images : D → List ℕ → Type 0) (h : Header) (logs shards : List (NodeOf D)) (logs' : List (NodeOf D)) (shards' : List (NodeOf D))
     (old new : List LaneOf) (ledger : IsLedger h logs shards) (places : length old ≡ h.shape.coordinators * h.shape.lanes)
     (ran : WaveRan h.shape (sight_at sight logs) (sight_at sight shards) (sight_at sight logs') (sight_at sight shards') old new)
     (logs_go : WentOn sight (λ a b. IsNodeHeld content images a → IsNodeHeld content images b) logs logs') (shards_go : WentOn sight (λ a b. IsNodeHeld content images a → IsNodeHeld content images b) shards shards')
@@ -63,17 +63,14 @@ module _ {D : Type 0} (content : D → Option (List ℕ)) (images : D → List �
   abbrev S' : ℕ → Sight
   S' = sight_at sight shards'
 
-  abbrev LogGoes : NodeOf D → NodeOf D → Type 0
-  LogGoes a b = IsNodeHeld content images a → IsNodeHeld content images b
-
-  abbrev ShardGoes : NodeOf D → NodeOf D → Type 0
-  ShardGoes a b = IsNodeHeld content images a → IsNodeHeld content images b
+  abbrev Goes : NodeOf D → NodeOf D → Type 0
+  Goes a b = IsNodeHeld content images a → IsNodeHeld content images b
 
   log_count : length logs' ≡ length logs
-  log_count = same_length sight LogGoes logs logs' logs_go
+  log_count = same_length sight Goes logs logs' logs_go
 
   shard_count : length shards' ≡ length shards
-  shard_count = same_length sight ShardGoes shards shards' shards_go
+  shard_count = same_length sight Goes shards shards' shards_go
 
   still : IsLedger h logs' shards'
   still = record {
@@ -81,7 +78,7 @@ module _ {D : Type 0} (content : D → Option (List ℕ)) (images : D → List �
     coordinators = log_count ∙ ledger.coordinators;
     shards_are = shard_count ∙ ledger.shards_are;
     log_headers = λ n lt. (ran.log_ran n lt).same.header ∙ ledger.log_headers n lt;
-    shard_headers = λ s lt. sym (same_header shards' s) ∙ (ran.shard_ran s lt).same.header ∙ same_header shards s ∙ ledger.shard_headers s lt;
+    shard_headers = λ s lt. (ran.shard_ran s lt).same.header ∙ ledger.shard_headers s lt;
     log_journals = log_journals;
     shard_journals = shard_journals;
   }
@@ -94,7 +91,7 @@ module _ {D : Type 0} (content : D → Option (List ℕ)) (images : D → List �
     next = are_next h logs' shards' still.coordinators still.shards_are log_flights shard_flights;
     log_shapes = λ n lt. ap (λ k. k.shape) (ledger.log_headers n lt);
     shard_shapes = λ s lt. (are_shards h logs shards ledger s lt).0;
-    beyond = λ s le. beyond sight ShardGoes shards shards' shards_go s (subst (λ m. m ≤ s) (sym ledger.shards_are) le);
+    beyond = λ s le. beyond sight Goes shards shards' shards_go s (subst (λ m. m ≤ s) (sym ledger.shards_are) le);
   }
 
   all : AllSays K L S L' S' old new
@@ -103,29 +100,29 @@ module _ {D : Type 0} (content : D → Option (List ℕ)) (images : D → List �
   stored : AreStored content images logs shards → AreStored content images logs' shards'
   stored s = record {
     logs_are = All-weaker (IsNodeHeld content images) (HoldsJournal content images) (λ l x. x.held) logs'
-        (all_held sight (IsNodeHeld content images) logs logs' logs_go (held_logs content images logs ledger.log_journals s.logs_are));
+        (all_held sight (IsNodeHeld content images) logs logs' logs_go (all_held_there content images logs ledger.log_journals s.logs_are));
     shards_are = All-weaker (IsNodeHeld content images) (HoldsJournal content images) (λ x y. y.held) shards'
-        (all_held sight (IsNodeHeld content images) shards shards' shards_go (held_shards content images shards ledger.shard_journals s.shards_are));
+        (all_held sight (IsNodeHeld content images) shards shards' shards_go (all_held_there content images shards ledger.shard_journals s.shards_are));
   }
 
   -- nothing is in flight at any node, by its place or by its number
   was_quiet : AreQuiet logs shards → (n : ℕ) → flying K L S n ≡ None
   was_quiet q n = elim (nat_lt n K.coordinators) as (λ c. (if c then (L n).flight else (S (n - K.coordinators)).flight) ≡ None) [
     | true ↦ q.logs_are n
-    | false ↦ same_flight shards (n - K.coordinators) ∙ q.shards_are (n - K.coordinators)
+    | false ↦ q.shards_are (n - K.coordinators)
   ]
 
   now_quiet : ((n : ℕ) → flying K L' S' n ≡ None) → AreQuiet logs' shards'
   now_quiet none = record {
     logs_are = λ n. log_at n (below n K.coordinators);
-    shards_are = λ s. sym (same_flight shards' s) ∙ sym (shard_flight K L' S' s) ∙ none (shard_node K s);
+    shards_are = λ s. sym (shard_flight K L' S' s) ∙ none (shard_node K s);
   }
     where
       log_at : (n : ℕ) → (n < K.coordinators) ⊎ (K.coordinators ≤ n) → (L' n).flight ≡ None
       log_at n (inl lt) = sym (log_flight K L' S' n lt) ∙ none n
-      log_at n (inr le) = ap (λ x. x.flight) (past_end sight LogGoes logs' n (subst (λ m. m ≤ n) (sym still.coordinators) le))
+      log_at n (inr le) = ap (λ x. x.flight) (past_end sight Goes logs' n (subst (λ m. m ≤ n) (sym still.coordinators) le))
 
-pub wave_law : {D : Type 0} (content : D → Option (List ℕ)) (images : D → List ℕ → Type 0) (h : Header) (logs : List (NodeOf D)) (shards : List (NodeOf D)) (logs' : List (NodeOf D)) (shards' : List (NodeOf D))
+pub wave_law : {D : Type 0} (content : D → Option (List ℕ)) (images : D → List ℕ → Type 0) (h : Header) (logs shards : List (NodeOf D)) (logs' : List (NodeOf D)) (shards' : List (NodeOf D))
     (old new : List LaneOf) → WaveLaw content images h logs shards logs' shards' old new
 wave_law content images h logs shards logs' shards' old new ledger places ran logs_go shards_go log_journals log_flights shard_journals shard_flights =
     let a = all content images h logs shards logs' shards' old new ledger places ran logs_go shards_go log_journals log_flights shard_journals shard_flights in
@@ -146,7 +143,7 @@ wave_law content images h logs shards logs' shards' old new ledger places ran lo
 
 -- ---- what a wave asks of the nodes and of the lanes
 
-module _ {D : Type 0} (h : Header) (logs : List (NodeOf D)) (shards : List (NodeOf D)) (ledger : IsLedger h logs shards) where
+module _ {D : Type 0} (h : Header) (logs shards : List (NodeOf D)) (ledger : IsLedger h logs shards) where
   pub nodes_of : AreNodesOf h.shape (sight_at sight logs) (sight_at sight shards)
   nodes_of = record {
     logs_are = λ n lt. (ap (λ k. k.shape) (ledger.log_headers n lt), ap (λ k. k.node) (ledger.log_headers n lt));

@@ -14,7 +14,7 @@ use Rattle.run_laws.specs.Faults.{opened_by, capacity_by}
 use Rattle.run_laws.specs.Flights.{flying}
 
 -- as many coordinators and shards as the ledger's shape has, each under its own header, with a journal of it
-pub record IsLedger {D : Type 0} (h : Header) (logs : List (NodeOf D)) (shards : List (NodeOf D)) : Type 0 where
+pub record IsLedger {D : Type 0} (h : Header) (logs shards : List (NodeOf D)) : Type 0 where
   pub limits : IsWithinLimits h.shape
   pub coordinators : length logs ≡ h.shape.coordinators
   pub shards_are : length shards ≡ h.shape.shards
@@ -59,12 +59,12 @@ abbrev pub AreChecked : {D : Type 0} → Shape → List (NodeOf D) → List (Nod
 AreChecked K logs shards = (m : Minted) × CheckedJournals K m (journals_of K logs shards)
 
 -- each node's disk holds its journal
-pub record AreStored {D : Type 0} (content : D → Option (List ℕ)) (images : D → List ℕ → Type 0) (logs : List (NodeOf D)) (shards : List (NodeOf D)) : Type 0 where
+pub record AreStored {D : Type 0} (content : D → Option (List ℕ)) (images : D → List ℕ → Type 0) (logs shards : List (NodeOf D)) : Type 0 where
   pub logs_are : All (HoldsJournal content images) logs
   pub shards_are : All (HoldsJournal content images) shards
 
 -- no node has a record in flight
-pub record AreQuiet {D : Type 0} (logs : List (NodeOf D)) (shards : List (NodeOf D)) : Type 0 where
+pub record AreQuiet {D : Type 0} (logs shards : List (NodeOf D)) : Type 0 where
   pub logs_are : (n : ℕ) → (sight_at sight logs n).flight ≡ None
   pub shards_are : (s : ℕ) → (sight_at sight shards s).flight ≡ None
 

@@ -12,7 +12,7 @@ use Rattle.file_runs.specs.Ledgers.{IsLedger, journals_of, faults_of, AreStored}
 -- they are the ledger's still, each what it was; no other coordinator is touched, and no other lane; what is in flight may come next; what their
 -- disks held they hold, and no disk has failed less often
 pub record IsStep {D : Type 0} (content : D → Option (List ℕ)) (images : D → List ℕ → Type 0) (h : Header) (lane : ℕ)
-    (logs : List (NodeOf D)) (shards : List (NodeOf D)) (logs' : List (NodeOf D)) (shards' : List (NodeOf D)) : Type 0 where
+    (logs shards : List (NodeOf D)) (logs' : List (NodeOf D)) (shards' : List (NodeOf D)) : Type 0 where
   pub ledger : IsLedger h logs' shards'
   pub log_nodes : KeepNodes (sight_at sight logs) (sight_at sight logs')
   pub shard_nodes : KeepNodes (sight_at sight shards) (sight_at sight shards')

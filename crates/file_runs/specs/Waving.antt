@@ -22,7 +22,7 @@ pub record IsWave {D : Type 0} (content : D → Option (List ℕ)) (images : D �
   pub quiet : NoFault new → IsQuiet before → IsQuiet after
   pub keeps_ledger : KeepsLedgerOf content images before after
 
-module _ {D : Type 0} (content : D → Option (List ℕ)) (images : D → List ℕ → Type 0) (h : Header) (logs : List (NodeOf D)) (shards : List (NodeOf D)) (logs' : List (NodeOf D)) (shards' : List (NodeOf D))
+module _ {D : Type 0} (content : D → Option (List ℕ)) (images : D → List ℕ → Type 0) (h : Header) (logs shards : List (NodeOf D)) (logs' : List (NodeOf D)) (shards' : List (NodeOf D))
     (old new : List LaneOf) where
   -- so it is where a wave ran at a ledger's nodes, each of which went on from what it was, with a journal of its header and what may come next in flight
   abbrev pub WaveLaw : Type 0

@@ -56,6 +56,20 @@ module _ {D : Type 0} {G : Ghosts D} where
       (IsLeftBetween (shown old opened flight) (shown new opened (Some r))) leaves
       (λ c either. inr (subst (λ (k : List Record). OpensWithOrWithout (bodies_of k) (body_of r) c) same either))
 
+-- room that a log takes is not seen
+pub shown_same : {D : Type 0} {G : Ghosts D} (old new : RecordLog D G) (opened : ℕ) (flight : Option Record) → IsUntouched old new → new.records.items ≡ old.records.items → new.header ≡ old.header → shown new opened flight ≡ shown old opened flight
+shown_same {D} {G} old new opened flight untouched records header = λ i. record {
+  header = header i;
+  journal = reverse (records i);
+  flight = flight;
+  faults = G.count (untouched.disk i);
+  opened = opened;
+  broken = untouched.broken i;
+  gate = untouched.gate i;
+  capacity = G.limit (untouched.disk i);
+  disk = untouched.disk i;
+}
+
 -- a disk that holds the records, and nothing in flight
 pub to_journal : {D : Type 0} {G : Ghosts D} (l : RecordLog D G) (opened : ℕ) (flight : Option Record) → flight ≡ None → HoldsAll l l.records.items → HoldsJournal G.content G.images (shown l opened flight)
 to_journal {D} {G} l opened flight none holds =
@@ -81,16 +95,7 @@ to_broken {D} {G} l records opened r same broken each =
       reads = λ e. cc;
     }
 
--- memory that is taken is not seen
-pub shown_same : {D : Type 0} {G : Ghosts D} (old new : RecordLog D G) (opened : ℕ) (flight : Option Record) → IsUntouched old new → new.records.items ≡ old.records.items → new.header ≡ old.header
-    → shown new opened flight ≡ shown old opened flight
-shown_same old new opened flight untouched records header =
-    let disk = untouched.disk in
-    let gate = untouched.gate in
-    let broken = untouched.broken in
-    let journal : reverse new.records.items ≡ reverse old.records.items = ap reverse records in
-    cc
-
+-- of one that was just opened
 pub same_opened : {D : Type 0} {G : Ghosts D} (old new : RecordLog D G) → IsUntouched old new → new.records.items ≡ old.records.items → new.header ≡ old.header → opened_view new ≡ opened_view old
 same_opened {D} {G} old new untouched records header =
     shown_same old new (G.count (disk_of new.journal)) None untouched records header ∙ ap (λ d. shown old (G.count d) None) untouched.disk

@@ -33,10 +33,10 @@ const FORGET: u8 = 4;
 /// Locks a part for a batch at a shard, by what is seen of it.
 pub fn lock_at<D: Disk>(node: &mut ShardNode<D>, call: &LockCall) -> Result<Replied, NodeFault>
     requires { IsLockCall node.old.header call.now }
-    ensures answer { Told true call.now.batch.lane true (lock_due node.old.header.shape (D.limit node.old.disk) call.now) (sight node.old) (sight node.new) result }
+    ensures answer { Told true call.now.batch.lane true (lock_due node.old.header.shape node.old.capacity call.now) (sight node.old) (sight node.new) result }
     ensures told { IfOk result (λ a. IsStamp a.stamp × All (IsReply node.old.header.shape) a.replies) }
     ensures node { IsStillNode (sight node.old) (sight node.new) }
-    ensures later { D.count node.old.disk ≤ D.count node.new.disk }
+    ensures later { node.old.faults ≤ node.new.faults }
     ensures holds { IsNodeHeld D.content D.images node.old → IsNodeHeld D.content D.images node.new }
 {
     let _header = node.header();
@@ -49,7 +49,7 @@ pub fn finish_at<D: Disk>(node: &mut ShardNode<D>, call: &FinishCall) -> Result<
     ensures answer { Told true call.now.batch.lane false (finish_due call.now) (sight node.old) (sight node.new) result }
     ensures told { IfOk result IsStamp }
     ensures node { IsStillNode (sight node.old) (sight node.new) }
-    ensures later { D.count node.old.disk ≤ D.count node.new.disk }
+    ensures later { node.old.faults ≤ node.new.faults }
     ensures holds { IsNodeHeld D.content D.images node.old → IsNodeHeld D.content D.images node.new }
 {
     let _header = node.header();
@@ -62,7 +62,7 @@ pub fn forget_at<D: Disk>(node: &mut ShardNode<D>, call: &ForgetCall) -> Result<
     ensures answer { Told true call.now.batch.lane false (forget_due call.now) (sight node.old) (sight node.new) result }
     ensures told { IfOk result IsStamp }
     ensures node { IsStillNode (sight node.old) (sight node.new) }
-    ensures later { D.count node.old.disk ≤ D.count node.new.disk }
+    ensures later { node.old.faults ≤ node.new.faults }
     ensures holds { IsNodeHeld D.content D.images node.old → IsNodeHeld D.content D.images node.new }
 {
     let _header = node.header();
@@ -91,7 +91,7 @@ impl<'r, 'n, W: Wait, D: Disk> ShardPort for NodeShard<'r, 'n, W, D> {
 
     ghost alone = { true };
 
-    ghost faults = { λ p. D.count p.shard.now.disk };
+    ghost faults = { λ p. p.shard.now.faults };
 
     ghost holds = { λ p. IsNodeHeld D.content D.images p.shard.now };
 

@@ -88,15 +88,15 @@ module _ {D : Type 0} (K : Shape) (lane k : ℕ) (l : NodeOf D) (nodes : List (N
       at s = rested K lane k (last_stamp l.journal) nodes 0 s rest
 
 -- where the coordinator's log stands at its place
-pub rests : {D : Type 0} (K : Shape) (lane k at : ℕ) (l : NodeOf D) (logs : List (NodeOf D)) (nodes : List (NodeOf D))
+pub rests : {D : Type 0} (K : Shape) (lane k at : ℕ) (l : NodeOf D) (logs nodes : List (NodeOf D))
     → at < length logs → l ≡ get_or logs at l → LogRests K lane k l → length nodes ≡ K.shards → AllRest K lane k (last_stamp l.journal) 0 nodes → MayRun K lane at logs nodes
 rests K lane k at l logs nodes inside stands log as_many rest = record {
   lane_is = subst (λ (I : Sight). IsLane I.header lane) here (subst (λ (H : Shape). (lane < H.coordinators * H.lanes) × (l.header.node ≡ home_of H lane)) (sym log.shape) (log.inside, log.node));
   shape = subst (λ (I : Sight). I.header.shape ≡ K) here log.shape;
   idle = subst (λ (I : Sight). (slot I.seen lane).phase ≡ Idle) here (ap (λ s. s.phase) log.idle);
   as_many = as_many;
-  ledger = λ count limit. are_shards K lane k l nodes log rest as_many;
-  settled = λ count limit. subst (λ (I : Sight). IsSettled K lane I (sight_at sight nodes)) here (k, settled K lane k l nodes log rest);
+  ledger = are_shards K lane k l nodes log rest as_many;
+  settled = subst (λ (I : Sight). IsSettled K lane I (sight_at sight nodes)) here (k, settled K lane k l nodes log rest);
 }
   where
     here : sight l ≡ sight_at sight logs at

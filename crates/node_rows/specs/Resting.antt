@@ -44,10 +44,10 @@ pub record LogRests {D : Type 0} (K : Shape) (lane k : ℕ) (l : NodeOf D) : Typ
   pub numbers : All (λ r. number_in lane r ≤ k) l.journal
 
 -- a lane may be run over these nodes of a ledger, its coordinator at this place: it rests at all of them
-pub record MayRun {D : Type 0} (K : Shape) (lane at : ℕ) (logs : List (NodeOf D)) (nodes : List (NodeOf D)) : Type 0 where
+pub record MayRun {D : Type 0} (K : Shape) (lane at : ℕ) (logs nodes : List (NodeOf D)) : Type 0 where
   pub lane_is : IsLane (sight_at sight logs at).header lane
   pub shape : (sight_at sight logs at).header.shape ≡ K
   pub idle : (slot (sight_at sight logs at).seen lane).phase ≡ Idle
   pub as_many : length nodes ≡ K.shards
-  pub ledger : → AreShardsOf K (sight_at sight nodes)
-  pub settled : → IsSettled K lane (sight_at sight logs at) (sight_at sight nodes)
+  pub ledger : AreShardsOf K (sight_at sight nodes)
+  pub settled : IsSettled K lane (sight_at sight logs at) (sight_at sight nodes)

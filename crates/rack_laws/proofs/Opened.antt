@@ -8,9 +8,11 @@ use Rattle.cbdc_model.specs.Records.{Digest, Shape, Header, Record}
 use Rattle.cbdc_model.specs.History.{header_of}
 use Rattle.cbdc_model.specs.Sights.{Sight}
 use Rattle.node_journal.specs.Nodes.{NodeOf, sight, HoldsJournal}
+use Rattle.coord_log.specs.Opening.{IsCoord}
+use Rattle.shard_node.specs.Opening.{IsShardHeader}
 use Rattle.node_ports.specs.Nodes.{sight_at}
 use Rattle.rack_ledgers.proofs.Once.{opens_once_law}
-use Rattle.rack_ledgers.specs.Ledgers.{AreOpened}
+use Rattle.rack_ledgers.specs.Ledgers.{IsNodeAt, AreOpened}
 use Rattle.run_laws.specs.Runs.{seen_by}
 use Rattle.rack_laws.specs.Shown.{Shows, node_count}
 
@@ -33,32 +35,26 @@ pub all_by : {N : Type 0} (P : N → Type 0) (xs : List N) → ((n : ℕ) (x : N
 all_by P xs each k d inside = each k (get_or xs k d) (slice_get-get_or xs k d inside)
 
 -- a node whose disk shows a journal of this ledger is that node, and its disk holds the journal
-record IsThat (Holds : Type 0) (header : Header) (journal : List Record) (K : Shape) (genesis : Digest) (n : ℕ) (J : List Record) : Type 0 where
-  pub header_is : header ≡ header_of K genesis n
-  pub journal_is : journal ≡ J
-  pub holds : Holds
+record IsThat {D : Type 0} (content : D → Option (List ℕ)) (images : D → List ℕ → Type 0) (x : NodeOf D) (K : Shape) (genesis : Digest) (n : ℕ) (J : List Record) : Type 0 where
+  pub header_is : x.header ≡ header_of K genesis n
+  pub journal_is : x.journal ≡ J
+  pub holds : HoldsJournal content images x
 
-module _ {D : Type 0} (content : D → Option (List ℕ)) (images : D → List ℕ → Type 0) (limit count : D → ℕ) (held : ℕ → Option D) (h : Header) (logs : List (NodeOf D)) (shards : List (NodeOf D))
+module _ {D : Type 0} (content : D → Option (List ℕ)) (images : D → List ℕ → Type 0) (limit count : D → ℕ) (held : ℕ → Option D) (h : Header) (logs shards : List (NodeOf D))
     (are : AreOpened content images limit count held h logs shards)
     (K : Shape) (genesis : Digest) (J : ℕ → List Record) (within : IsWithinLimits K) (shows : Shows content held K genesis J) where
-  log_that : (n : ℕ) (l : NodeOf D) → slice_get logs n ≡ Some l → n < node_count K → IsThat (HoldsJournal content images l) l.header l.journal K genesis n (J n)
-  log_that n l there low =
-      let is = are.logs_at n l there in
+  node_that : (Is : Header → Type 0) (n : ℕ) (x : NodeOf D) → IsNodeAt content images limit count held Is h n x → n < node_count K → IsThat content images x K genesis n (J n)
+  node_that Is n x is low =
       let s = shows n low in
       let found = (is.opened s.0 s.1).stands s.2.0 s.2.1 in
-      let h_limits : IsWithinLimits l.header.shape = subst (λ k. IsWithinLimits k.shape) (sym is.header) are.limits in
-      let once = opens_once_law l.header (header_of K genesis n) l.journal (J n) s.2.0 h_limits within is.journal s.2.2.journal found.0.opens s.2.2.opens in
+      let once = opens_once_law x.header (header_of K genesis n) x.journal (J n) s.2.0 found.0.limits within is.journal s.2.2.journal found.0.opens s.2.2.opens in
       record { header_is = once.0; journal_is = once.1; holds = found.1 }
 
-  shard_that : (s : ℕ) (x : NodeOf D) → slice_get shards s ≡ Some x → h.shape.coordinators + s < node_count K
-      → IsThat (HoldsJournal content images x) x.header x.journal K genesis (h.shape.coordinators + s) (J (h.shape.coordinators + s))
-  shard_that s x there low =
-      let is = are.shards_at s x there in
-      let t = shows (h.shape.coordinators + s) low in
-      let found = (is.opened t.0 t.1).stands t.2.0 t.2.1 in
-      let h_limits : IsWithinLimits x.header.shape = subst (λ k. IsWithinLimits k.shape) (sym is.header) are.limits in
-      let once = opens_once_law x.header (header_of K genesis (h.shape.coordinators + s)) x.journal (J (h.shape.coordinators + s)) t.2.0 h_limits within is.journal t.2.2.journal found.0.opens t.2.2.opens in
-      record { header_is = once.0; journal_is = once.1; holds = found.1 }
+  log_that : (n : ℕ) (l : NodeOf D) → slice_get logs n ≡ Some l → n < node_count K → IsThat content images l K genesis n (J n)
+  log_that n l there low = node_that IsCoord n l (are.logs_at n l there) low
+
+  shard_that : (s : ℕ) (x : NodeOf D) → slice_get shards s ≡ Some x → h.shape.coordinators + s < node_count K → IsThat content images x K genesis (h.shape.coordinators + s) (J (h.shape.coordinators + s))
+  shard_that s x there low = node_that IsShardHeader (h.shape.coordinators + s) x (are.shards_at s x there) low
 
   lead : (l : NodeOf D) × (slice_get logs 0 ≡ Some l)
   lead = at_place logs 0 (omega (arith, are.coordinators, are.limits.some_coordinator))

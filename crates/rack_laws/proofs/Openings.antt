@@ -9,13 +9,16 @@ use Rattle.cbdc_model.specs.History.{header_of}
 use Rattle.cbdc_model.specs.Room.{kept_room}
 use Rattle.cbdc_model.specs.Due.{used_of}
 use Rattle.node_journal.specs.Nodes.{NodeOf}
+use Rattle.coord_log.specs.Opening.{IsCoord}
+use Rattle.shard_node.specs.Opening.{IsShardHeader}
 use Rattle.rack_ledgers.proofs.Fronts.{has_first, whole_fronts, whole_or_cut}
 use Rattle.rack_ledgers.proofs.Once.{opens_once_law}
-use Rattle.rack_ledgers.specs.Asked.{asked_of, IsCoordinator, IsShardNode}
+use Rattle.rack_ledgers.proofs.Refusals.{of_any}
+use Rattle.rack_ledgers.specs.Asked.{asked_of}
 use Rattle.rack_ledgers.specs.Places.{IsOpening}
 use Rattle.rack_ledgers.specs.Racked.{OfTold}
 use Rattle.rack_ledgers.specs.Refused.{IsNodeJournal}
-use Rattle.rack_ledgers.specs.Ledgers.{IsLogAt, IsRefused, HasOtherMint, LacksLog, LacksShard, IsUnopenedBy}
+use Rattle.rack_ledgers.specs.Ledgers.{IsNodeAt, IsRefused, HasOtherMint, LacksLog, LacksShard, IsUnopenedBy}
 use Rattle.rack_laws.specs.Shown.{node_count}
 use Rattle.rack_laws.specs.Ready.{limit_at, ShowsKept, HasKeptRoom, NoneRises}
 use Rattle.rack_laws.specs.Openings.{NodeOpensLaw}
@@ -70,10 +73,10 @@ module _ {D : Type 0} (content : D → Option (List ℕ)) (images : D → List �
   first_node : 0 < node_count K
   first_node = some_node content held K mint submissions E ready
 
-  log_is : (h : Header) (n : ℕ) (l : NodeOf D) → n < node_count K → IsLogAt content images limit count held h n l → header_of h.shape h.genesis n ≡ H n
+  log_is : (h : Header) (n : ℕ) (l : NodeOf D) → n < node_count K → IsNodeAt content images limit count held IsCoord h n l → header_of h.shape h.genesis n ≡ H n
   log_is h n l inside at =
       sym at.header ∙ (opens_to content held K mint submissions E ready n l.header l.journal inside
-      (λ was is c told. (let stands = (at.opened was is).stands c told in record { opens = stands.0.opens; limits = stands.0.limits; journal = at.journal }))).0
+      (λ was is c told. of_any IsCoord l.header l.journal c ((at.opened was is).stands c told).0)).0
 
   module _ (rooms : HasKeptRoom K E (λ n. limit_at limit (held n))) (none : NoneRises K before now) where
     -- a node of the ledger is refused for memory alone
@@ -88,7 +91,7 @@ module _ {D : Type 0} (content : D → Option (List ℕ)) (images : D → List �
         ]
 
     -- the header of the ledger is that of node 0, as its first coordinator tells it
-    lead_is : (h : Header) (logs : List (NodeOf D)) → 1 ≤ length logs → ((n : ℕ) (l : NodeOf D) → slice_get logs n ≡ Some l → IsLogAt content images limit count held h n l)
+    lead_is : (h : Header) (logs : List (NodeOf D)) → 1 ≤ length logs → ((n : ℕ) (l : NodeOf D) → slice_get logs n ≡ Some l → IsNodeAt content images limit count held IsCoord h n l)
         → (h.shape ≡ K) × (h.genesis ≡ genesis_id mint)
     lead_is h [] some at = absurd (omega (arith, some))
     lead_is h (l ∷ logs) some at = let same = log_is h 0 l first_node (at 0 l refl) in (ap (λ (x : Header). x.shape) same, ap (λ (x : Header). x.genesis) same)
@@ -100,7 +103,7 @@ module _ {D : Type 0} (content : D → Option (List ℕ)) (images : D → List �
     lacks_log id answer lacks =
         let lead = lead_is lacks.header lacks.logs lacks.some lacks.logs_at in
         let low : length lacks.logs < K.coordinators = subst (λ (s : Shape). length lacks.logs < s.coordinators) lead.0 lacks.inside in
-        refused_none IsCoordinator (Some lacks.header) (length lacks.logs) answer (omega (arith, low)) low (same_asked lacks.header (length lacks.logs) lead.0 lead.1) lacks.refused
+        refused_none IsCoord (Some lacks.header) (length lacks.logs) answer (omega (arith, low)) low (same_asked lacks.header (length lacks.logs) lead.0 lead.1) lacks.refused
 
     lacks_shard : (id : Option Digest) (answer : Answer) → LacksShard content images limit count held before now id answer → answer ≡ answers.Memory
     lacks_shard id answer lacks =
@@ -109,11 +112,11 @@ module _ {D : Type 0} (content : D → Option (List ℕ)) (images : D → List �
         let low : length lacks.shards < K.shards = subst (λ (s : Shape). length lacks.shards < s.shards) lead.0 lacks.inside in
         let count : lacks.header.shape.coordinators ≡ K.coordinators = ap (λ (s : Shape). s.coordinators) lead.0 in
         let place : ℕ = lacks.header.shape.coordinators + length lacks.shards in
-        refused_none IsShardNode (Some lacks.header) (lacks.header.shape.coordinators + length lacks.shards) answer (omega (arith, low, count)) (omega (arith, count), omega (arith, count, low))
+        refused_none IsShardHeader (Some lacks.header) (lacks.header.shape.coordinators + length lacks.shards) answer (omega (arith, low, count)) (omega (arith, count), omega (arith, count, low))
         (same_asked lacks.header (lacks.header.shape.coordinators + length lacks.shards) lead.0 lead.1) lacks.refused
 
-    unled_none : (answer : Answer) → IsRefused content limit held before now IsCoordinator None 0 answer → answer ≡ answers.Memory
-    unled_none answer refused = let limits = ready.limits in refused_none IsCoordinator None 0 answer first_node (omega (arith, limits.some_coordinator)) refl refused
+    unled_none : (answer : Answer) → IsRefused content limit held before now IsCoord None 0 answer → answer ≡ answers.Memory
+    unled_none answer refused = let limits = ready.limits in refused_none IsCoord None 0 answer first_node (omega (arith, limits.some_coordinator)) refl refused
 
     -- whichever mint was asked for, where it is this one, or none
     abbrev IsThisMint : Option Digest → Type 0

@@ -46,22 +46,14 @@ AreLeft images held K contents = (n : ℕ) → n < node_count K → OfTold (held
 abbrev pub OpenTo : {D : Type 0} → (ℕ → Option D) → Shape → (ℕ → List ℕ) → (ℕ → List Record) → Type 0
 OpenTo held K contents X = (n : ℕ) → n < node_count K → OfTold (held n) (λ d. OpensTo (reverse (X n)) (contents n))
 
--- a coordinator's disk, and a shard's, has room for its journal and for what is kept for its open batches
-abbrev pub LogHasRoom : {D : Type 0} → (D → ℕ) → NodeOf D → Type 0
-LogHasRoom limit l = used_of l.journal + kept_room l.header.shape l.journal ≤ limit l.disk
+-- a node has room for its journal and for what is kept for its open batches
+abbrev pub NodeHasRoom : {D : Type 0} → NodeOf D → Type 0
+NodeHasRoom n = used_of n.journal + kept_room n.header.shape n.journal ≤ n.capacity
 
--- `LogHasRoom`, `ShardHasRoom`: a coordinator's disk, and a shard's, has room for its journal and for what is kept for its open batches
-abbrev pub ShardHasRoom : {D : Type 0} → (D → ℕ) → NodeOf D → Type 0
-ShardHasRoom limit s = used_of s.journal + kept_room s.header.shape s.journal ≤ limit s.disk
+-- a record in flight there had the room that it needs
+abbrev pub NodeFits : {D : Type 0} → NodeOf D → Type 0
+NodeFits n = IfSome n.flight (λ r. used_of n.journal + need_of n.header.shape n.journal r ≤ n.capacity)
 
--- what is in flight there had room
-abbrev pub LogFits : {D : Type 0} → (D → ℕ) → NodeOf D → Type 0
-LogFits limit l = IfSome l.flight (λ r. used_of l.journal + need_of l.header.shape l.journal r ≤ limit l.disk)
-
--- `LogFits`, `ShardFits`: a record in flight there had the room that it needs
-abbrev pub ShardFits : {D : Type 0} → (D → ℕ) → NodeOf D → Type 0
-ShardFits limit s = IfSome s.flight (λ r. used_of s.journal + need_of s.header.shape s.journal r ≤ limit s.disk)
-
--- so has each disk that is told, by these journals of its ledger's nodes
+-- each disk that is told has room for its node's journal, of these, and for what is kept for its open batches
 abbrev pub HaveRoom : {D : Type 0} → (D → ℕ) → (ℕ → Option D) → Shape → (ℕ → List Record) → Type 0
 HaveRoom limit held K X = (n : ℕ) → n < node_count K → OfTold (held n) (λ d. used_of (X n) + kept_room K (X n) ≤ limit d)

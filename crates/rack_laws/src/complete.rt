@@ -8,15 +8,16 @@ ghost use Rattle.rack_ledgers.specs.Caused.{IsUnsound};
 ghost use Rattle.rack_laws.specs.Openings.{NodeOpensLaw};
 ghost use Rattle.rack_laws.specs.Ready.{HasKeptRoom, NoneRises, ShowsKept, limit_at};
 ghost use Rattle.rack_laws.specs.Small.{NewRoomLaw};
-ghost use Rattle.rack_ledgers.specs.Asked.{IsCoordinator, IsShardNode};
+ghost use Rattle.coord_log.specs.Opening.{IsCoord};
+ghost use Rattle.shard_node.specs.Opening.{IsShardHeader};
 ghost use Rattle.rack_ledgers.specs.Ledgers.{IsUnopened, IsUnopenedBy};
 
 use outside::Rack;
 
 /// A disk that holds its node's journal, with the room that it needs, is refused for no reason but that it failed, or that memory ran out.
 pub fn node_opens_law()
-    ensures coordinator { NodeOpensLaw IsCoordinator }
-    ensures shard { NodeOpensLaw IsShardNode }
+    ensures coordinator { NodeOpensLaw IsCoord }
+    ensures shard { NodeOpensLaw IsShardHeader }
 {}
 
 /// The nodes of a kept ledger that a rack showed open, where they have room and no count of theirs rises, unless memory runs out; and each

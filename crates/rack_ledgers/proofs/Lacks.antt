@@ -1,18 +1,19 @@
 -- The first node that can't be opened.
-use Rattle.std.proofs.Common.{◌≡◌, ◌≤◌, ◌+◌, ◌∷◌, ℕ, List, length, Option, Some, None, inl, inr, sym, ◌∙◌, subst, arith}
+use Rattle.std.proofs.Common.{◌≡◌, ◌≤◌, ◌+◌, ◌∷◌, [], ℕ, List, length, Option, Some, None, inl, inr, refl, sym, ◌∙◌, subst, arith}
 use Rattle.outside.specs.Images.{Tells}
 use Rattle.cbdc_types.specs.Limits.{IsWithinLimits}
 use Rattle.cbdc_types.specs.declared.answer.Answer.{Answer}
 use Rattle.cbdc_types.specs.declared.answer.Answer.TheVariants as answers
 use Rattle.cbdc_model.specs.Records.{Digest, Header}
 use Rattle.node_journal.specs.Nodes.{NodeOf}
-use Rattle.rack_ledgers.specs.Asked.{IsCoordinator, IsShardNode}
+use Rattle.coord_log.specs.Opening.{IsCoord}
+use Rattle.shard_node.specs.Opening.{IsShardHeader}
 use Rattle.rack_ledgers.specs.Places.{EachFrom, IsOpening}
 use Rattle.rack_ledgers.specs.Racked.{OfTold, FailsFirst}
 use Rattle.rack_ledgers.specs.Refused.{IsNoNode, IsNodeRefusal}
 use Rattle.rack_ledgers.proofs.Range.{opening_later}
-use Rattle.rack_ledgers.specs.Ledgers.{ByPlace, IsLogAt, IsRefused, IsMintOf, IsOtherMint, LacksLog, LacksShard, IsUnopenedBy}
-use Rattle.rack_ledgers.proofs.Opened.{OpensLog, OpensShard, led_at, shards_at}
+use Rattle.rack_ledgers.specs.Ledgers.{ByPlace, IsNodeAt, IsRefused, IsMintOf, IsOtherMint, LacksLog, LacksShard, IsUnopenedBy}
+use Rattle.rack_ledgers.proofs.Opened.{OpensNode, led_whole, nodes_at}
 
 -- want of memory may always be
 pub memory_refused : {D : Type 0} (content : D → Option (List ℕ)) (limit : D → ℕ) (held : ℕ → Option D) (before now : ℕ → ℕ) (Is : Header → Type 0) (ledger : Option Header) (place : ℕ) (e : Answer)
@@ -46,10 +47,10 @@ module _ {D : Type 0} (content : D → Option (List ℕ)) (images : D → List �
       })
 
   pub lacks_log : (held mid : ℕ → Option D) (before between now after : ℕ → ℕ) (h : Header) (lead : NodeOf D) (id : Option Digest) (from end : ℕ) (e : Answer) → from ≡ 1 → end ≡ h.shape.coordinators
-      → ((n : ℕ) → 1 ≤ n → mid n ≡ held n) → ((n : ℕ) → before n ≤ between n) → ((n : ℕ) → now n ≤ after n) → h.node ≡ 0 → IsWithinLimits h.shape → IsMintOf id h → IsLogAt content images limit count held h 0 lead
+      → ((n : ℕ) → 1 ≤ n → mid n ≡ held n) → ((n : ℕ) → before n ≤ between n) → ((n : ℕ) → now n ≤ after n) → h.node ≡ 0 → IsWithinLimits h.shape → IsMintOf id h → IsNodeAt content images limit count held IsCoord h 0 lead
       → FailsFirst
-      (OpensLog content images limit count mid between h)
-      (λ n a. (IsNodeRefusal a × IsOpening n (between n) (now n) a) × OfTold (mid n) (λ was. Tells (content was) (λ c. IsNoNode IsCoordinator n (Some h) (limit was) c a)))
+      (OpensNode content images limit count IsCoord mid between h)
+      (λ n a. (IsNodeRefusal a × IsOpening n (between n) (now n) a) × OfTold (mid n) (λ was. Tells (content was) (λ c. IsNoNode IsCoord n (Some h) (limit was) c a)))
       from end e
       → LacksLog content images limit count held before after id e
   lacks_log held mid before between now after h lead id from end e start stop kept later longer first limits minted at_lead f =
@@ -62,16 +63,17 @@ module _ {D : Type 0} (content : D → Option (List ℕ)) (images : D → List �
         minted = minted;
         some = omega arith;
         inside = omega (arith, f.inside, f.places, start, stop);
-        logs_at = led_at content images limit count held mid between h lead f.before kept at_lead (subst (λ (k : ℕ). EachFrom (OpensLog content images limit count mid between h) k f.before) start f.opened);
-        refused = refused_later held mid before between now after IsCoordinator (Some h) f.node (length (lead ∷ f.before)) e place (kept f.node (omega (arith, place))) (later f.node) (longer f.node) f.fails;
+        logs_at = led_whole content images limit count IsCoord held mid between h lead (lead ∷ []) (lead ∷ f.before) refl kept at_lead
+            (record { more = f.before; parts = refl; each = subst (λ (k : ℕ). EachFrom (OpensNode content images limit count IsCoord mid between h) k f.before) start f.opened });
+        refused = refused_later held mid before between now after IsCoord (Some h) f.node (length (lead ∷ f.before)) e place (kept f.node (omega (arith, place))) (later f.node) (longer f.node) f.fails;
       }
 
   pub lacks_shard : (held mid : ℕ → Option D) (before between now after : ℕ → ℕ) (h : Header) (logs : List (NodeOf D)) (id : Option Digest) (from end : ℕ) (e : Answer) → from ≡ h.shape.coordinators → end ≡ h.shape.coordinators + h.shape.shards
       → ((n : ℕ) → h.shape.coordinators ≤ n → mid n ≡ held n) → ((n : ℕ) → before n ≤ between n) → ((n : ℕ) → now n ≤ after n) → h.node ≡ 0 → IsWithinLimits h.shape → IsMintOf id h → length logs ≡ h.shape.coordinators
-      → ByPlace (IsLogAt content images limit count held h) logs
+      → ByPlace (IsNodeAt content images limit count held IsCoord h) logs
       → FailsFirst
-      (OpensShard content images limit count mid between h)
-      (λ n a. (IsNodeRefusal a × IsOpening n (between n) (now n) a) × OfTold (mid n) (λ was. Tells (content was) (λ c. IsNoNode IsShardNode n (Some h) (limit was) c a)))
+      (OpensNode content images limit count IsShardHeader mid between h)
+      (λ n a. (IsNodeRefusal a × IsOpening n (between n) (now n) a) × OfTold (mid n) (λ was. Tells (content was) (λ c. IsNoNode IsShardHeader n (Some h) (limit was) c a)))
       from end e
       → LacksShard content images limit count held before after id e
   lacks_shard held mid before between now after h logs id from end e start stop kept later longer first limits minted all logs_at f =
@@ -86,6 +88,6 @@ module _ {D : Type 0} (content : D → Option (List ℕ)) (images : D → List �
         coordinators = all;
         inside = omega (arith, f.inside, f.places, start, stop);
         logs_at = logs_at;
-        shards_at = shards_at content images limit count held mid between h h.shape.coordinators f.before kept (subst (λ (k : ℕ). EachFrom (OpensShard content images limit count mid between h) k f.before) start f.opened);
-        refused = refused_later held mid before between now after IsShardNode (Some h) f.node (h.shape.coordinators + length f.before) e place (kept f.node (omega (arith, place))) (later f.node) (longer f.node) f.fails;
+        shards_at = nodes_at content images limit count IsShardHeader held mid between h h.shape.coordinators f.before kept (subst (λ (k : ℕ). EachFrom (OpensNode content images limit count IsShardHeader mid between h) k f.before) start f.opened);
+        refused = refused_later held mid before between now after IsShardHeader (Some h) f.node (h.shape.coordinators + length f.before) e place (kept f.node (omega (arith, place))) (later f.node) (longer f.node) f.fails;
       }

@@ -9,9 +9,11 @@ use Rattle.cbdc_model.specs.History.{header_of}
 use Rattle.cbdc_model.specs.Room.{kept_room}
 use Rattle.cbdc_model.specs.Due.{used_of}
 use Rattle.node_journal.specs.Nodes.{NodeOf}
-use Rattle.rack_ledgers.specs.Asked.{asked_of, IsCoordinator, IsShardNode}
+use Rattle.coord_log.specs.Opening.{IsCoord}
+use Rattle.shard_node.specs.Opening.{IsShardHeader}
+use Rattle.rack_ledgers.specs.Asked.{asked_of}
 use Rattle.rack_ledgers.specs.Refused.{IsNodeJournal, IsNoNode}
-use Rattle.rack_ledgers.specs.Ledgers.{ByPlace, IsLogAt, IsRefused, IsMintOf, HasOtherMint, LacksLog, LacksShard, IsUnopenedBy}
+use Rattle.rack_ledgers.specs.Ledgers.{ByPlace, IsNodeAt, IsRefused, IsMintOf, HasOtherMint, LacksLog, LacksShard, IsUnopenedBy}
 use Rattle.rack_ledgers.proofs.Once.{opens_once_law}
 use Rattle.rack_ledgers.proofs.Fronts.{has_first, whole_fronts, whole_or_cut}
 use Rattle.rack_ledgers.specs.RefusalLaws.{AllTell, TellLedger, EachOpens, AllHaveRoom, IsOfBytes, IsOfRoom}
@@ -45,13 +47,13 @@ module _ {D : Type 0} (content : D → Option (List ℕ)) (images : D → List �
         node_stands (header_of K g n) (J n) Is ledger (limit t.0) t.2.0 a t.2.2 asked is told (λ full. room full n low t.0 t.1) (refused.cause t.0 t.1 t.2.0 t.2.1)
 
     -- node 0 as it is opened has the header of the ledger
-    lead_is : (h : Header) (l : NodeOf D) → IsLogAt content images limit count held h 0 l → l.header ≡ header_of K g 0
+    lead_is : (h : Header) (l : NodeOf D) → IsNodeAt content images limit count held IsCoord h 0 l → l.header ≡ header_of K g 0
     lead_is h l log =
         let t = tell.each 0 (omega (arith, tell.limits.some_coordinator)) in
         let opened = ((log.opened t.0 t.1).stands t.2.0 t.2.1).0 in
         (opens_once_law l.header (header_of K g 0) l.journal (J 0) t.2.0 opened.limits tell.limits opened.journal t.2.2.journal opened.opens t.2.2.opens).0
 
-    first_is : (h : Header) (logs : List (NodeOf D)) → 1 ≤ length logs → ByPlace (IsLogAt content images limit count held h) logs → header_of h.shape h.genesis 0 ≡ header_of K g 0
+    first_is : (h : Header) (logs : List (NodeOf D)) → 1 ≤ length logs → ByPlace (IsNodeAt content images limit count held IsCoord h) logs → header_of h.shape h.genesis 0 ≡ header_of K g 0
     first_is h logs some logs_at = elim ((slice_get_cases logs 0).1) [
       | inl here ↦ let log = logs_at 0 here.0 here.2 in sym log.header ∙ lead_is h here.0 log
       | inr past ↦ absurd (omega (arith, past.0, some))
@@ -71,7 +73,7 @@ module _ {D : Type 0} (content : D → Option (List ℕ)) (images : D → List �
     no_log id lacks =
         let first = first_is lacks.header lacks.logs lacks.some lacks.logs_at in
         let coordinators : lacks.header.shape.coordinators ≡ K.coordinators = ap (λ (k : Shape). k.coordinators) (shape_is lacks.header first) in
-        none_at (length lacks.logs) IsCoordinator (Some lacks.header) (omega (arith, lacks.inside, coordinators)) (asked_is (length lacks.logs) lacks.header first)
+        none_at (length lacks.logs) IsCoord (Some lacks.header) (omega (arith, lacks.inside, coordinators)) (asked_is (length lacks.logs) lacks.header first)
         (omega (arith, lacks.inside, coordinators)) lacks.refused
 
     no_shard : (id : Option Digest) → LacksShard content images limit count held before now id a → ⊥
@@ -82,12 +84,12 @@ module _ {D : Type 0} (content : D → Option (List ℕ)) (images : D → List �
         let n : ℕ = lacks.header.shape.coordinators + length lacks.shards in
         let low : n < K.coordinators + K.shards = omega (arith, lacks.inside, coordinators, shards) in
         let high : K.coordinators ≤ n = omega (arith, coordinators) in
-        none_at n IsShardNode (Some lacks.header) low (asked_is n lacks.header first) (high, low) lacks.refused
+        none_at n IsShardHeader (Some lacks.header) low (asked_is n lacks.header first) (high, low) lacks.refused
 
     pub none_refused : (id : Option Digest) → IsMintOf id (header_of K g 0) → IsUnopenedBy content images limit count held before now id a → ⊥
     none_refused id mint unopened = elim unopened [
       | inl unled ↦ elim unled [
-        | inl lead ↦ let some = tell.limits.some_coordinator in none_at 0 IsCoordinator None (omega (arith, some)) refl (omega (arith, some)) lead
+        | inl lead ↦ let some = tell.limits.some_coordinator in none_at 0 IsCoord None (omega (arith, some)) refl (omega (arith, some)) lead
         | inr later ↦ ⊎_elim (no_other_mint id mint) (no_log id) later
       ]
       | inr lacks ↦ no_shard id lacks

@@ -2,10 +2,11 @@
 ghost use Rattle.std.specs.Prelude.{◌≡◌, ◌≢◌, ◌∷◌, [], ◌+◌, ◌≤◌, ◌<◌, ◌^◌, ℕ, length, Some, IfOk, IfErr, OnErr, MatchOption};
 ghost use Rattle.std.specs.Option.{option_copied};
 ghost use Rattle.cbdc_types.specs.Limits.{IsWithinLimits};
+ghost use Rattle.coord_log.specs.Opening.{IsCoord};
 ghost use Rattle.rack_ledgers.specs.Places.{EachFrom, MayReturn};
 ghost use Rattle.rack_ledgers.specs.Racked.{OfTold, IsBack, AreBack};
 ghost use Rattle.rack_ledgers.specs.Refused.{IsNodeRefusal};
-ghost use Rattle.rack_ledgers.specs.Ledgers.{ByPlace, IsLogAt, AreOpened, IsMintOf, IsOtherMint, IsUnledBy, IsUnopened, IsUnopenedBy};
+ghost use Rattle.rack_ledgers.specs.Ledgers.{ByPlace, IsNodeAt, AreOpened, IsMintOf, IsOtherMint, IsUnledBy, IsUnopened, IsUnopenedBy};
 
 use crate::at_once::open_at_once;
 use crate::{Nodes, close_all, open_one};
@@ -42,7 +43,7 @@ fn open_lead<R: Rack>(
     id: Option<&Hash>,
 ) -> Result<CoordLog<R::Disk>, Answer>
     requires { R.can_take rack.old 0 }
-    ensures opened { IfOk result (λ l. (l.header.node ≡ 0) × IsLogAt R.Disk.content R.Disk.images R.Disk.limit R.Disk.count (R.held rack.old) l.header 0 l) }
+    ensures opened { IfOk result (λ l. (l.header.node ≡ 0) × IsNodeAt R.Disk.content R.Disk.images R.Disk.limit R.Disk.count (R.held rack.old) IsCoord l.header 0 l) }
     ensures minted { IfOk result (λ l. IsMintOf (option_copied id.entry) l.header) }
     ensures since { IfOk result (λ l. R.count rack.old 0 ≤ R.Disk.count l.disk) }
     ensures refusal { IfErr result (IsUnledBy R.Disk.content R.Disk.images R.Disk.limit R.Disk.count (R.held rack.old) (R.count rack.old) (R.count rack.new) (option_copied id.entry)) }
@@ -105,7 +106,7 @@ where
     R::Disk: Send,
     requires { (n : ℕ) → R.can_take rack.old n }
     ensures first { IfOk result (λ l. (l.0.node ≡ 0) × IsWithinLimits l.0.shape) }
-    ensures opened { IfOk result (λ l. ByPlace (IsLogAt R.Disk.content R.Disk.images R.Disk.limit R.Disk.count (R.held rack.old) l.0) l.1.items) }
+    ensures opened { IfOk result (λ l. ByPlace (IsNodeAt R.Disk.content R.Disk.images R.Disk.limit R.Disk.count (R.held rack.old) IsCoord l.0) l.1.items) }
     ensures minted { IfOk result (λ l. IsMintOf (option_copied id.entry) l.0) }
     ensures since { IfOk result (λ l. ByPlace (λ n x. R.count rack.old n ≤ R.Disk.count x.disk) l.1.items) }
     ensures refusal { IfErr result (IsUnledBy R.Disk.content R.Disk.images R.Disk.limit R.Disk.count (R.held rack.old) (R.count rack.old) (R.count rack.new) (option_copied id.entry)) }

@@ -161,14 +161,14 @@ module _ {D : Type 0} (content : D → Option (List ℕ)) (images : D → List �
   Holds n c = OfTold (held n) (λ d. c ≡ limit d)
 
   risen : (n : ℕ) → n < node_count h.shape → HaveFailed (opened_of h.shape logs shards) (faults_of h.shape now after) n → Rises n
-  risen = have_risen content images limit count held h logs now shards after are g shape is seen.counts before behind logs_since shards_since logs_counted shards_counted
+  risen = have_risen content images limit count held h logs now shards after are g shape is seen before behind logs_since shards_since logs_counted shards_counted
 
   may : (n c : ℕ) → n < node_count h.shape → MayHold (capacity_of h.shape logs shards) n c → Holds n c
   may n c inside is_so = may_hold content images limit count held h logs shards are n c inside is_so
 
   -- what the disks that are back have room for
   rooms_back : HaveRoom limit back h.shape (journals_of h.shape now after)
-  rooms_back = subst (λ k. HaveRoom limit back k (journals_of k now after)) shape (rooms_each content images limit count back g now after is seen.log_rooms seen.shard_rooms logs_back shards_back)
+  rooms_back = subst (λ k. HaveRoom limit back k (journals_of k now after)) shape (rooms_each content images limit count back g now after is logs_back shards_back seen)
 
   -- what was taken, and how it was left
   pub took : HaveRoom limit held h.shape (journals_of h.shape logs shards) → ((n : ℕ) → n < node_count h.shape → SameRoom limit (held n) (back n)) → ((n : ℕ) → node_count h.shape ≤ n → back n ≡ held n)
@@ -187,7 +187,7 @@ module _ {D : Type 0} (content : D → Option (List ℕ)) (images : D → List �
     caused = stays_caused content images limit count h g logs now shards after (is_ledger content images limit count held h logs shards are) is shape checked grows;
     disks = λ tells.
         subst (λ k. HoldsEach images back k (journals_of k now after)) shape
-        (holds_each content images limit count back g now after is (stored (told_stored content images limit count held h logs shards are tells)) logs_back shards_back quiet);
+        (holds_each content images limit count back g now after is logs_back shards_back (stored (told_stored content images limit count held h logs shards are tells)) quiet);
     rooms = rooms_back;
     same_room = same_room;
     spared = spared;
@@ -229,10 +229,10 @@ module _ {D : Type 0} (content : D → Option (List ℕ)) (images : D → List �
         in_flight = λ n r inside there. risen n inside (flown n r there);
         prepares = subst (λ L. (n t : ℕ) (b : Batch) (txs : List Compact) → n < node_count K → flights_of h.shape now after n ≡ Some (Prepare t b txs) → IsLaneOf K b.lane × d.next K L X b.lane txs) entry
             (λ n t b txs inside there. none_before (flights_of h.shape logs shards n) (Prepare t b txs)
-            (none_fly content images limit count h.shape logs shards (are_quiet content images limit count held h logs shards are) n) (leaves.launches n t b txs there));
+            (none_fly h.shape logs shards (are_quiet content images limit count held h logs shards are) n) (leaves.launches n t b txs there));
         disks = λ tells.
             subst (λ k. KeepsFlights images back k (journals_of k now after) (flights_of k now after)) shape
-            (keeps_flights content images limit count back g now after is (stored (told_stored content images limit count held h logs shards are tells)) logs_back shards_back);
+            (keeps_flights content images limit count back g now after is logs_back shards_back (stored (told_stored content images limit count held h logs shards are tells)));
         cause = subst (λ L. IsLaneAnswer K (d.next K L X) L X Rises Holds a) entry (answer_by K failed Rises holds Holds risen may (d.next K E X) E X a cause);
         may_come = subst (λ L. MayComeNext K h.genesis (d.next K L X) L X) entry
             (wants_there content images limit count h g logs now shards after (is_ledger content images limit count held h logs shards are) is shape checked (d.next K E X) fits);

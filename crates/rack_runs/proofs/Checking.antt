@@ -35,7 +35,7 @@ beyond_all see [] n h = refl
 beyond_all see (x ∷ xs) zero h = absurd (omega (arith, h))
 beyond_all see (x ∷ xs) (suc n) h = beyond_all see xs n (omega (arith, h))
 
-module _ {D : Type 0} (content : D → Option (List ℕ)) (images : D → List ℕ → Type 0) (limit count : D → ℕ) (held : ℕ → Option D) (h : Header) (logs : List (NodeOf D)) (shards : List (NodeOf D))
+module _ {D : Type 0} (content : D → Option (List ℕ)) (images : D → List ℕ → Type 0) (limit count : D → ℕ) (held : ℕ → Option D) (h : Header) (logs shards : List (NodeOf D))
     (are : AreOpened content images limit count held h logs shards) (caused : AreCaused h.shape (lent_journals logs shards)) where
   abbrev History : List Row
   History = reverse caused.rows
@@ -44,12 +44,12 @@ module _ {D : Type 0} (content : D → Option (List ℕ)) (images : D → List �
   at_log : (n : ℕ) → n < h.shape.coordinators → journals_of h.shape logs shards n ≡ journal n History
   at_log n low =
       let l = at_place logs n (omega (arith, low, are.coordinators)) in
-      log_seen content images limit count h.shape logs shards n l.0 low l.1 ∙ log_told logs shards caused.rows caused.merged n l.0 l.1
+      log_seen h.shape logs shards n l.0 low l.1 ∙ log_told logs shards caused.rows caused.merged n l.0 l.1
 
   at_shard : (s : ℕ) → s < h.shape.shards → journals_of h.shape logs shards (h.shape.coordinators + s) ≡ journal (h.shape.coordinators + s) History
   at_shard s low =
       let x = at_place shards s (omega (arith, low, are.shards_are)) in
-      shard_seen content images limit count h.shape logs shards s x.0 x.1 ∙ shard_told logs shards caused.rows caused.merged s x.0 x.1 ∙ ap (λ k. journal (k + s) History) are.coordinators
+      shard_seen h.shape logs shards s x.0 x.1 ∙ shard_told logs shards caused.rows caused.merged s x.0 x.1 ∙ ap (λ k. journal (k + s) History) are.coordinators
 
   no_node : (n : ℕ) → h.shape.coordinators + h.shape.shards ≤ n → journal n History ≡ []
   no_node n past = none_told logs shards caused.rows caused.merged n (omega (arith, past, are.coordinators, are.shards_are))

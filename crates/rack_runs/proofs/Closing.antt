@@ -85,7 +85,7 @@ module _ {D Done : Type 0} (content : D → Option (List ℕ)) (images : D → L
   stored = ran.keeps_ledger.held
 
   flown : (n : ℕ) (r : Record) → flights_of h.shape now after n ≡ Some r → failed n
-  flown n r there = subst (λ o. HasRisen o (faults_of h.shape now after n)) (opened_at n) (all_flown h.shape now after seen.log_flown seen.shard_flown n r there)
+  flown n r there = subst (λ o. HasRisen o (faults_of h.shape now after n)) (opened_at n) (all_flown count limit h.shape now after seen n r there)
 
   -- as many nodes as before
   pub logs_are : length now ≡ length logs
@@ -96,10 +96,10 @@ module _ {D Done : Type 0} (content : D → Option (List ℕ)) (images : D → L
 
   -- whose disks may be put back
   pub logs_may : (can : ℕ → ℕ → Type 0) → EachFrom (MayReturn (λ x. count x.disk) can) 0 logs → EachFrom (MayReturn (λ x. count x.disk) can) 0 now
-  logs_may can = logs_return content images limit count held h logs now shards after are g shape is later can seen.counts
+  logs_may can = logs_return content images limit count held h logs now shards after are g shape is later seen can
 
   pub shards_may : (can : ℕ → ℕ → Type 0) → EachFrom (MayReturn (λ x. count x.disk) can) (length logs) shards → EachFrom (MayReturn (λ x. count x.disk) can) (length now) after
-  shards_may can = shards_return content images limit count held h logs now shards after are g shape is later can
+  shards_may can = shards_return content images limit count held h logs now shards after are g shape is later seen can
 
   module _ (caused : AreCaused h.shape (lent_journals logs shards)) (middle back : ℕ → Option D)
       (logs_back : ByPlace (λ n l. OfTold (back n) (λ d. d ≡ l.disk)) now) (shards_back : ByPlace (λ s x. OfTold (back (length now + s)) (λ d. d ≡ x.disk)) after) (before behind : ℕ → ℕ)
@@ -113,7 +113,7 @@ module _ {D Done : Type 0} (content : D → Option (List ℕ)) (images : D → L
     room = opened_room content images limit count held back h g logs now shards after deed are is shape logs_back shards_back stored
 
     same_room : (n : ℕ) → n < node_count h.shape → SameRoom limit (held n) (back n)
-    same_room = rooms_same content images limit count held back h logs now shards after are g shape is seen.capacities logs_back shards_back capacity_at
+    same_room = rooms_same content images limit count held back h logs now shards after are g shape is seen logs_back shards_back capacity_at
 
     -- what came of it, and what that leaves of the disks
     pub done : (told : Result (Told Done) Answer) → IfErr told (λ a. (a ≡ answers.Memory) ⊎ ((e : LaneFault) × (came ≡ Err e) × (a ≡ answer_to e))) → IfOk told (λ t. (t.resumed.items ≡ resumed) × (came ≡ Ok t.done))
@@ -123,7 +123,7 @@ module _ {D Done : Type 0} (content : D → Option (List ℕ)) (images : D → L
         record {
           caused = took content images limit count held back h g logs now shards after are caused is shape logs_back shards_back stored seen before behind logs_since shards_since logs_counted shards_counted
               room same_room spared leaves.grows checked (quiet (are_quiet content images limit count held h logs shards are));
-          ended = ended content images limit count held back h g logs now shards after deed are is shape logs_back shards_back stored t leaves.keeps (leaves.begun are.limits).1 seen.log_rooms seen.shard_rooms quiet
+          ended = ended content images limit count held back h g logs now shards after deed are is shape logs_back shards_back stored t leaves.keeps (leaves.begun are.limits).1 seen quiet
               (subst (λ r. AllWell deed h.shape E X r t.done) (sym same.0) (of_whole (AllWell deed h.shape E X resumed) came t.done same.1 well)) unspent;
           stopped = tt;
         }
@@ -135,7 +135,7 @@ module _ {D Done : Type 0} (content : D → Option (List ℕ)) (images : D → L
           ended = tt;
           stopped = inr (lane_fault content images limit count held back h g logs now shards after are caused is shape logs_back shards_back stored seen before behind logs_since shards_since logs_counted shards_counted
               deed (fits h.shape E X) leaves flown a bad.0 bad.1 room same_room checked
-              (cut_short content images limit count held back h g logs now shards after deed are is shape logs_back shards_back stored leaves.keeps leaves.flies seen.log_rooms seen.shard_rooms seen.log_fits seen.shard_fits)
+              (cut_short content images limit count held back h g logs now shards after deed are is shape logs_back shards_back stored leaves.keeps leaves.flies seen)
               spared);
         }
 

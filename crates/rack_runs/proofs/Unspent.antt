@@ -229,7 +229,7 @@ count_next xs i n own sum x low is before counts e =
 pub count_whole : {D : Type 0} (xs : List (NodeOf D)) (i n : ℕ) → length xs ≤ i → CountAll (map (λ s. s.journal) (take i xs)) n → CountAll (map (λ s. s.journal) xs) n
 count_whole xs i n past counts = subst (λ l. CountAll (map (λ s. s.journal) l) n) (take_all i xs past) counts
 
-module _ {D : Type 0} (h : Header) (logs : List (NodeOf D)) (shards : List (NodeOf D)) (ledger : IsLedger h logs shards) where
+module _ {D : Type 0} (h : Header) (logs shards : List (NodeOf D)) (ledger : IsLedger h logs shards) where
   abbrev K : Shape
   K = h.shape
 

@@ -275,12 +275,12 @@ wants_next K genesis m next E X limits checked were are fits lane node front r l
 
 module _ {D : Type 0} (content : D → Option (List ℕ)) (images : D → List ℕ → Type 0) (limit count : D → ℕ) where
   -- each node's journal has its header of the ledger
-  node_header : (h : Header) (logs : List (NodeOf D)) (shards : List (NodeOf D)) → IsLedger h logs shards → (n : ℕ) → n < node_count h.shape → IsJournal (header_of h.shape h.genesis n) (journals_of h.shape logs shards n)
+  node_header : (h : Header) (logs shards : List (NodeOf D)) → IsLedger h logs shards → (n : ℕ) → n < node_count h.shape → IsJournal (header_of h.shape h.genesis n) (journals_of h.shape logs shards n)
   node_header h logs shards is n inside = elim (cases_lt n h.shape.coordinators) [
     | inl low ↦
         let l = at_place logs n (omega (arith, low, is.coordinators)) in
         let head : l.0.header ≡ header_of h.shape h.genesis n = sym (ap (λ s. s.header) (sight_there sight logs n l.0 l.1)) ∙ is.log_headers n low in
-        subst (λ J. IsJournal (header_of h.shape h.genesis n) J) (sym (log_journal content images limit count h.shape logs shards n l.0 low l.1))
+        subst (λ J. IsJournal (header_of h.shape h.genesis n) J) (sym (log_journal h.shape logs shards n l.0 low l.1))
         (subst (λ k. IsJournal k l.0.journal) head (by_all (λ x. IsJournal x.header x.journal) logs is.log_journals n l.0 l.1))
     | inr high ↦
         let s : ℕ = n - h.shape.coordinators in
@@ -289,7 +289,7 @@ module _ {D : Type 0} (content : D → Option (List ℕ)) (images : D → List �
         let x = at_place shards s (omega (arith, lt, is.shards_are)) in
         let head : x.0.header ≡ header_of h.shape h.genesis (h.shape.coordinators + s) = sym (ap (λ t. t.header) (sight_there sight shards s x.0 x.1)) ∙ is.shard_headers s lt in
         subst (λ k. IsJournal (header_of h.shape h.genesis k) (journals_of h.shape logs shards k)) place
-        (subst (λ J. IsJournal (header_of h.shape h.genesis (h.shape.coordinators + s)) J) (sym (shard_journal content images limit count h.shape logs shards s x.0 x.1))
+        (subst (λ J. IsJournal (header_of h.shape h.genesis (h.shape.coordinators + s)) J) (sym (shard_journal h.shape logs shards s x.0 x.1))
         (subst (λ k. IsJournal k x.0.journal) head (by_all (λ y. IsJournal y.header y.journal) shards is.shard_journals s x.0 x.1)))
   ]
 

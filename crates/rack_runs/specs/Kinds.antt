@@ -43,13 +43,9 @@ abbrev pub MayComeNext : Shape → Digest → (ℕ → List Compact → Type 0) 
 MayComeNext K genesis next E X = (lane node : ℕ) (front : List Record) (wanted : Record) → IsLaneOf K lane → IsEnd (E node) front → IsEnd front (X node) → slot front lane ≡ slot (X node) lane
     → IsWanted K lane (next lane) X node front wanted → Follows (header_of K genesis node) front wanted × (stamp_of wanted ≤ 2 ^ 62 → After (header_of K genesis node) front wanted)
 
--- a record is in flight at a coordinator, and at a shard, only where its disk has failed since it was opened
+-- a record is in flight at a node only where its disk has failed since it was opened
 abbrev pub FliesBroken : {D : Type 0} → NodeOf D → Type 0
-FliesBroken l = (r : Record) → l.flight ≡ Some r → HasRisen l.opened l.faults
-
--- `FliesBroken`, `ShardFliesBroken`: a record is in flight at a node only where its disk has failed since it was opened
-abbrev pub ShardFliesBroken : {D : Type 0} → (D → ℕ) → NodeOf D → Type 0
-ShardFliesBroken count s = (r : Record) → s.flight ≡ Some r → HasRisen s.opened (count s.disk)
+FliesBroken n = (r : Record) → n.flight ≡ Some r → HasRisen n.opened n.faults
 
 -- these are journals of a ledger with this genesis, and each of their records is caused
 abbrev pub StaysCaused : Shape → Digest → (ℕ → List Record) → Type 0

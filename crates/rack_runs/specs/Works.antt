@@ -23,9 +23,9 @@ use Rattle.file_runs.specs.Runs.{joined, FliesWith}
 use Rattle.rack_ledgers.specs.Places.{EachFrom, MayReturn}
 use Rattle.rack_ledgers.specs.Ledgers.{ByPlace, AreOpened}
 use Rattle.rack_ledgers.specs.Caused.{journals_of as told_journals, AreCaused}
-use Rattle.rack_laws.specs.Shown.{OfShown, HoldsEach, LogHasRoom, ShardHasRoom, LogFits, ShardFits, HaveRoom, node_count}
+use Rattle.rack_laws.specs.Shown.{OfShown, HoldsEach, NodeHasRoom, NodeFits, HaveRoom, node_count}
 use Rattle.printed_lines.specs.Unspent.{IsUnspentCount}
-use Rattle.rack_runs.specs.Kinds.{FliesBroken, ShardFliesBroken}
+use Rattle.rack_runs.specs.Kinds.{FliesBroken}
 use Rattle.rack_runs.specs.Endings.{IsInOrder}
 use Rattle.rack_runs.specs.Runs.{IsGrown, TookLedger, AddsOpen}
 use Rattle.rack_runs.specs.Stops.{WhyNoTurns}
@@ -155,17 +155,19 @@ pub record HasRun {D Done : Type 0} (content : D → Option (List ℕ)) (images 
   pub badly : IfErr came (AllBadly d before.header.shape (journals before) (journals now)
       (HaveFailed (opened now) (faults now)) (MayHold (capacity now)))
 
--- what nodes say of themselves: each one's count of faults and capacity are its disk's, which has room for its journal, for what is kept for its
--- open batches and for what is in flight; and a record is in flight only where the disk failed
-pub record AreSeen {D : Type 0} (logs : List (NodeOf D)) (shards : List (NodeOf D)) : Type 0 where
-  pub counts : All (λ l. l.faults ≡ count l.disk) logs
-  pub capacities : All (λ l. l.capacity ≡ limit l.disk) logs
-  pub log_rooms : All (LogHasRoom limit) logs
-  pub shard_rooms : All (ShardHasRoom limit) shards
-  pub log_fits : All (LogFits limit) logs
-  pub shard_fits : All (ShardFits limit) shards
-  pub log_flown : All FliesBroken logs
-  pub shard_flown : All (ShardFliesBroken count) shards
+-- what a node says of itself: its count of faults and its capacity are its disk's, which has room for its journal, for what is kept for its open batches and
+-- for what is in flight; and a record is in flight only where the disk failed
+pub record IsSeen {D : Type 0} (count limit : D → ℕ) (n : NodeOf D) : Type 0 where
+  pub faults : n.faults ≡ count n.disk
+  pub capacity : n.capacity ≡ limit n.disk
+  pub room : NodeHasRoom n
+  pub fits : NodeFits n
+  pub flown : FliesBroken n
+
+-- all nodes of a ledger do
+pub record AreSeen {D : Type 0} (count limit : D → ℕ) (logs shards : List (NodeOf D)) : Type 0 where
+  pub logs_are : All (IsSeen count limit) logs
+  pub shards_are : All (IsSeen count limit) shards
 
 -- ---- on a rack
 

@@ -7,3 +7,4 @@ pub mod Stamps
 pub mod Locks
 pub mod Opens
 pub mod Later
+pub mod Stops

@@ -17,12 +17,6 @@ map_more {A} {B} f xs i x before now inside here pushed so_far =
     pushed ∙ ap (λ (l : List B). l ++ (f x ∷ [])) so_far ∙ ap (λ (y : A). map f (take i xs) ++ (f y ∷ [])) here ∙ sym (map-append f (take i xs) (slice_index_or xs i x ∷ []))
     ∙ ap (map f) (sym (take-suc xs i x inside)) ∙ ap (λ (k : ℕ). map f (take k xs)) next
 
--- each place of a list has an item
-pub at_place : {N : Type 0} (xs : List N) (n : ℕ) → n < length xs → (x : N) × (slice_get xs n ≡ Some x)
-at_place [] n inside = absurd (omega (arith, inside))
-at_place (x ∷ xs) zero inside = (x, refl)
-at_place (x ∷ xs) (suc n) inside = at_place xs n (omega (arith, inside))
-
 module _ {N : Type 0} (journal : N → List Record) where
   pub journal_some : (nodes : List N) (n : ℕ) (x : N) → slice_get nodes n ≡ Some x → journal_there journal nodes n ≡ journal x
   journal_some [] n x at = absurd (cc)

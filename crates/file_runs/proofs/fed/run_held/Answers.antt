@@ -8,6 +8,11 @@ run_wave-ledger-requires-clause-limits g c κs k =
     (can_run g.D.Disk.content g.D.Disk.images g.B.Waving.before g.B.Waving.lanes c.held.inside.ledger c.held.inside.works.items c.held.inside.has_run c.in-Some.ledger
     c.held.invariant c.if-held.false (sym c.in-Some.ensures.value)).limits
 
+pub run_wave-ledger-requires-clause-idle : goal.run_wave-ledger-requires-clause-idle
+run_wave-ledger-requires-clause-idle g c κs k =
+    (can_run g.D.Disk.content g.D.Disk.images g.B.Waving.before g.B.Waving.lanes c.held.inside.ledger c.held.inside.works.items c.held.inside.has_run c.in-Some.ledger
+    c.held.invariant c.if-held.false (sym c.in-Some.ensures.value)).idle
+
 pub run_wave-ledger-requires-clause-checked : goal.run_wave-ledger-requires-clause-checked
 run_wave-ledger-requires-clause-checked g c κs k =
     (can_run g.D.Disk.content g.D.Disk.images g.B.Waving.before g.B.Waving.lanes c.held.inside.ledger c.held.inside.works.items c.held.inside.has_run c.in-Some.ledger

@@ -3,7 +3,7 @@ use Rattle.shard_node.proofs.Keeps.{stays}
 use Rattle.shard_node.proofs.Locks.{HasTaken, size_exact, kept_exact, lock_full_is, taken_shard, lock_memory, lock_room, lock_wrote, lock_done, lock_left, lock_failed}
 use Rattle.node_journal.specs.Nodes.{HoldsJournal, LeavesBetween}
 use Rattle.shard_node.specs.Parts.{view_of}
-use Rattle.node_journal.proofs.Leaving.{shown_same, still}
+use Rattle.node_journal.proofs.Leaving.{still, shown_same}
 use Rattle.shard_node.proofs.locking.append_lock.Goals as goal
 
 pub overflow_add-later-2 : goal.overflow_add-later-2

@@ -1,4 +1,4 @@
-use Rattle.std.proofs.Common.{◌+◌, ◌∷◌, ◌++◌, [], List, Some, refl, ap, ◌∙◌}
+use Rattle.std.proofs.Common.{◌+◌, ◌∷◌, ◌++◌, [], List, Some, Err, refl, ap, ◌∙◌}
 use Rattle.gate_journal.specs.Shown.{gate_of, broken_of}
 use Rattle.cbdc_model.specs.Records.{Record}
 use Rattle.node_journal.proofs.Leaving.{to_journal, from_journal, to_broken, written_between, failed_between}
@@ -38,7 +38,7 @@ pub returns-in-Err-DiskFault-clause-holds : goal.returns-in-Err-DiskFault-clause
 returns-in-Err-DiskFault-clause-holds g c = λ old.
     let p = c.args.parts.now in
     let left = c.write.ensures.leaves p.log.records.items (from_journal p.log p.opened p.flight c.requires.whole old) in
-    to_broken c.write.new.self p.log.records.items p.opened c.args.next c.write.ensures.records (c.write.ensures.broken c.in-Err-DiskFault.is) left.now
+    to_broken c.write.new.self p.log.records.items p.opened c.args.next c.write.ensures.records (c.write.ensures.broken (c.in-Err-DiskFault.is ∙ ap (λ e. Err e) c.in-Err-DiskFault.field-0-is)) left.now
 
 pub returns-in-Err-DiskFault-clause-leaves : goal.returns-in-Err-DiskFault-clause-leaves
 returns-in-Err-DiskFault-clause-leaves g c = λ holds.

@@ -10,7 +10,8 @@ use Rattle.coord_core.specs.Lanes.{IsOwn, kept_of, next_batch}
 use Rattle.node_journal.specs.Nodes.{NodeOf, sight, HoldsJournal, LeavesBetween}
 use Rattle.node_journal.specs.Shown.{shown}
 use Rattle.coord_log.proofs.Owed.{told_ok, told_err, breaks_err, own_lane}
-use Rattle.coord_log.proofs.Preparing.{Prepares, sound_kept, shown_same, room_refused, exact_size, prepare_small, prepare_ready, prepare_owed, prepare_full}
+use Rattle.coord_log.proofs.Preparing.{Prepares, sound_kept, room_refused, exact_size, prepare_small, prepare_ready, prepare_owed, prepare_full}
+use Rattle.node_journal.proofs.Leaving.{shown_same}
 use Rattle.node_journal.proofs.Leaving.{still, still_seen}
 use Rattle.coord_log.proofs.log.CoordLog.prepare.Goals as goal
 
