@@ -1,8 +1,7 @@
 -- A coordinator's disk that was opened.
-use Rattle.std.proofs.Common.{◌≡◌, ℕ, ◌+◌, ◌≤◌, List, reverse, refl, ap, sym, ◌∙◌, subst, arith, None, Option}
+use Rattle.std.proofs.Common.{◌≡◌, ℕ, List, reverse, refl, ap, sym, ◌∙◌, subst, arith, None, Option}
 use Rattle.outside.specs.declared.disk.Disk.{Ghosts}
-use Rattle.gate_journal.specs.Shown.{disk_of, gate_of, broken_of}
-use Rattle.cbdc_types.specs.Limits.{IsWithinLimits}
+use Rattle.gate_journal.specs.Shown.{disk_of}
 use Rattle.cbdc_model.specs.Records.{Header, Record}
 use Rattle.cbdc_model.specs.After.{IsJournal}
 use Rattle.cbdc_model.specs.Room.{kept_room}

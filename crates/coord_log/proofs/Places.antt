@@ -1,18 +1,17 @@
 -- The room that the later records of open batches have, behind each record.
-use Rattle.std.proofs.Common.{◌≡◌, ◌≢◌, ◌⊎◌, ℕ, zero, suc, ◌+◌, ◌*◌, ◌%◌, ◌<◌, ◌≤◌, true, false, List, [], ◌∷◌, length, get_or, set, refl, ap, sym, ◌∙◌, subst, arith, inl, inr, eqb, mod-lt}
-use Rattle.std.specs.Prelude.{sum_by, All}
-use Rattle.std.proofs.lemmas.Bool.Decides.{eqb_tells}
-use Rattle.std.proofs.lemmas.List.{get_or-set_same, get_or-set_other, length-map}
+use Rattle.std.proofs.Common.{◌≡◌, ℕ, ◌+◌, ◌*◌, ◌%◌, ◌≤◌, List, length, get_or, ap, sym, subst, arith}
+use Rattle.std.specs.Prelude.{sum_by}
+use Rattle.std.proofs.lemmas.List.{length-map}
 use Rattle.std.proofs.lemmas.List.Sums.{sum_by-set, sum_by-le}
 use Rattle.outside.specs.declared.disk.Disk.{Ghosts}
 use Rattle.gate_journal.specs.Shown.{disk_of, gate_of}
-use Rattle.cbdc_model.specs.Records.{Header, Record, Batch, Compact, Outcome, Won, Lacks, Blocked, Genesis, Lock, Finish, Forget, Start, Prepare, Commit, Discard, Done}
+use Rattle.cbdc_model.specs.Records.{Batch, Compact, Outcome, Won, Lacks, Blocked, Prepare, Commit, Discard, Done}
 use Rattle.cbdc_model.specs.Slots.{Slot, Idle, InPrepare, InCommit, InDiscard}
 use Rattle.cbdc_model.specs.Room.{size_of, outcome_size, room_in, room_behind_prepare}
 use Rattle.record_log.specs.Logs.{HasRoom}
 use Rattle.record_log.specs.declared.log.RecordLog.{RecordLog}
 use Rattle.coord_core.specs.Masks.{mask_of, masks_of}
-use Rattle.coord_core.specs.Lanes.{CoordOf, LaneOf, IsWhole, IsNext, Takes, IsIdle, IsFresh, IsRoomed, AllRoomed, OthersRoomed, IsSameButRoom, HasGrown, KeepsOthers, no_lane, lane_at, with_lane, begun, turned, lane_kept, kept_of, ahead_in, ahead_of}
+use Rattle.coord_core.specs.Lanes.{CoordOf, LaneOf, IsWhole, IsNext, Takes, AllRoomed, OthersRoomed, no_lane, lane_at, with_lane, begun, turned, lane_kept, kept_of, ahead_in, ahead_of}
 use Rattle.coord_core.proofs.Rooms.{place_in, room_set, all_others}
 use Rattle.coord_log.specs.Inside.{largest, HasPlace}
 

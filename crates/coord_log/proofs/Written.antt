@@ -1,15 +1,14 @@
 -- What a write leaves of a coordinator's parts.
-use Rattle.std.proofs.Common.{◌≡◌, ℕ, ◌+◌, ◌-◌, ◌≤◌, List, [], ◌∷◌, ◌++◌, length, reverse, refl, ap, sym, ◌∙◌, subst, arith, Some, None, Option, Result, Err}
+use Rattle.std.proofs.Common.{◌≡◌, ℕ, ◌+◌, ◌≤◌, List, [], ◌∷◌, ◌++◌, length, reverse, refl, ap, sym, ◌∙◌, subst, arith, Some, None, Option, Result, Err}
 use Rattle.std.specs.Prelude.{MatchOption, IfSome, IsOkUnless, sum_by}
 use Rattle.std.proofs.lemmas.Bool.{le-ltb}
-use Rattle.std.proofs.lemmas.List.{reverse-append, reverse-reverse}
+use Rattle.std.proofs.lemmas.List.{reverse-append}
 use Rattle.std.proofs.lemmas.List.Sums.{sum_by-cons}
 use Rattle.outside.specs.Counts.{Rose}
 use Rattle.outside.specs.declared.disk.Disk.{Ghosts}
 use Rattle.gate_journal.specs.Shown.{disk_of, gate_of, broken_of}
 use Rattle.gate_journal.specs.Appending.{refusal}
 use Rattle.gate_journal.specs.declared.faults.AppendFault.{AppendFault}
-use Rattle.gate_journal.specs.Rows.{OpensWithOrWithout}
 use Rattle.cbdc_types.specs.Limits.{IsWithinLimits}
 use Rattle.cbdc_model.specs.Records.{Header, Record}
 use Rattle.cbdc_model.specs.Grammar.{IsInGrammar}
@@ -19,15 +18,12 @@ use Rattle.cbdc_model.specs.Room.{size_of, need_of}
 use Rattle.cbdc_model.specs.Sights.{HasRisen, IsBrokenSince}
 use Rattle.record_log.specs.Bodies.{body_of}
 use Rattle.record_log.proofs.LogSizes.{size_is}
-use Rattle.record_log.specs.Held.{bodies_of, OpensToEither}
-use Rattle.record_log.specs.Logs.{HoldsAll, HasRoom}
+use Rattle.record_log.specs.Logs.{HasRoom}
 use Rattle.record_log.specs.declared.log.LogFault.{LogFault}
 use Rattle.record_log.specs.declared.log.LogFault.TheVariants.{DiskFault}
 use Rattle.record_log.specs.declared.log.RecordLog.{RecordLog}
 use Rattle.coord_core.specs.Lanes.{CoordOf, Takes, ahead_of}
 use Rattle.coord_core.specs.Stands.{StandsFor}
-use Rattle.node_journal.specs.Nodes.{HoldsJournal}
-use Rattle.node_journal.specs.Shown.{shown}
 use Rattle.coord_log.specs.Inside.{largest, HasPlace, IsSound, IsDue}
 use Rattle.coord_core.proofs.Journals.{follows_next}
 use Rattle.node_journal.proofs.Journals.{goes_on}

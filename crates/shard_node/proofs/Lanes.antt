@@ -1,11 +1,8 @@
 -- What a shard's record changes of the lanes' slots.
-use Rattle.std.proofs.Common.{◌≡◌, ◌≢◌, ℕ, ◌+◌, ◌*◌, ◌≤◌, Bool, true, false, ◌==◌, List, [], ◌∷◌, length, All, refl, sym, ◌∙◌, ap, ap₂, arith}
+use Rattle.std.proofs.Common.{◌≡◌, ◌≢◌, ℕ, ◌+◌, ◌≤◌, Bool, true, false, ◌==◌, List, ◌∷◌, length, refl, sym, ◌∙◌, ap, ap₂, arith}
 use Rattle.std.proofs.lemmas.Bool.Decides.{nat_tests}
-use Rattle.std.proofs.lemmas.List.Elements.{All-head, All-tail}
-use Rattle.cbdc_types.specs.Limits.{IsWithinLimits}
-use Rattle.cbdc_model.specs.Records.{Header, Batch, Answered, Record, lock_of, txs_of, same_batch, Genesis, Lock, Finish, Forget, Start, Prepare, Commit, Discard, Done}
-use Rattle.cbdc_model.specs.Slots.{Phase, Slot, slot, Idle, InLock, InFinish, InPrepare, InCommit, InDiscard}
-use Rattle.cbdc_model.specs.Grammar.{IsInGrammar}
+use Rattle.cbdc_model.specs.Records.{Batch, Answered, Record, lock_of, txs_of, Lock, Finish, Forget}
+use Rattle.cbdc_model.specs.Slots.{Slot, slot, Idle, InLock, InFinish}
 use Rattle.cbdc_model.specs.Room.{lane_room, room_in}
 use Rattle.cbdc_model.specs.Due.{open_batch}
 

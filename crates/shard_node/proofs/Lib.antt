@@ -7,4 +7,3 @@ pub mod Stamps
 pub mod Locks
 pub mod Opens
 pub mod Later
-pub mod Stops

@@ -11,14 +11,13 @@ use Rattle.cbdc_model.specs.Room.{kept_room}
 use Rattle.cbdc_model.specs.Due.{used_of, open_batch}
 use Rattle.cbdc_model.specs.Sights.{IsBrokenSince}
 use Rattle.outside.specs.declared.disk.Disk.{Ghosts}
-use Rattle.gate_journal.specs.Shown.{disk_of, gate_of, broken_of}
+use Rattle.gate_journal.specs.Shown.{disk_of}
 use Rattle.record_log.specs.declared.log.RecordLog.{RecordLog}
 use Rattle.record_log.specs.Logs.{HasRoom, IsUntouched}
 use Rattle.shard_core.specs.declared.core_state.ShardCore.{ShardCore}
 use Rattle.shard_core.specs.Stands.{Stands}
 use Rattle.node_journal.proofs.Journals.{in_grammar}
 use Rattle.node_journal.proofs.Kept.{lock_few, kept_small}
-use Rattle.shard_node.specs.declared.parts.Parts.{Parts}
 use Rattle.shard_node.specs.Parts.{HaveDecisions, IsShardOf, IsShardOpened}
 
 all_at : {X : Type 0} (P : X → Type 0) (xs : List X) (i : ℕ) (x : X) → slice_get xs i ≡ Some x → All P xs → P x

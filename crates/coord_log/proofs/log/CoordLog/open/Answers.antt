@@ -1,5 +1,4 @@
 use Rattle.std.proofs.Common.{sym, ◌∙◌, subst}
-use Rattle.coord_core.specs.Lanes.{ahead_of}
 use Rattle.record_log.specs.Logs.{HasRoom}
 use Rattle.std.proofs.Common.{ℕ}
 use Rattle.node_journal.specs.Nodes.{NodeOf, HoldsJournal}
