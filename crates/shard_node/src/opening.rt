@@ -51,7 +51,9 @@ fn memory_ahead<D: Disk>(
     let need = opened.core.kept_room();
     let shape = opened.log.header.shape;
     let decisions = memory_of(alloc, shape.lane_count(), shape.batch())?;
-    opened.log.reserve((need / LEAST + 1) as usize, LARGEST_FINISH)?;
+    opened
+        .log
+        .reserve((need / LEAST + 1) as usize, LARGEST_FINISH)?;
     Ok(decisions)
 }
 

@@ -7,7 +7,6 @@ use Rattle.record_log.proofs.LogSizes.{limits_of}
 use Rattle.node_journal.proofs.Journals.{sum_reversed}
 use Rattle.node_journal.proofs.Leaving.{to_journal}
 use Rattle.node_journal.proofs.opening.open_node.Goals as goal
-
 use Rattle.std.proofs.Common.{None}
 use Rattle.cbdc_types.specs.declared.calls.NodeOpenFault.TheVariants.{DiskFault}
 
