@@ -20,8 +20,9 @@ use Rattle.coord_core.specs.Stands.{StandsFor}
 use Rattle.node_journal.specs.Nodes.{NodeOf, sight, broken_behind}
 use Rattle.node_journal.specs.Shown.{shown}
 use Rattle.coord_log.specs.Inside.{largest, IsReady, StandsOn, IsDue}
-use Rattle.coord_log.proofs.Journals.{SlotFacts, slot_facts}
-use Rattle.coord_log.proofs.Places.{discard_place, done_place, all_others, next_fits, next_ahead}
+use Rattle.coord_core.proofs.Rooms.{all_others}
+use Rattle.coord_core.proofs.Journals.{SlotFacts, slot_facts}
+use Rattle.coord_log.proofs.Places.{discard_place, done_place, next_fits, next_ahead}
 
 -- the record was written, or the disk failed at it
 pub meets_ok : {A : Type 0} (memory : Bool) (due : Due A) (a : A) (r : Record) (old new : Sight) (J : List Record) → due ≡ Writes a r → Appends old new J r → Meets memory due old new J (Ok a)

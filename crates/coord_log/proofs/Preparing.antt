@@ -23,11 +23,11 @@ use Rattle.coord_core.specs.Hashes.{AreHashed}
 use Rattle.coord_core.specs.Lanes.{CoordOf, IsWhole, IsOwn, IsNext, IsSameButRoom, HasGrown, no_lane, lane_at, kept_of, ahead_of, next_batch}
 use Rattle.coord_core.specs.Stands.{StandsFor}
 use Rattle.coord_log.specs.Logs.{IsShort}
-use Rattle.node_journal.specs.Shown.{shown}
 use Rattle.coord_log.specs.Inside.{largest, IsReady, StandsOn, IsSound, IsDue, IsNoRoom}
-use Rattle.coord_log.proofs.Going.{stands_same}
-use Rattle.coord_log.proofs.Places.{prepare_place, rooms_grow, fewer}
-use Rattle.coord_log.proofs.Kept.{kept_is}
+use Rattle.coord_core.proofs.Rooms.{rooms_grow}
+use Rattle.coord_core.proofs.Same.{stands_same}
+use Rattle.coord_log.proofs.Places.{prepare_place, fewer}
+use Rattle.coord_core.proofs.Kept.{kept_is}
 use Rattle.coord_log.proofs.Owed.{in_time}
 
 -- more room, and nothing else

@@ -16,11 +16,12 @@ pub record IsJournalOf (Is : Header → Type 0) (h : Header) (J : List Record) (
   pub journal : IsJournal h J
   pub kind : Is h
 
--- why a first record begins no journal of the kind
-abbrev pub IsUnbegun : (Record → Type 0) → Record → NodeOpenFault → Type 0
-IsUnbegun IsOther r OtherKind = IsOther r
-IsUnbegun IsOther r Memory = Unit {0}
-IsUnbegun IsOther r other = ⊥
+-- a core, which has a header and stands for journals, is that of this journal of a node of the kind
+pub record IsPlayed {C : Type 0} (header_of : C → Header) (StandsFor : C → List Record → Type 0) (Is : Header → Type 0) (h : Header) (core : C) (J : List Record) : Type 0 where
+  pub header : header_of core ≡ h
+  pub stands : StandsFor core J
+  pub journal : IsJournal h J
+  pub kind : Is h
 
 -- behind these records stands one that is not next, at this place
 pub record StopsBefore (Is : Header → Type 0) (h : Header) (records : List Record) (at : ℕ) : Type 0 where

@@ -30,11 +30,13 @@ use Rattle.shard_core.proofs.Follow.{answered_same}
 use Rattle.shard_node.specs.declared.parts.Parts.{Parts}
 use Rattle.cbdc_model.specs.Calls.{IsLockCall}
 use Rattle.node_journal.specs.Nodes.{NodeOf, sight}
-use Rattle.node_journal.proofs.Leaving.{shown_same}
 use Rattle.shard_node.specs.Parts.{HaveDecisions, HasRecords, IsShardOf, HasWritten, HasFailed, IsLockOf, journal_of, view_of}
 use Rattle.shard_node.proofs.Lanes.{IsLockedWith, same_room, same_lock, past_lock, own_lock, locked_room, room_idle}
-use Rattle.shard_node.proofs.Rooms.{kept_moves, kept_small}
-use Rattle.shard_node.proofs.Follows.{IsNextLock, lock_appends, lock_after, length_answered, in_grammar}
+use Rattle.shard_node.proofs.Rooms.{kept_moves}
+use Rattle.shard_node.proofs.Follows.{IsNextLock, lock_appends, lock_after, length_answered}
+use Rattle.node_journal.proofs.Journals.{in_grammar}
+use Rattle.node_journal.proofs.Kept.{kept_small}
+use Rattle.node_journal.proofs.Leaving.{shown_same}
 use Rattle.shard_node.proofs.Keeps.{standing, wrote, failed, appends, fails}
 use Rattle.shard_node.proofs.Owed.{lock_writes, lock_full}
 

@@ -1,4 +1,4 @@
-use Rattle.std.proofs.Common.{◌+◌, ◌∷◌, ◌++◌, [], List, Some, Err, refl, ap, ◌∙◌}
+use Rattle.std.proofs.Common.{◌+◌, ◌∷◌, ◌++◌, [], List, Err, refl, ap, ◌∙◌}
 use Rattle.gate_journal.specs.Shown.{gate_of, broken_of}
 use Rattle.cbdc_model.specs.Records.{Record}
 use Rattle.node_journal.proofs.Leaving.{to_journal, from_journal, to_broken, written_between, failed_between}

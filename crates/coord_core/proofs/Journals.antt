@@ -44,11 +44,6 @@ follows_next c J (Done stamp b) stands next =
     let s : slot J b.lane ≡ record { number = b.number; phase = InDiscard } = sym (stands.slots b.lane next.0.0) ∙ next.1 in
     (omega (arith, stands.last, next.0.1), sym next.0.0, ap (λ x. x.phase) s, ap (λ x. x.number) s)
 
--- a journal with a record more
-pub journal_more : (h : Header) (J : List Record) (r : Record) → IsJournal h J → After h J r → IsJournal h (r ∷ J)
-journal_more h [] r j after = absurd j
-journal_more h (q ∷ past) r j after = (after, j)
-
 -- the batch and the phase that a record sets its lane to
 sets_of : Record → Option (Batch × Phase)
 sets_of (Genesis header hs) = None

@@ -1,14 +1,9 @@
--- Going over records from the oldest on.
-use Rattle.std.proofs.Common.{◌≡◌, ℕ, ◌+◌, ◌<◌, List, [], ◌∷◌, length, get_or, take, reverse, ap, ◌∙◌, sym, subst}
-use Rattle.std.proofs.lemmas.List.{take_more, reverse-append}
+-- What a coordinator's lanes stand for where room is made, and their header where a record is taken in.
+use Rattle.std.proofs.Common.{◌≡◌, ℕ, List, ap, ◌∙◌, sym, subst}
 use Rattle.cbdc_model.specs.Records.{Header, Record, txs_of, Genesis, Lock, Finish, Forget, Start, Prepare, Commit, Discard, Done}
 use Rattle.coord_core.specs.Masks.{masks_of}
 use Rattle.coord_core.specs.Lanes.{CoordOf, IsOwn, IsSameButRoom, Takes}
 use Rattle.coord_core.specs.Stands.{StandsFor, batch_of}
-
--- one record more, newest first
-pub went_on : {A : Type 0} (xs : List A) (i : ℕ) (x : A) → i < length xs → x ≡ get_or xs i x → reverse (take (i + 1) xs) ≡ x ∷ reverse (take i xs)
-went_on xs i x lt is = ap reverse (take_more xs i x lt) ∙ reverse-append (take i xs) (get_or xs i x ∷ []) ∙ ap (λ y. y ∷ reverse (take i xs)) (sym is)
 
 -- a record that is taken in leaves the header
 pub takes_header : (c d : CoordOf) (r : Record) → Takes c d r → d.header ≡ c.header
