@@ -3,6 +3,7 @@ use Rattle.std.proofs.Common.{◌≡◌, ◌⊎◌, inl, inr, ℕ, zero, suc, �
 use Rattle.std.specs.Prelude.{slice_get, All}
 use Rattle.std.proofs.lemmas.Option.{slice_get_cases, slice_get-get_or, slice_get_within}
 use Rattle.std.proofs.lemmas.Bool.{ltb-true, ltb-false}
+use Rattle.outside.specs.declared.disk.Disk.{Ghosts}
 use Rattle.cbdc_types.specs.Limits.{IsWithinLimits}
 use Rattle.cbdc_model.specs.Records.{Digest, Shape, Header, Record}
 use Rattle.cbdc_model.specs.History.{header_of}
@@ -35,25 +36,25 @@ pub all_by : {N : Type 0} (P : N → Type 0) (xs : List N) → ((n : ℕ) (x : N
 all_by P xs each k d inside = each k (get_or xs k d) (slice_get-get_or xs k d inside)
 
 -- a node whose disk shows a journal of this ledger is that node, and its disk holds the journal
-record IsThat {D : Type 0} (content : D → Option (List ℕ)) (images : D → List ℕ → Type 0) (x : NodeOf D) (K : Shape) (genesis : Digest) (n : ℕ) (J : List Record) : Type 0 where
+record IsThat {D : Type 0} (device : Ghosts D) (x : NodeOf D) (K : Shape) (genesis : Digest) (n : ℕ) (J : List Record) : Type 0 where
   pub header_is : x.header ≡ header_of K genesis n
   pub journal_is : x.journal ≡ J
-  pub holds : HoldsJournal content images x
+  pub holds : HoldsJournal device.content device.images x
 
-module _ {D : Type 0} (content : D → Option (List ℕ)) (images : D → List ℕ → Type 0) (limit count : D → ℕ) (held : ℕ → Option D) (h : Header) (logs shards : List (NodeOf D))
-    (are : AreOpened content images limit count held h logs shards)
-    (K : Shape) (genesis : Digest) (J : ℕ → List Record) (within : IsWithinLimits K) (shows : Shows content held K genesis J) where
-  node_that : (Is : Header → Type 0) (n : ℕ) (x : NodeOf D) → IsNodeAt content images limit count held Is h n x → n < node_count K → IsThat content images x K genesis n (J n)
+module _ {D : Type 0} (device : Ghosts D) (held : ℕ → Option D) (h : Header) (logs shards : List (NodeOf D))
+    (are : AreOpened device held h logs shards)
+    (K : Shape) (genesis : Digest) (J : ℕ → List Record) (within : IsWithinLimits K) (shows : Shows device held K genesis J) where
+  node_that : (Is : Header → Type 0) (n : ℕ) (x : NodeOf D) → IsNodeAt device held Is h n x → n < node_count K → IsThat device x K genesis n (J n)
   node_that Is n x is low =
       let s = shows n low in
       let found = (is.opened s.0 s.1).stands s.2.0 s.2.1 in
       let once = opens_once_law x.header (header_of K genesis n) x.journal (J n) s.2.0 found.0.limits within is.journal s.2.2.journal found.0.opens s.2.2.opens in
       record { header_is = once.0; journal_is = once.1; holds = found.1 }
 
-  log_that : (n : ℕ) (l : NodeOf D) → slice_get logs n ≡ Some l → n < node_count K → IsThat content images l K genesis n (J n)
+  log_that : (n : ℕ) (l : NodeOf D) → slice_get logs n ≡ Some l → n < node_count K → IsThat device l K genesis n (J n)
   log_that n l there low = node_that IsCoord n l (are.logs_at n l there) low
 
-  shard_that : (s : ℕ) (x : NodeOf D) → slice_get shards s ≡ Some x → h.shape.coordinators + s < node_count K → IsThat content images x K genesis (h.shape.coordinators + s) (J (h.shape.coordinators + s))
+  shard_that : (s : ℕ) (x : NodeOf D) → slice_get shards s ≡ Some x → h.shape.coordinators + s < node_count K → IsThat device x K genesis (h.shape.coordinators + s) (J (h.shape.coordinators + s))
   shard_that s x there low = node_that IsShardHeader (h.shape.coordinators + s) x (are.shards_at s x there) low
 
   lead : (l : NodeOf D) × (slice_get logs 0 ≡ Some l)
@@ -108,10 +109,10 @@ module _ {D : Type 0} (content : D → Option (List ℕ)) (images : D → List �
               let past : node_count K ≤ n = ltb-false n (node_count K) u in
               past_end sight shards (n - K.coordinators) (omega (arith, shards_count, past)) ∙ sym (beyond n past)
 
-  pub logs_held : All (HoldsJournal content images) logs
-  logs_held = all_by (HoldsJournal content images) logs (λ n l there. (log_that n l there (omega (arith, coordinators_are, slice_get_within logs n l there))).holds)
+  pub logs_held : All (HoldsJournal device.content device.images) logs
+  logs_held = all_by (HoldsJournal device.content device.images) logs (λ n l there. (log_that n l there (omega (arith, coordinators_are, slice_get_within logs n l there))).holds)
 
-  pub shards_held : All (HoldsJournal content images) shards
-  shards_held = all_by (HoldsJournal content images) shards (λ s x there.
+  pub shards_held : All (HoldsJournal device.content device.images) shards
+  shards_held = all_by (HoldsJournal device.content device.images) shards (λ s x there.
       let e : h.shape.coordinators ≡ K.coordinators = ap (λ k. k.coordinators) same_shape in
       (shard_that s x there (omega (arith, shards_count, e, slice_get_within shards s x there))).holds)

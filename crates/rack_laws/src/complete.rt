@@ -24,16 +24,16 @@ pub fn node_opens_law()
 /// of its records is caused.
 pub fn ledger_opens_law<R: Rack>(old: &R, new: &R)
     ensures opens { (K : Shape) (mint : List Output) (submissions : List FullTx) (E : ℕ → List Record) (answer : Told)
-        → ShowsKept R.Disk.content (R.held old.now) K mint submissions E → HasKeptRoom K E (λ n. limit_at R.Disk.limit (R.held old.now n))
+        → ShowsKept R.Disk.Disk (R.held old.now) K mint submissions E → HasKeptRoom K E (λ n. limit_at R.Disk.Disk (R.held old.now n))
         → NoneRises K (R.count old.now) (R.count new.now)
-        → IsUnopened R.Disk.content R.Disk.images R.Disk.limit R.Disk.count (R.held old.now) (R.count old.now) (R.count new.now) answer → answer ≡ Memory }
+        → IsUnopened R.Disk.Disk (R.held old.now) (R.count old.now) (R.count new.now) answer → answer ≡ Memory }
     ensures minted { (K : Shape) (mint : List Output) (submissions : List FullTx) (E : ℕ → List Record) (answer : Told)
-        → ShowsKept R.Disk.content (R.held old.now) K mint submissions E → HasKeptRoom K E (λ n. limit_at R.Disk.limit (R.held old.now n))
+        → ShowsKept R.Disk.Disk (R.held old.now) K mint submissions E → HasKeptRoom K E (λ n. limit_at R.Disk.Disk (R.held old.now n))
         → NoneRises K (R.count old.now) (R.count new.now)
-        → IsUnopenedBy R.Disk.content R.Disk.images R.Disk.limit R.Disk.count (R.held old.now) (R.count old.now) (R.count new.now) (Some (genesis_id mint)) answer → answer ≡ Memory }
+        → IsUnopenedBy R.Disk.Disk (R.held old.now) (R.count old.now) (R.count new.now) (Some (genesis_id mint)) answer → answer ≡ Memory }
     ensures caused { (K : Shape) (mint : List Output) (submissions : List FullTx) (E : ℕ → List Record) (answer : Told)
-        → ShowsKept R.Disk.content (R.held old.now) K mint submissions E
-        → IsUnsound R.Disk.content R.Disk.images R.Disk.limit R.Disk.count (R.held old.now) answer → ⊥ }
+        → ShowsKept R.Disk.Disk (R.held old.now) K mint submissions E
+        → IsUnsound R.Disk.Disk (R.held old.now) answer → ⊥ }
 {}
 
 /// A new ledger has room and stamps for small transactions, by so many bytes for each.

@@ -2,6 +2,7 @@
 use Rattle.std.proofs.Common.{◌≡◌, ◌+◌, ◌∙◌, ℕ, List, length, reverse, Option, Result, Ok, Err, sym, ap, subst, arith}
 use Rattle.std.specs.Prelude.{IfOk}
 use Rattle.std.proofs.lemmas.List.{reverse-reverse}
+use Rattle.outside.specs.declared.disk.Disk.{Ghosts}
 use Rattle.cbdc_model.specs.Records.{Digest, Shape, Header, Record, Row, journal}
 use Rattle.cbdc_model.specs.Coins.{Output, FullTx, genesis_id}
 use Rattle.node_journal.specs.Nodes.{NodeOf}
@@ -21,28 +22,28 @@ use Rattle.rack_ledgers.proofs.CausedOnce.{same_shape, same_rows}
 use Rattle.rack_ledgers.specs.Audited.{HasVerdict, IsAudited, HistoryHasRoom, HistoryIsHeld}
 use Rattle.rack_ledgers.specs.AccountLaws.{HasOneVerdict, VerdictsAccount}
 
-module _ {D : Type 0} (content : D → Option (List ℕ)) (images : D → List ℕ → Type 0) (limit count : D → ℕ) (held : ℕ → Option D) (h : Header) (logs : List (NodeOf D)) (shards : List (NodeOf D))
-    (are : AreOpened content images limit count held h logs shards) (mint : List Output) (minted : h.genesis ≡ genesis_id mint) (handed : List FullTx) where
-  pub is_audited : (v : Verdict) → HasVerdict h.shape (journals_of logs shards) mint handed v → IsAudited content held mint handed v
+module _ {D : Type 0} (device : Ghosts D) (held : ℕ → Option D) (h : Header) (logs : List (NodeOf D)) (shards : List (NodeOf D))
+    (are : AreOpened device held h logs shards) (mint : List Output) (minted : h.genesis ≡ genesis_id mint) (handed : List FullTx) where
+  pub is_audited : (v : Verdict) → HasVerdict h.shape (journals_of logs shards) mint handed v → IsAudited device held mint handed v
   is_audited v has = record {
     shape = h.shape;
     rows = has.rows;
-    history = subst (λ (g : Digest). IsToldHistory content held h.shape g has.rows) minted (told_history content images limit count held h logs shards are has.rows has.merged);
+    history = subst (λ (g : Digest). IsToldHistory device held h.shape g has.rows) minted (told_history device held h logs shards are has.rows has.merged);
     is = has.is;
   }
 
   pub audited_room : (now : ℕ → Option D) → ByPlace (λ n l. OfTold (now n) (λ d. d ≡ l.disk)) logs → ByPlace (λ s x. OfTold (now (length logs + s)) (λ d. d ≡ x.disk)) shards
       → (v : Verdict) → HasVerdict h.shape (journals_of logs shards) mint handed v
-      → (was : IsAudited content held mint handed v) × HistoryHasRoom limit held was.shape was.rows × HistoryIsHeld content images held now was.shape (genesis_id mint) was.rows
+      → (was : IsAudited device held mint handed v) × HistoryHasRoom device held was.shape was.rows × HistoryIsHeld device held now was.shape (genesis_id mint) was.rows
   unfolding is_audited
   audited_room now closed_logs closed_shards v has =
       let logs_own = log_journal logs shards has.rows has.merged in
       let shards_own = shard_journal logs shards has.rows has.merged in
       let J : ℕ → List Record = λ n. journal n (reverse has.rows) in (
         is_audited v has,
-        each_room content images limit count held h logs shards are J logs_own shards_own,
-        subst (λ (g : Digest). HistoryIsHeld content images held now h.shape g has.rows) minted
-            (each_holds content images limit count held h logs shards are J logs_own shards_own now closed_logs closed_shards),
+        each_room device held h logs shards are J logs_own shards_own,
+        subst (λ (g : Digest). HistoryIsHeld device held now h.shape g has.rows) minted
+            (each_holds device held h logs shards are J logs_own shards_own now closed_logs closed_shards),
       )
 
 -- what the walk over the history says
@@ -51,15 +52,15 @@ pub has_verdict : {E : Type 0} (K : Shape) (all js : List (List Record)) (h : Li
 has_verdict K all js h mint handed merged (Ok v) is = record { rows = rows_at all h; merged = merged; is = is }
 has_verdict K all js h mint handed merged (Err e) is = tt
 
-module _ {D : Type 0} (content : D → Option (List ℕ)) (held : ℕ → Option D) where
+module _ {D : Type 0} (device : Ghosts D) (held : ℕ → Option D) where
   -- disks that tell have one history, and so one verdict
-  pub has_one_verdict : HasOneVerdict content held
+  pub has_one_verdict : HasOneVerdict device held
   has_one_verdict mint handed v w one other tell =
-      let shape : one.shape ≡ other.shape = same_shape content held one.shape other.shape _ _ one.rows other.rows one.history other.history tell in
-      let rows : one.rows ≡ other.rows = sym (reverse-reverse one.rows) ∙ ap reverse (same_rows content held one.shape other.shape _ _ one.rows other.rows one.history other.history tell) ∙ reverse-reverse other.rows in
+      let shape : one.shape ≡ other.shape = same_shape device held one.shape other.shape _ _ one.rows other.rows one.history other.history tell in
+      let rows : one.rows ≡ other.rows = sym (reverse-reverse one.rows) ∙ ap reverse (same_rows device held one.shape other.shape _ _ one.rows other.rows one.history other.history tell) ∙ reverse-reverse other.rows in
       one_verdict other.shape mint handed other.rows v w (subst (λ K. IsVerdict K mint handed other.rows v) shape (subst (λ (r : List Row). IsVerdict one.shape mint handed r v) rows one.is)) other.is
 
-  pub verdicts_account : VerdictsAccount content held
+  pub verdicts_account : VerdictsAccount device held
   verdicts_account mint handed (Unsound place kind) is = tt
   verdicts_account mint handed (Sound totals) is =
       let history = is.history in

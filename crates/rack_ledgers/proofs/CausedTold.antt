@@ -2,6 +2,7 @@
 use Rattle.std.proofs.Common.{◌≡◌, ◌≤◌, ◌+◌, ◌-◌, [], ℕ, List, length, map, reverse, Option, Some, refl, sym, ◌∙◌, ap, arith}
 use Rattle.std.specs.Prelude.{slice_get}
 use Rattle.std.proofs.lemmas.List.{reverse-reverse}
+use Rattle.outside.specs.declared.disk.Disk.{Ghosts}
 use Rattle.cbdc_model.specs.Records.{Header, Record, Row, journal}
 use Rattle.node_journal.specs.Nodes.{NodeOf}
 use Rattle.rack_ledgers.specs.Ledgers.{AreOpened}
@@ -32,25 +33,25 @@ module _ {D : Type 0} (logs : List (NodeOf D)) (shards : List (NodeOf D)) (rows 
       merged.history.journals_are n
       ∙ ap reverse (back_item (λ (x : NodeOf D). reverse x.journal) shard_journals [] logs n k place ∙ map_past (λ (x : NodeOf D). reverse x.journal) [] shards k (omega (arith, past, place)))
 
-module _ {D : Type 0} (content : D → Option (List ℕ)) (images : D → List ℕ → Type 0) (limit count : D → ℕ) (held : ℕ → Option D) (h : Header) (logs : List (NodeOf D)) (shards : List (NodeOf D))
-    (are : AreOpened content images limit count held h logs shards) (rows : List Row) (merged : AreMerged (journals_of logs shards) rows) where
+module _ {D : Type 0} (device : Ghosts D) (held : ℕ → Option D) (h : Header) (logs : List (NodeOf D)) (shards : List (NodeOf D))
+    (are : AreOpened device held h logs shards) (rows : List Row) (merged : AreMerged (journals_of logs shards) rows) where
   -- the rows are the history of the ledger that the disks told
-  pub told_history : IsToldHistory content held h.shape h.genesis rows
+  pub told_history : IsToldHistory device held h.shape h.genesis rows
   told_history = record {
     limits = are.limits;
-    journals = each_own content images limit count held h logs shards are (λ n. journal n (reverse rows)) (log_journal logs shards rows merged) (shard_journal logs shards rows merged);
-    opened = each_opens content images limit count held h logs shards are (λ n. journal n (reverse rows)) (log_journal logs shards rows merged) (shard_journal logs shards rows merged);
+    journals = each_own device held h logs shards are (λ n. journal n (reverse rows)) (log_journal logs shards rows merged) (shard_journal logs shards rows merged);
+    opened = each_opens device held h logs shards are (λ n. journal n (reverse rows)) (log_journal logs shards rows merged) (shard_journal logs shards rows merged);
     others = λ n past. no_journal logs shards rows merged n (omega (arith, past, are.coordinators, are.shards_are));
     ordered = merged.history.ordered;
   }
 
-module _ {D : Type 0} (content : D → Option (List ℕ)) (images : D → List ℕ → Type 0) (limit count : D → ℕ) (held : ℕ → Option D) (h : Header) (logs : List (NodeOf D)) (shards : List (NodeOf D)) where
+module _ {D : Type 0} (device : Ghosts D) (held : ℕ → Option D) (h : Header) (logs : List (NodeOf D)) (shards : List (NodeOf D)) where
   -- opened nodes whose history is caused are a ledger that the disks told
-  pub caused_ledger : AreOpened content images limit count held h logs shards → AreCaused h.shape (journals_of logs shards) → IsCausedLedger content held
+  pub caused_ledger : AreOpened device held h logs shards → AreCaused h.shape (journals_of logs shards) → IsCausedLedger device held
   caused_ledger are is = record {
     shape = h.shape;
     genesis = h.genesis;
     rows = is.rows;
-    history = told_history content images limit count held h logs shards are is.rows is.merged;
+    history = told_history device held h logs shards are is.rows is.merged;
     caused = is.caused;
   }

@@ -2,6 +2,7 @@
 use Rattle.std.proofs.Common.{◌≡◌, ◌<◌, ◌+◌, ◌-◌, ℕ, List, length, Option, subst, arith, inl, inr}
 use Rattle.std.proofs.lemmas.Bool.{cases_lt}
 use Rattle.std.proofs.lemmas.Option.{slice_get_cases}
+use Rattle.outside.specs.declared.disk.Disk.{Ghosts}
 use Rattle.cbdc_model.specs.Records.{Header}
 use Rattle.node_journal.specs.Nodes.{NodeOf}
 use Rattle.coord_log.specs.Opening.{IsCoord}
@@ -10,9 +11,9 @@ use Rattle.rack_ledgers.specs.Refused.{IsAny}
 use Rattle.rack_ledgers.specs.Ledgers.{ByPlace, IsNodeAt, AreOpened}
 use Rattle.rack_ledgers.proofs.Refusals.{of_any}
 
-module _ {D : Type 0} (content : D → Option (List ℕ)) (images : D → List ℕ → Type 0) (limit count : D → ℕ) (held : ℕ → Option D) (h : Header) where
+module _ {D : Type 0} (device : Ghosts D) (held : ℕ → Option D) (h : Header) where
   -- a node of a kind is one of either kind
-  pub any_at : (Is : Header → Type 0) (n : ℕ) (x : NodeOf D) → IsNodeAt content images limit count held Is h n x → IsNodeAt content images limit count held IsAny h n x
+  pub any_at : (Is : Header → Type 0) (n : ℕ) (x : NodeOf D) → IsNodeAt device held Is h n x → IsNodeAt device held IsAny h n x
   any_at Is n x is = record {
     header = is.header;
     journal = is.journal;
@@ -32,8 +33,8 @@ module _ {D : Type 0} (content : D → Option (List ℕ)) (images : D → List �
   }
 
   -- what holds of each node, and of what is known of all
-  pub each_node : (logs shards : List (NodeOf D)) → AreOpened content images limit count held h logs shards → (Q : ℕ → NodeOf D → Type 0) (P : ℕ → Type 0)
-      → ((n : ℕ) (x : NodeOf D) → IsNodeAt content images limit count held IsAny h n x → Q n x → P n)
+  pub each_node : (logs shards : List (NodeOf D)) → AreOpened device held h logs shards → (Q : ℕ → NodeOf D → Type 0) (P : ℕ → Type 0)
+      → ((n : ℕ) (x : NodeOf D) → IsNodeAt device held IsAny h n x → Q n x → P n)
       → ByPlace Q logs → ByPlace (λ s x. Q (length logs + s) x) shards → (n : ℕ) → n < h.shape.coordinators + h.shape.shards → P n
   each_node logs shards are Q P step of_logs of_shards n inside = elim (cases_lt n h.shape.coordinators) [
     | inl low ↦ elim ((slice_get_cases logs n).1) [

@@ -73,9 +73,9 @@ impl<D: Disk> OnDisk<D> for CoordLog<D> {
 
     ghost disk_of = { λ n. n.disk };
 
-    ghost opens = { λ n c. StandsNode D.content D.images IsCoord n c };
+    ghost opens = { λ n c. StandsNode D.Disk IsCoord n c };
 
-    ghost fits = { λ node ledger n. FitsNode D.limit D.count IsCoord node ledger n };
+    ghost fits = { λ node ledger n. FitsNode D.Disk IsCoord node ledger n };
 
     ghost refused = { λ node ledger limit c e. IsNoNode IsCoord node ledger limit c e };
 
@@ -120,9 +120,9 @@ impl<D: Disk> OnDisk<D> for ShardNode<D> {
 
     ghost disk_of = { λ n. n.disk };
 
-    ghost opens = { λ n c. StandsNode D.content D.images IsShardHeader n c };
+    ghost opens = { λ n c. StandsNode D.Disk IsShardHeader n c };
 
-    ghost fits = { λ node ledger n. FitsNode D.limit D.count IsShardHeader node ledger n };
+    ghost fits = { λ node ledger n. FitsNode D.Disk IsShardHeader node ledger n };
 
     ghost refused = { λ node ledger limit c e. IsNoNode IsShardHeader node ledger limit c e };
 

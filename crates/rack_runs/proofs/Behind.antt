@@ -4,6 +4,7 @@ use Rattle.std.specs.Prelude.{slice_get, All, IfSome}
 use Rattle.std.proofs.lemmas.Option.{slice_get_within, slice_get-get_or}
 use Rattle.std.proofs.lemmas.Bool.{ltb-true, ltb-false, cases_lt}
 use Rattle.outside.specs.Counts.{Rose}
+use Rattle.outside.specs.declared.disk.Disk.{Ghosts}
 use Rattle.cbdc_model.specs.Records.{Shape, Header, Record}
 use Rattle.cbdc_model.specs.After.{IsJournal}
 use Rattle.cbdc_model.specs.Room.{kept_room, need_of}
@@ -123,16 +124,16 @@ module _ {D : Type 0} (K : Shape) (logs shards : List (NodeOf D)) where
       go true = quiet.logs_are n
       go false = quiet.shards_are (n - K.coordinators)
 
-module _ {D : Type 0} (content : D → Option (List ℕ)) (images : D → List ℕ → Type 0) (limit count : D → ℕ) where
+module _ {D : Type 0} (device : Ghosts D) where
   -- opened nodes have nothing in flight
-  pub are_quiet : (held : ℕ → Option D) (h : Header) (logs shards : List (NodeOf D)) → AreOpened content images limit count held h logs shards → AreQuiet logs shards
+  pub are_quiet : (held : ℕ → Option D) (h : Header) (logs shards : List (NodeOf D)) → AreOpened device held h logs shards → AreQuiet logs shards
   are_quiet held h logs shards are = record {
     logs_are = none_flies sight logs (λ n l there. (are.logs_at n l there).flight);
     shards_are = none_flies sight shards (λ s x there. (are.shards_at s x there).flight);
   }
 
   -- opened nodes are a ledger's
-  pub is_ledger : (held : ℕ → Option D) (h : Header) (logs shards : List (NodeOf D)) → AreOpened content images limit count held h logs shards → IsLedger h logs shards
+  pub is_ledger : (held : ℕ → Option D) (h : Header) (logs shards : List (NodeOf D)) → AreOpened device held h logs shards → IsLedger h logs shards
   is_ledger held h logs shards are = record {
     limits = are.limits;
     coordinators = are.coordinators;
@@ -147,7 +148,7 @@ module _ {D : Type 0} (content : D → Option (List ℕ)) (images : D → List �
     shard_journals = all_by (λ s. IsJournal s.header s.journal) shards (λ n s there. (are.shards_at n s there).journal);
   }
 
-  module _ (held : ℕ → Option D) (h : Header) (logs now shards after : List (NodeOf D)) (are : AreOpened content images limit count held h logs shards)
+  module _ (held : ℕ → Option D) (h : Header) (logs now shards after : List (NodeOf D)) (are : AreOpened device held h logs shards)
       (g : Header) (shape : g.shape ≡ h.shape) (is : IsLedger g now after) where
     logs_stay : length now ≡ h.shape.coordinators
     logs_stay = is.coordinators ∙ ap (λ k. k.coordinators) shape
@@ -155,28 +156,28 @@ module _ {D : Type 0} (content : D → Option (List ℕ)) (images : D → List �
     shards_stay : length after ≡ h.shape.shards
     shards_stay = is.shards_are ∙ ap (λ k. k.shards) shape
 
-    module _ (later : (n : ℕ) → faults_of h.shape logs shards n ≤ faults_of h.shape now after n) (seen : AreSeen count limit now after) where
+    module _ (later : (n : ℕ) → faults_of h.shape logs shards n ≤ faults_of h.shape now after n) (seen : AreSeen device now after) where
       -- no disk has failed less often, by the node's number
-      not_less : (n : ℕ) (x y : NodeOf D) → x.faults ≡ count x.disk → y.faults ≡ count y.disk → faults_of h.shape logs shards n ≡ x.faults → faults_of h.shape now after n ≡ y.faults
-          → count x.disk ≤ count y.disk
+      not_less : (n : ℕ) (x y : NodeOf D) → x.faults ≡ device.count x.disk → y.faults ≡ device.count y.disk → faults_of h.shape logs shards n ≡ x.faults → faults_of h.shape now after n ≡ y.faults
+          → device.count x.disk ≤ device.count y.disk
       not_less n x y x_is y_is a b = omega (arith, x_is, y_is, a, b, later n)
 
       -- the coordinators' disks may be put back
-      pub logs_return : (can : ℕ → ℕ → Type 0) → EachFrom (MayReturn (λ x. count x.disk) can) 0 logs → EachFrom (MayReturn (λ x. count x.disk) can) 0 now
-      logs_return can each = returns (λ x. count x.disk) can 0 logs now (logs_stay ∙ sym are.coordinators)
+      pub logs_return : (can : ℕ → ℕ → Type 0) → EachFrom (MayReturn (λ x. device.count x.disk) can) 0 logs → EachFrom (MayReturn (λ x. device.count x.disk) can) 0 now
+      logs_return can each = returns (λ x. device.count x.disk) can 0 logs now (logs_stay ∙ sym are.coordinators)
           (λ n x y p q.
           let low : n < h.shape.coordinators = omega (arith, slice_get_within logs n x p, are.coordinators) in
-          not_less n x y (are.logs_at n x p).faults (by_all (IsSeen count limit) now seen.logs_are n y q).faults
+          not_less n x y (are.logs_at n x p).faults (by_all (IsSeen device) now seen.logs_are n y q).faults
           (of_log (λ s. s.faults) h.shape logs shards n x low p) (of_log (λ s. s.faults) h.shape now after n y low q))
           each
 
       -- and the shards'
-      pub shards_return : (can : ℕ → ℕ → Type 0) → EachFrom (MayReturn (λ x. count x.disk) can) (length logs) shards → EachFrom (MayReturn (λ x. count x.disk) can) (length now) after
+      pub shards_return : (can : ℕ → ℕ → Type 0) → EachFrom (MayReturn (λ x. device.count x.disk) can) (length logs) shards → EachFrom (MayReturn (λ x. device.count x.disk) can) (length now) after
       shards_return can each =
-          subst (λ k. EachFrom (MayReturn (λ x. count x.disk) can) k after) (are.coordinators ∙ sym logs_stay)
-          (returns (λ x. count x.disk) can (length logs) shards after (shards_stay ∙ sym are.shards_are)
+          subst (λ k. EachFrom (MayReturn (λ x. device.count x.disk) can) k after) (are.coordinators ∙ sym logs_stay)
+          (returns (λ x. device.count x.disk) can (length logs) shards after (shards_stay ∙ sym are.shards_are)
           (λ s x y p q.
-          not_less (h.shape.coordinators + s) x y (are.shards_at s x p).faults (by_all (IsSeen count limit) after seen.shards_are s y q).faults
+          not_less (h.shape.coordinators + s) x y (are.shards_at s x p).faults (by_all (IsSeen device) after seen.shards_are s y q).faults
           (of_shard (λ s. s.faults) h.shape logs shards s x p) (of_shard (λ s. s.faults) h.shape now after s y q))
           each)
 
@@ -196,100 +197,100 @@ module _ {D : Type 0} (content : D → Option (List ℕ)) (images : D → List �
         (λ s x there. record { back = subst (λ k. OfTold (held (k + s)) (λ d. d ≡ x.disk)) is.coordinators (shards_back s x there); has = by_all P shards shard_has s x there })
 
     -- disks that are back keep the journals, with the record that is in flight at their nodes, or without
-    pub keeps_flights : AreStored content images logs shards
-        → (n : ℕ) → n < node_count h.shape → OfTold (held n) (λ d. (c : List ℕ) → images d c → OpensToEither (reverse (journals_of h.shape logs shards n)) (flights_of h.shape logs shards n) c)
+    pub keeps_flights : AreStored device.content device.images logs shards
+        → (n : ℕ) → n < node_count h.shape → OfTold (held n) (λ d. (c : List ℕ) → device.images d c → OpensToEither (reverse (journals_of h.shape logs shards n)) (flights_of h.shape logs shards n) c)
     keeps_flights stored n inside d told c image =
-        let x = put_back (HoldsJournal content images) stored.logs_are stored.shards_are n inside in
+        let x = put_back (HoldsJournal device.content device.images) stored.logs_are stored.shards_are n inside in
         subst (λ o. OpensToEither (reverse (journals_of h.shape logs shards n)) o c) (sym x.2.flight)
-        (subst (λ J. OpensToEither (reverse J) x.0.flight c) (sym x.2.journal) (x.1.has.each c (subst (λ y. images y c) (x.1.back d told) image)))
+        (subst (λ J. OpensToEither (reverse J) x.0.flight c) (sym x.2.journal) (x.1.has.each c (subst (λ y. device.images y c) (x.1.back d told) image)))
 
-    pub keeps_each : AreStored content images logs shards → KeepsEach images held h.shape (journals_of h.shape logs shards)
+    pub keeps_each : AreStored device.content device.images logs shards → KeepsEach device held h.shape (journals_of h.shape logs shards)
     keeps_each stored n inside = (flights_of h.shape logs shards n, keeps_flights stored n inside)
 
     -- and hold nothing else, where nothing is in flight
-    pub holds_each : AreStored content images logs shards → AreQuiet logs shards → HoldsEach images held h.shape (journals_of h.shape logs shards)
+    pub holds_each : AreStored device.content device.images logs shards → AreQuiet logs shards → HoldsEach device held h.shape (journals_of h.shape logs shards)
     holds_each stored quiet n inside d told c image =
         subst (λ o. OpensToEither (reverse (journals_of h.shape logs shards n)) o c) (none_fly h.shape logs shards quiet n) (keeps_flights stored n inside d told c image)
 
-    module _ (seen : AreSeen count limit logs shards) where
-      seen_back : (n : ℕ) → n < node_count h.shape → (x : NodeOf D) × IsPutBack held (λ x. IsSeen count limit x × (x.header.shape ≡ h.shape)) n x × IsThere h.shape logs shards n x
-      seen_back = node_there h.shape logs shards is.coordinators is.shards_are (IsPutBack held (λ x. IsSeen count limit x × (x.header.shape ≡ h.shape)))
+    module _ (seen : AreSeen device logs shards) where
+      seen_back : (n : ℕ) → n < node_count h.shape → (x : NodeOf D) × IsPutBack held (λ x. IsSeen device x × (x.header.shape ≡ h.shape)) n x × IsThere h.shape logs shards n x
+      seen_back = node_there h.shape logs shards is.coordinators is.shards_are (IsPutBack held (λ x. IsSeen device x × (x.header.shape ≡ h.shape)))
           (λ n l there.
           let low : n < h.shape.coordinators = omega (arith, slice_get_within logs n l there, is.coordinators) in
           record {
             back = logs_back n l there;
-            has = (by_all (IsSeen count limit) logs seen.logs_are n l there, ap (λ s. s.header.shape) (sym (sight_there sight logs n l there)) ∙ ap (λ k. k.shape) (is.log_headers n low));
+            has = (by_all (IsSeen device) logs seen.logs_are n l there, ap (λ s. s.header.shape) (sym (sight_there sight logs n l there)) ∙ ap (λ k. k.shape) (is.log_headers n low));
           })
           (λ s x there.
           let low : s < h.shape.shards = omega (arith, slice_get_within shards s x there, is.shards_are) in
           record {
             back = subst (λ k. OfTold (held (k + s)) (λ d. d ≡ x.disk)) is.coordinators (shards_back s x there);
-            has = (by_all (IsSeen count limit) shards seen.shards_are s x there, ap (λ t. t.header.shape) (sym (sight_there sight shards s x there)) ∙ ap (λ k. k.shape) (is.shard_headers s low));
+            has = (by_all (IsSeen device) shards seen.shards_are s x there, ap (λ t. t.header.shape) (sym (sight_there sight shards s x there)) ∙ ap (λ k. k.shape) (is.shard_headers s low));
           })
 
       -- disks that are back have room for what is kept for their open batches
-      pub rooms_each : HaveRoom limit held h.shape (journals_of h.shape logs shards)
+      pub rooms_each : HaveRoom device held h.shape (journals_of h.shape logs shards)
       rooms_each n inside d told =
           let x = seen_back n inside in
           let s = x.1.has.0 in
           let own : used_of x.0.journal + kept_room h.shape x.0.journal ≤ x.0.capacity = subst (λ k. used_of x.0.journal + kept_room k x.0.journal ≤ x.0.capacity) x.1.has.1 s.room in
-          let size : x.0.capacity ≡ limit d = s.capacity ∙ ap limit (sym (x.1.back d told)) in
-          subst (λ J. used_of J + kept_room h.shape J ≤ limit d) (sym x.2.journal) (subst (λ m. used_of x.0.journal + kept_room h.shape x.0.journal ≤ m) size own)
+          let size : x.0.capacity ≡ device.limit d = s.capacity ∙ ap device.limit (sym (x.1.back d told)) in
+          subst (λ J. used_of J + kept_room h.shape J ≤ device.limit d) (sym x.2.journal) (subst (λ m. used_of x.0.journal + kept_room h.shape x.0.journal ≤ m) size own)
 
       -- and what is in flight had room
       pub fits_each : (n : ℕ) → n < node_count h.shape
-          → OfTold (held n) (λ d. IfSome (flights_of h.shape logs shards n) (λ r. used_of (journals_of h.shape logs shards n) + need_of h.shape (journals_of h.shape logs shards n) r ≤ limit d))
+          → OfTold (held n) (λ d. IfSome (flights_of h.shape logs shards n) (λ r. used_of (journals_of h.shape logs shards n) + need_of h.shape (journals_of h.shape logs shards n) r ≤ device.limit d))
       fits_each n inside d told =
           let x = seen_back n inside in
           let s = x.1.has.0 in
           let own : IfSome x.0.flight (λ r. used_of x.0.journal + need_of h.shape x.0.journal r ≤ x.0.capacity) =
           subst (λ k. IfSome x.0.flight (λ r. used_of x.0.journal + need_of k x.0.journal r ≤ x.0.capacity)) x.1.has.1 s.fits in
-          let size : x.0.capacity ≡ limit d = s.capacity ∙ ap limit (sym (x.1.back d told)) in
-          subst (λ f. IfSome f (λ r. used_of (journals_of h.shape logs shards n) + need_of h.shape (journals_of h.shape logs shards n) r ≤ limit d)) (sym x.2.flight)
-          (subst (λ J. IfSome x.0.flight (λ r. used_of J + need_of h.shape J r ≤ limit d)) (sym x.2.journal)
+          let size : x.0.capacity ≡ device.limit d = s.capacity ∙ ap device.limit (sym (x.1.back d told)) in
+          subst (λ f. IfSome f (λ r. used_of (journals_of h.shape logs shards n) + need_of h.shape (journals_of h.shape logs shards n) r ≤ device.limit d)) (sym x.2.flight)
+          (subst (λ J. IfSome x.0.flight (λ r. used_of J + need_of h.shape J r ≤ device.limit d)) (sym x.2.journal)
           (subst (λ m. IfSome x.0.flight (λ r. used_of x.0.journal + need_of h.shape x.0.journal r ≤ m)) size own))
 
   -- what all disks told is stored
-  pub told_stored : (held : ℕ → Option D) (h : Header) (logs shards : List (NodeOf D)) → AreOpened content images limit count held h logs shards
-      → ((n : ℕ) → n < node_count h.shape → (d : D) × (held n ≡ Some d) × ((c : List ℕ) × (content d ≡ Some c))) → AreStored content images logs shards
+  pub told_stored : (held : ℕ → Option D) (h : Header) (logs shards : List (NodeOf D)) → AreOpened device held h logs shards
+      → ((n : ℕ) → n < node_count h.shape → (d : D) × (held n ≡ Some d) × ((c : List ℕ) × (device.content d ≡ Some c))) → AreStored device.content device.images logs shards
   told_stored held h logs shards are tells = record {
-    logs_are = all_by (HoldsJournal content images) logs (λ n l there.
+    logs_are = all_by (HoldsJournal device.content device.images) logs (λ n l there.
         let t = tells n (omega (arith, slice_get_within logs n l there, are.coordinators)) in
         (((are.logs_at n l there).opened t.0 t.1).stands t.2.0 t.2.1).1);
-    shards_are = all_by (HoldsJournal content images) shards (λ s x there.
+    shards_are = all_by (HoldsJournal device.content device.images) shards (λ s x there.
         let t = tells (h.shape.coordinators + s) (omega (arith, slice_get_within shards s x there, are.shards_are)) in
         (((are.shards_at s x there).opened t.0 t.1).stands t.2.0 t.2.1).1);
   }
 
   -- a node may hold what its disk may that was told
-  pub may_hold : (held : ℕ → Option D) (h : Header) (logs shards : List (NodeOf D)) → AreOpened content images limit count held h logs shards
-      → (n c : ℕ) → n < node_count h.shape → c ≡ capacity_of h.shape logs shards n → OfTold (held n) (λ d. c ≡ limit d)
+  pub may_hold : (held : ℕ → Option D) (h : Header) (logs shards : List (NodeOf D)) → AreOpened device held h logs shards
+      → (n c : ℕ) → n < node_count h.shape → c ≡ capacity_of h.shape logs shards n → OfTold (held n) (λ d. c ≡ device.limit d)
   may_hold held h logs shards are n c inside is d told =
-      let x = node_there h.shape logs shards are.coordinators are.shards_are (λ k x. OfTold (held k) (λ d. x.capacity ≡ limit d))
+      let x = node_there h.shape logs shards are.coordinators are.shards_are (λ k x. OfTold (held k) (λ d. x.capacity ≡ device.limit d))
       (λ k l there. let own = are.logs_at k l there in λ d told. own.capacity ∙ (own.opened d told).read.room)
       (λ s x there. let own = are.shards_at s x there in λ d told. own.capacity ∙ (own.opened d told).read.room) n inside in
       is ∙ x.2.capacity ∙ x.1 d told
 
   -- a disk that is back behind a run has as much room as the one that was told there
-  pub rooms_same : (held back : ℕ → Option D) (h : Header) (logs now shards after : List (NodeOf D)) → AreOpened content images limit count held h logs shards
-      → (g : Header) → g.shape ≡ h.shape → IsLedger g now after → AreSeen count limit now after
+  pub rooms_same : (held back : ℕ → Option D) (h : Header) (logs now shards after : List (NodeOf D)) → AreOpened device held h logs shards
+      → (g : Header) → g.shape ≡ h.shape → IsLedger g now after → AreSeen device now after
       → ByPlace (λ n l. OfTold (back n) (λ d. d ≡ l.disk)) now → ByPlace (λ s x. OfTold (back (length now + s)) (λ d. d ≡ x.disk)) after
       → ((n : ℕ) → capacity_of h.shape now after n ≡ capacity_of h.shape logs shards n)
-      → (n : ℕ) → n < node_count h.shape → SameRoom limit (held n) (back n)
+      → (n : ℕ) → n < node_count h.shape → SameRoom device (held n) (back n)
   rooms_same held back h logs now shards after are g shape is seen logs_back shards_back same n inside was told d is_now =
-      let y = put_back back g now after is logs_back shards_back (IsSeen count limit) seen.logs_are seen.shards_are n (subst (λ k. n < node_count k) (sym shape) inside) in
+      let y = put_back back g now after is logs_back shards_back (IsSeen device) seen.logs_are seen.shards_are n (subst (λ k. n < node_count k) (sym shape) inside) in
       let now_is : capacity_of h.shape now after n ≡ y.0.capacity = ap (λ k. capacity_of k now after n) (sym shape) ∙ y.2.capacity in
-      ap limit (y.1.back d is_now) ∙ sym y.1.has.capacity ∙ sym now_is ∙ same n ∙ may_hold held h logs shards are n (capacity_of h.shape logs shards n) inside refl was told
+      ap device.limit (y.1.back d is_now) ∙ sym y.1.has.capacity ∙ sym now_is ∙ same n ∙ may_hold held h logs shards are n (capacity_of h.shape logs shards n) inside refl was told
 
   -- a count that had not fallen before it rose
   rose_by : (opened faults before behind : ℕ) → HasRisen opened faults → before ≤ opened → faults ≤ behind → Rose before behind
   rose_by opened faults before behind rose earlier later = omega (arith, rose, earlier, later)
 
   -- a disk that has failed since its node was opened has failed since the call began
-  pub have_risen : (held : ℕ → Option D) (h : Header) (logs now shards after : List (NodeOf D)) → AreOpened content images limit count held h logs shards
-      → (g : Header) → g.shape ≡ h.shape → IsLedger g now after → AreSeen count limit now after → (before behind : ℕ → ℕ)
-      → ByPlace (λ n l. before n ≤ count l.disk) logs → ByPlace (λ s x. before (h.shape.coordinators + s) ≤ count x.disk) shards
-      → ByPlace (λ n l. count l.disk ≤ behind n) now → ByPlace (λ s x. count x.disk ≤ behind (length now + s)) after
+  pub have_risen : (held : ℕ → Option D) (h : Header) (logs now shards after : List (NodeOf D)) → AreOpened device held h logs shards
+      → (g : Header) → g.shape ≡ h.shape → IsLedger g now after → AreSeen device now after → (before behind : ℕ → ℕ)
+      → ByPlace (λ n l. before n ≤ device.count l.disk) logs → ByPlace (λ s x. before (h.shape.coordinators + s) ≤ device.count x.disk) shards
+      → ByPlace (λ n l. device.count l.disk ≤ behind n) now → ByPlace (λ s x. device.count x.disk ≤ behind (length now + s)) after
       → (n : ℕ) → n < node_count h.shape → HaveFailed (opened_of h.shape logs shards) (faults_of h.shape now after) n → Rose (before n) (behind n)
   have_risen held h logs now shards after are g shape is seen before behind logs_since shards_since logs_counted shards_counted n inside rose =
       let logs_are : length now ≡ h.shape.coordinators = logs_stay held h logs now shards after are g shape is in
@@ -298,8 +299,8 @@ module _ {D : Type 0} (content : D → Option (List ℕ)) (images : D → List �
       (λ k l there. let own = are.logs_at k l there in subst (λ m. before k ≤ m) (sym (own.since ∙ own.faults)) (logs_since k l there))
       (λ s x there. let own = are.shards_at s x there in subst (λ m. before (h.shape.coordinators + s) ≤ m) (sym (own.since ∙ own.faults)) (shards_since s x there)) n inside in
       let y = node_there h.shape now after logs_are shards_are (λ k y. y.faults ≤ behind k)
-      (λ k l there. subst (λ m. m ≤ behind k) (sym (by_all (IsSeen count limit) now seen.logs_are k l there).faults) (logs_counted k l there))
-      (λ s x there. subst (λ m. m ≤ behind (h.shape.coordinators + s)) (sym (by_all (IsSeen count limit) after seen.shards_are s x there).faults)
-      (subst (λ c. count x.disk ≤ behind (c + s)) logs_are (shards_counted s x there))) n inside in
+      (λ k l there. subst (λ m. m ≤ behind k) (sym (by_all (IsSeen device) now seen.logs_are k l there).faults) (logs_counted k l there))
+      (λ s x there. subst (λ m. m ≤ behind (h.shape.coordinators + s)) (sym (by_all (IsSeen device) after seen.shards_are s x there).faults)
+      (subst (λ c. device.count x.disk ≤ behind (c + s)) logs_are (shards_counted s x there))) n inside in
       rose_by (opened_of h.shape logs shards n) (faults_of h.shape now after n) (before n) (behind n) rose
       (subst (λ m. before n ≤ m) (sym x.2.opened) x.1) (subst (λ m. m ≤ behind n) (sym y.2.faults) y.1)

@@ -1,6 +1,7 @@
 -- Opened nodes whose history is caused are checked.
 use Rattle.std.proofs.Common.{◌≡◌, inl, inr, ℕ, zero, suc, ◌+◌, ◌-◌, ◌<◌, ◌≤◌, false, nat_lt, if◌then◌else◌, List, [], ◌∷◌, length, reverse, refl, sym, ap, ◌∙◌, subst, arith, Option}
 use Rattle.std.proofs.lemmas.Bool.{cases_lt}
+use Rattle.outside.specs.declared.disk.Disk.{Ghosts}
 use Rattle.cbdc_model.specs.Records.{Digest, Shape, Header, Row, journal}
 use Rattle.cbdc_model.specs.After.{IsJournal}
 use Rattle.cbdc_model.specs.History.{Minted, header_of}
@@ -35,8 +36,8 @@ beyond_all see [] n h = refl
 beyond_all see (x ∷ xs) zero h = absurd (omega (arith, h))
 beyond_all see (x ∷ xs) (suc n) h = beyond_all see xs n (omega (arith, h))
 
-module _ {D : Type 0} (content : D → Option (List ℕ)) (images : D → List ℕ → Type 0) (limit count : D → ℕ) (held : ℕ → Option D) (h : Header) (logs shards : List (NodeOf D))
-    (are : AreOpened content images limit count held h logs shards) (caused : AreCaused h.shape (lent_journals logs shards)) where
+module _ {D : Type 0} (device : Ghosts D) (held : ℕ → Option D) (h : Header) (logs shards : List (NodeOf D))
+    (are : AreOpened device held h logs shards) (caused : AreCaused h.shape (lent_journals logs shards)) where
   abbrev History : List Row
   History = reverse caused.rows
 

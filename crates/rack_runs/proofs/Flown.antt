@@ -2,6 +2,7 @@
 use Rattle.std.proofs.Common.{◌≡◌, ℕ, zero, suc, ◌-◌, ◌≤◌, Bool, true, false, nat_lt, if◌then◌else◌, List, [], ◌∷◌, Option, Some, None, refl, sym, ◌∙◌, arith}
 use Rattle.std.specs.Prelude.{All}
 use Rattle.std.proofs.lemmas.List.Elements.{All-head, All-tail, All-weaker}
+use Rattle.outside.specs.declared.disk.Disk.{Ghosts}
 use Rattle.cbdc_model.specs.Records.{Shape, Record}
 use Rattle.cbdc_model.specs.Sights.{Sight, HasRisen, IsBrokenSince}
 use Rattle.node_journal.specs.Nodes.{NodeOf, sight}
@@ -25,12 +26,12 @@ at_places see [] all n r there = absurd (let z : None ≡ Some r = there in cc)
 at_places see (x ∷ xs) all zero r there = All-head (λ y. (q : Record) → (see y).flight ≡ Some q → HasRisen (see y).opened (see y).faults) x xs all r there
 at_places see (x ∷ xs) all (suc n) r there = at_places see xs (All-tail (λ y. (q : Record) → (see y).flight ≡ Some q → HasRisen (see y).opened (see y).faults) x xs all) n r there
 
-pub all_flown : {D : Type 0} (count limit : D → ℕ) (K : Shape) (logs shards : List (NodeOf D)) → AreSeen count limit logs shards
+pub all_flown : {D : Type 0} (device : Ghosts D) (K : Shape) (logs shards : List (NodeOf D)) → AreSeen device logs shards
     → (n : ℕ) (r : Record) → flights_of K logs shards n ≡ Some r → HaveFailed (opened_of K logs shards) (faults_of K logs shards) n
-all_flown count limit K logs shards seen n r there = go (nat_lt n K.coordinators) there
+all_flown device K logs shards seen n r there = go (nat_lt n K.coordinators) there
   where
     go : (b : Bool) → (if b then (sight_at sight logs n).flight else (sight_at sight shards (n - K.coordinators)).flight) ≡ Some r
         → HasRisen (if b then (sight_at sight logs n).opened else (sight_at sight shards (n - K.coordinators)).opened)
         (if b then (sight_at sight logs n).faults else (sight_at sight shards (n - K.coordinators)).faults)
-    go true e = at_places sight logs (All-weaker (IsSeen count limit) FliesBroken (λ x is. is.flown) logs seen.logs_are) n r e
-    go false e = at_places sight shards (All-weaker (IsSeen count limit) FliesBroken (λ x is. is.flown) shards seen.shards_are) (n - K.coordinators) r e
+    go true e = at_places sight logs (All-weaker (IsSeen device) FliesBroken (λ x is. is.flown) logs seen.logs_are) n r e
+    go false e = at_places sight shards (All-weaker (IsSeen device) FliesBroken (λ x is. is.flown) shards seen.shards_are) (n - K.coordinators) r e

@@ -41,6 +41,7 @@ use Rattle.rack_runs.specs.declared.told.Told.{Told}
 use Rattle.rack_runs.specs.Works.{Deed, AllWell, AreSeen, HasEnded}
 use Rattle.rack_runs.proofs.Unspent.{unspent_counted}
 use Rattle.std.specs.Prelude.{map, All, IfSome}
+use Rattle.outside.specs.declared.disk.Disk.{Ghosts}
 
 -- kept journals have nothing beyond the ledger's nodes
 pub beyond : (K : Shape) (mint : List Output) (submissions : List FullTx) (E : ℕ → List Record) → KeptJournals K mint submissions E → (n : ℕ) → node_count K ≤ n → E n ≡ []
@@ -63,14 +64,14 @@ landed_room K mint submissions J flights n now limit inside kept room fits (inr 
 has_room : (K : Shape) (J : List Record) (S : Shape) (capacity limit : ℕ) → S ≡ K → capacity ≡ limit → used_of J + kept_room S J ≤ capacity → used_of J + kept_room K J ≤ limit
 has_room K J S capacity limit shape size room = subst (λ m. used_of J + kept_room K J ≤ m) size (subst (λ k. used_of J + kept_room k J ≤ capacity) shape room)
 
-module _ {D Done : Type 0} (content : D → Option (List ℕ)) (images : D → List ℕ → Type 0) (limit count : D → ℕ) (held back : ℕ → Option D) (h g : Header)
+module _ {D Done : Type 0} (device : Ghosts D) (held back : ℕ → Option D) (h g : Header)
     (logs now : List (NodeOf D)) (shards after : List (NodeOf D)) (deed : Deed Done)
-    (are : AreOpened content images limit count held h logs shards) (is : IsLedger g now after) (shape : g.shape ≡ h.shape)
+    (are : AreOpened device held h logs shards) (is : IsLedger g now after) (shape : g.shape ≡ h.shape)
     (logs_back : ByPlace (λ n l. OfTold (back n) (λ d. d ≡ l.disk)) now) (shards_back : ByPlace (λ s x. OfTold (back (length now + s)) (λ d. d ≡ x.disk)) after)
-    (stored : AreStored content images logs shards → AreStored content images now after) where
+    (stored : AreStored device.content device.images logs shards → AreStored device.content device.images now after) where
   -- what is in flight had room, by journals
   abbrev pub HaveFit : Shape → (ℕ → List Record) → (ℕ → Option Record) → Type 0
-  HaveFit K J F = (n : ℕ) → n < node_count K → OfTold (back n) (λ d. IfSome (F n) (λ r. used_of (J n) + need_of K (J n) r ≤ limit d))
+  HaveFit K J F = (n : ℕ) → n < node_count K → OfTold (back n) (λ d. IfSome (F n) (λ r. used_of (J n) + need_of K (J n) r ≤ device.limit d))
 
   -- what a run says of its journals, by the shape
   abbrev pub KeepsIt : Shape → Type 0
@@ -86,48 +87,48 @@ module _ {D Done : Type 0} (content : D → Option (List ℕ)) (images : D → L
   OrdersIt S = IsInOrder S (journals_of S logs shards) (journals_of S now after)
 
   -- each disk that was told had room for its journal and for what is kept for its open batches
-  pub opened_room : HaveRoom limit held h.shape (journals_of h.shape logs shards)
+  pub opened_room : HaveRoom device held h.shape (journals_of h.shape logs shards)
   opened_room n inside was told =
-      let HasRoom : ℕ → NodeOf D → Type 0 = λ k x. OfTold (held k) (λ was. used_of x.journal + kept_room h.shape x.journal ≤ limit was) in
+      let HasRoom : ℕ → NodeOf D → Type 0 = λ k x. OfTold (held k) (λ was. used_of x.journal + kept_room h.shape x.journal ≤ device.limit was) in
       let x = node_there h.shape logs shards are.coordinators are.shards_are HasRoom
-      (λ k l there. let own = are.logs_at k l there in λ was told. has_room h.shape l.journal l.header.shape l.capacity (limit was) (ap (λ k. k.shape) own.header) (own.capacity ∙ (own.opened was told).read.room) own.room)
-      (λ s x there. let own = are.shards_at s x there in λ was told. has_room h.shape x.journal x.header.shape x.capacity (limit was) (ap (λ k. k.shape) own.header) (own.capacity ∙ (own.opened was told).read.room) own.room)
+      (λ k l there. let own = are.logs_at k l there in λ was told. has_room h.shape l.journal l.header.shape l.capacity (device.limit was) (ap (λ k. k.shape) own.header) (own.capacity ∙ (own.opened was told).read.room) own.room)
+      (λ s x there. let own = are.shards_at s x there in λ was told. has_room h.shape x.journal x.header.shape x.capacity (device.limit was) (ap (λ k. k.shape) own.header) (own.capacity ∙ (own.opened was told).read.room) own.room)
       n inside in
-      subst (λ (J : List Record). used_of J + kept_room h.shape J ≤ limit was) (sym x.2.journal) (x.1 was told)
+      subst (λ (J : List Record). used_of J + kept_room h.shape J ≤ device.limit was) (sym x.2.journal) (x.1 was told)
 
-  module _ (K : Shape) (mint : List Output) (submissions : List FullTx) (E : ℕ → List Record) (within : IsWithinLimits K) (shows : Shows content held K (genesis_id mint) E) (kept : KeptJournals K mint submissions E) where
+  module _ (K : Shape) (mint : List Output) (submissions : List FullTx) (E : ℕ → List Record) (within : IsWithinLimits K) (shows : Shows device held K (genesis_id mint) E) (kept : KeptJournals K mint submissions E) where
     shape_is : h.shape ≡ K
-    shape_is = same_shape content images limit count held h logs shards are K (genesis_id mint) E within shows
+    shape_is = same_shape device held h logs shards are K (genesis_id mint) E within shows
 
     journals_are : journals_of K logs shards ≡ E
-    journals_are = λ i n. same_journals content images limit count held h logs shards are K (genesis_id mint) E within shows (beyond K mint submissions E kept) n i
+    journals_are = λ i n. same_journals device held h logs shards are K (genesis_id mint) E within shows (beyond K mint submissions E kept) n i
 
     kept_there : KeptJournals K mint submissions (journals_of K logs shards)
     kept_there = subst (KeptJournals K mint submissions) (sym journals_are) kept
 
-    is_stored : AreStored content images now after
+    is_stored : AreStored device.content device.images now after
     is_stored = stored (record {
-      logs_are = logs_held content images limit count held h logs shards are K (genesis_id mint) E within shows;
-      shards_are = shards_held content images limit count held h logs shards are K (genesis_id mint) E within shows;
+      logs_are = logs_held device held h logs shards are K (genesis_id mint) E within shows;
+      shards_are = shards_held device held h logs shards are K (genesis_id mint) E within shows;
     })
 
-    disks_keep : KeepsEach images back K (journals_of K now after)
-    disks_keep = subst (λ k. KeepsEach images back k (journals_of k now after)) (shape ∙ shape_is) (keeps_each content images limit count back g now after is logs_back shards_back is_stored)
+    disks_keep : KeepsEach device back K (journals_of K now after)
+    disks_keep = subst (λ k. KeepsEach device back k (journals_of k now after)) (shape ∙ shape_is) (keeps_each device back g now after is logs_back shards_back is_stored)
 
-    disks_hold : AreQuiet now after → HoldsEach images back K (journals_of K now after)
-    disks_hold quiet = subst (λ k. HoldsEach images back k (journals_of k now after)) (shape ∙ shape_is) (holds_each content images limit count back g now after is logs_back shards_back is_stored quiet)
+    disks_hold : AreQuiet now after → HoldsEach device back K (journals_of K now after)
+    disks_hold quiet = subst (λ k. HoldsEach device back k (journals_of k now after)) (shape ∙ shape_is) (holds_each device back g now after is logs_back shards_back is_stored quiet)
 
-    disks_fly : (n : ℕ) → n < node_count K → OfTold (back n) (λ d. (c : List ℕ) → images d c → OpensToEither (reverse (journals_of K now after n)) (flights_of K now after n) c)
-    disks_fly = subst (λ k. (n : ℕ) → n < node_count k → OfTold (back n) (λ d. (c : List ℕ) → images d c → OpensToEither (reverse (journals_of k now after n)) (flights_of k now after n) c))
-        (shape ∙ shape_is) (keeps_flights content images limit count back g now after is logs_back shards_back is_stored)
+    disks_fly : (n : ℕ) → n < node_count K → OfTold (back n) (λ d. (c : List ℕ) → device.images d c → OpensToEither (reverse (journals_of K now after n)) (flights_of K now after n) c)
+    disks_fly = subst (λ k. (n : ℕ) → n < node_count k → OfTold (back n) (λ d. (c : List ℕ) → device.images d c → OpensToEither (reverse (journals_of k now after n)) (flights_of k now after n) c))
+        (shape ∙ shape_is) (keeps_flights device back g now after is logs_back shards_back is_stored)
 
-    rooms_there : AreSeen count limit now after → HaveRoom limit back K (journals_of K now after)
-    rooms_there seen = subst (λ k. HaveRoom limit back k (journals_of k now after)) (shape ∙ shape_is) (rooms_each content images limit count back g now after is logs_back shards_back seen)
+    rooms_there : AreSeen device now after → HaveRoom device back K (journals_of K now after)
+    rooms_there seen = subst (λ k. HaveRoom device back k (journals_of k now after)) (shape ∙ shape_is) (rooms_each device back g now after is logs_back shards_back seen)
 
     -- nothing was in flight at entry
     may_come : FliesIt h.shape → AllMayCome K mint (submissions ++ joined deed.handed) (journals_of K now after) (flights_of K now after)
     may_come flies = subst FliesIt shape_is flies mint submissions kept_there (λ n r there.
-        absurd (let none : flights_of K logs shards n ≡ None = none_fly K logs shards (are_quiet content images limit count held h logs shards are) n in
+        absurd (let none : flights_of K logs shards n ≡ None = none_fly K logs shards (are_quiet device held h logs shards are) n in
         let z : None ≡ Some r = sym none ∙ there in cc))
 
     is_grown : KeepsIt h.shape → IsGrown K mint (submissions ++ joined deed.handed) E (journals_of K now after)
@@ -138,8 +139,8 @@ module _ {D Done : Type 0} (content : D → Option (List ℕ)) (images : D → L
           kept = a.kept;
         }
 
-    has_ended : (told : Told Done) → KeepsIt h.shape → OrdersIt h.shape → AreSeen count limit now after → (AreQuiet logs shards → AreQuiet now after)
-        → WellIt told.resumed.items told.done h.shape → CountAll (map (λ s. s.journal) after) told.unspent → HasEnded images limit back deed told K mint submissions E
+    has_ended : (told : Told Done) → KeepsIt h.shape → OrdersIt h.shape → AreSeen device now after → (AreQuiet logs shards → AreQuiet now after)
+        → WellIt told.resumed.items told.done h.shape → CountAll (map (λ s. s.journal) after) told.unspent → HasEnded device back deed told K mint submissions E
     has_ended told keeps orders seen quiet well counted =
         let grown = is_grown keeps in
         let w : AllWell deed K E (journals_of K now after) told.resumed.items told.done =
@@ -148,43 +149,43 @@ module _ {D Done : Type 0} (content : D → Option (List ℕ)) (images : D → L
           exit = journals_of K now after;
           well = w;
           grown = grown;
-          disks = disks_hold (quiet (are_quiet content images limit count held h logs shards are));
+          disks = disks_hold (quiet (are_quiet device held h logs shards are));
           rooms = rooms_there seen;
           in_order = subst (λ L. IsInOrder K L (journals_of K now after)) journals_are (subst OrdersIt shape_is orders);
           unspent = subst (λ k. IsUnspentCount k (journals_of k now after) told.unspent) (shape ∙ shape_is) (unspent_counted g now after is told.unspent counted);
           headline = λ clean. idle_law K mint (submissions ++ joined deed.handed) (journals_of K now after) within.some_shard within.some_lane clean grown.kept w.well.idle;
         }
 
-  pub ended : (told : Told Done) → KeepsIt h.shape → OrdersIt h.shape → AreSeen count limit now after → (AreQuiet logs shards → AreQuiet now after)
-      → WellIt told.resumed.items told.done h.shape → CountAll (map (λ s. s.journal) after) told.unspent → OfShown content held (HasEnded images limit back deed told)
+  pub ended : (told : Told Done) → KeepsIt h.shape → OrdersIt h.shape → AreSeen device now after → (AreQuiet logs shards → AreQuiet now after)
+      → WellIt told.resumed.items told.done h.shape → CountAll (map (λ s. s.journal) after) told.unspent → OfShown device held (HasEnded device back deed told)
   ended told keeps orders seen quiet well counted K mint submissions E within shows kept = has_ended K mint submissions E within shows kept told keeps orders seen quiet well counted
 
-  pub cut_short : KeepsIt h.shape → FliesIt h.shape → AreSeen count limit now after → OfShown content held (IsCutShort images limit back deed.handed (journals_of h.shape now after))
+  pub cut_short : KeepsIt h.shape → FliesIt h.shape → AreSeen device now after → OfShown device held (IsCutShort device back deed.handed (journals_of h.shape now after))
   cut_short keeps flies seen K mint submissions E within shows kept =
       let grown = is_grown K mint submissions E within shows kept keeps in
       let rooms = rooms_there K mint submissions E within shows kept seen in
       let fits : HaveFit K (journals_of K now after) (flights_of K now after) = subst (λ k. HaveFit k (journals_of k now after) (flights_of k now after)) (shape ∙ shape_is K mint submissions E within shows kept)
-      (fits_each content images limit count back g now after is logs_back shards_back seen) in
-      subst (λ k. IsCutShort images limit back deed.handed (journals_of k now after) K mint submissions E) (sym (shape_is K mint submissions E within shows kept)) (record {
+      (fits_each device back g now after is logs_back shards_back seen) in
+      subst (λ k. IsCutShort device back deed.handed (journals_of k now after) K mint submissions E) (sym (shape_is K mint submissions E within shows kept)) (record {
         grown = grown;
         disks = disks_keep K mint submissions E within shows kept;
         rooms = rooms;
         crashes = λ contents left.
             let came : (X : ℕ → List Record) × OpenTo back K contents X × ((n : ℕ) → IsEnd (journals_of K now after n) (X n)) × KeptJournals K mint (submissions ++ joined deed.handed) X
             × ((n : ℕ) → LandsOrNot K mint (submissions ++ joined deed.handed) (journals_of K now after) (flights_of K now after) n (X n))
-            = crashed images back K mint (submissions ++ joined deed.handed) (journals_of K now after) (flights_of K now after) (may_come K mint submissions E within shows kept flies)
+            = crashed device back K mint (submissions ++ joined deed.handed) (journals_of K now after) (flights_of K now after) (may_come K mint submissions E within shows kept flies)
             (disks_fly K mint submissions E within shows kept) contents left within.some_shard grown.kept in (
               came.0,
               came.1,
               record { grows = λ n. end_trans (E n) (journals_of K now after n) (came.0 n) (grown.grows n) (came.2 n); kept = came.3 },
-              λ n inside d told. landed_room K mint (submissions ++ joined deed.handed) (journals_of K now after) (flights_of K now after) n (came.0 n) (limit d) inside grown.kept (rooms n inside d told) (fits n inside d told) (came.4 n),
+              λ n inside d told. landed_room K mint (submissions ++ joined deed.handed) (journals_of K now after) (flights_of K now after) n (came.0 n) (device.limit d) inside grown.kept (rooms n inside d told) (fits n inside d told) (came.4 n),
             );
       })
 
 -- a run of no files is a recovery
-unfoldable pub recovered : {D : Type 0} (images : D → List ℕ → Type 0) (limit : D → ℕ) (back : ℕ → Option D) (verdicts : VerdictsOf) (K : Shape) (mint : List Output) (submissions : List FullTx) (E : ℕ → List Record)
-    → IsRun images limit back verdicts [] K mint submissions E → IsRecovered images limit back K mint submissions E
-recovered images limit back verdicts K mint submissions E run =
+unfoldable pub recovered : {D : Type 0} (device : Ghosts D) (back : ℕ → Option D) (verdicts : VerdictsOf) (K : Shape) (mint : List Output) (submissions : List FullTx) (E : ℕ → List Record)
+    → IsRun device back verdicts [] K mint submissions E → IsRecovered device back K mint submissions E
+recovered device back verdicts K mint submissions E run =
     let none : submissions ++ [] ≡ submissions = append-nil submissions in
     record {
       exit = run.exit;

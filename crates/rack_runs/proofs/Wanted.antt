@@ -5,6 +5,7 @@ use Rattle.std.specs.List.{filter}
 use Rattle.std.proofs.lemmas.Nat.{div_below}
 use Rattle.std.proofs.lemmas.Bool.{cases_lt}
 use Rattle.std.proofs.lemmas.List.Elements.{All-nil, All-cons, All-head, All-tail, All-take, All-drop, All-map, All-filter, All-weaker}
+use Rattle.outside.specs.declared.disk.Disk.{Ghosts}
 use Rattle.cbdc_types.specs.Limits.{IsWithinLimits}
 use Rattle.cbdc_types.specs.declared.calls.LockCall.{LockCall}
 use Rattle.cbdc_model.specs.Records.{Digest, Shape, Header, Batch, Compact, Record, journal, record_of, last_stamp, stamp_of, Genesis, Lock, Finish, Forget, Start, Prepare, Commit, Discard, Done}
@@ -273,7 +274,7 @@ wants_next K genesis m next E X limits checked were are fits lane node front r l
 
 -- ---- at open nodes
 
-module _ {D : Type 0} (content : D → Option (List ℕ)) (images : D → List ℕ → Type 0) (limit count : D → ℕ) where
+module _ {D : Type 0} (device : Ghosts D) where
   -- each node's journal has its header of the ledger
   node_header : (h : Header) (logs shards : List (NodeOf D)) → IsLedger h logs shards → (n : ℕ) → n < node_count h.shape → IsJournal (header_of h.shape h.genesis n) (journals_of h.shape logs shards n)
   node_header h logs shards is n inside = elim (cases_lt n h.shape.coordinators) [

@@ -1,6 +1,7 @@
 -- What the resuming of a ledger's lanes came to.
 use Rattle.std.specs.Prelude.{◌⊎◌, ℕ, ◌*◌, List, Option, Result, IfOk, IfErr, OnOk}
 use Rattle.std.specs.Global.{Vec}
+use Rattle.outside.specs.declared.disk.Disk.{Ghosts}
 use Rattle.cbdc_model.specs.Lanes.{IsEnd}
 use Rattle.cbdc_model.specs.World.{AreIdle}
 use Rattle.cbdc_model.specs.Waves.{IsResumed}
@@ -14,9 +15,9 @@ use Rattle.ledger_runs.specs.Faults.{TakesInOrder, IsRunCause, AllRestOrWait, Ha
 use Rattle.file_runs.specs.Ledgers.{LedgerOf, journals, flights, faults, opened, capacity, IsChecked, IsQuiet, KeepsLedgerOf}
 
 -- The open batches of a ledger were brought to their end, or a lane met a fault: what the ledger is behind that, and what came of it.
-pub record HasResumed {D : Type 0} (content : D → Option (List ℕ)) (images : D → List ℕ → Type 0) (before now : LedgerOf D)
+pub record HasResumed {D : Type 0} (device : Ghosts D) (before now : LedgerOf D)
     (came : Result (Vec ResumedBatch) LaneFault) : Type 0 where
-  pub keeps_ledger : KeepsLedgerOf content images before now
+  pub keeps_ledger : KeepsLedgerOf device.content device.images before now
   pub idle : OnOk came (AreIdle before.header.shape (journals now))
   pub keeps : OfKept before.header.shape (journals before) (StaysKept before.header.shape (journals before) (journals now))
   pub resumed : OnOk came (OfKept before.header.shape (journals before) (λ _ _. IsResumed before.header.shape (journals before) (journals now)))

@@ -1,5 +1,6 @@
 -- What a command does over a ledger whose open batches are at their end, and what that leaves of the ledger that a rack showed.
 use Rattle.std.specs.Prelude.{◌≡◌, ◌⊎◌, ℕ, ◌+◌, ◌*◌, ◌^◌, ◌<◌, ◌≤◌, List, length, ◌++◌, Option, Result, All, IfOk, IfErr, OnOk}
+use Rattle.outside.specs.declared.disk.Disk.{Ghosts}
 use Rattle.cbdc_types.specs.Limits.{IsWithinLimits}
 use Rattle.cbdc_types.specs.declared.answer.Answer.{Answer}
 use Rattle.cbdc_model.specs.Records.{Shape, Header, Compact, Record}
@@ -83,9 +84,9 @@ pub record EndsBadly {Done : Type 0} (d : Deed Done) (K : Shape) (M X : ℕ → 
   pub ends : d.ends K M X failed may_hold e
 
 -- A work was done over the nodes of a ledger with no open batch: what the ledger is behind it, and what came of it.
-pub record HasWorked {D Done : Type 0} (content : D → Option (List ℕ)) (images : D → List ℕ → Type 0) (d : Deed Done)
+pub record HasWorked {D Done : Type 0} (device : Ghosts D) (d : Deed Done)
     (before now : LedgerOf D) (came : Result Done LaneFault) : Type 0 where
-  pub keeps_ledger : KeepsLedgerOf content images before now
+  pub keeps_ledger : KeepsLedgerOf device.content device.images before now
   pub checked : IsChecked now
   pub quiet : OnOk came (IsQuiet before → IsQuiet now)
   pub leaves : LeavesWork d before.header.shape (journals before) (journals now) (flights before) (flights now)
@@ -144,9 +145,9 @@ pub record AllBadly {Done : Type 0} (d : Deed Done) (K : Shape) (E X : ℕ → L
   pub ends : EndsWork d K E X failed may_hold e
 
 -- The open batches of a ledger were brought to their end, and a work was done: what the ledger is behind it, and what came of it.
-pub record HasRun {D Done : Type 0} (content : D → Option (List ℕ)) (images : D → List ℕ → Type 0) (d : Deed Done)
+pub record HasRun {D Done : Type 0} (device : Ghosts D) (d : Deed Done)
     (before now : LedgerOf D) (resumed : List ResumedBatch) (came : Result Done LaneFault) : Type 0 where
-  pub keeps_ledger : KeepsLedgerOf content images before now
+  pub keeps_ledger : KeepsLedgerOf device.content device.images before now
   pub checked : IsChecked now
   pub quiet : OnOk came (IsQuiet before → IsQuiet now)
   pub leaves : LeavesAll d before.header.shape (journals before) (journals now) (flights before) (flights now)
@@ -157,17 +158,17 @@ pub record HasRun {D Done : Type 0} (content : D → Option (List ℕ)) (images 
 
 -- what a node says of itself: its count of faults and its capacity are its disk's, which has room for its journal, for what is kept for its open batches and
 -- for what is in flight; and a record is in flight only where the disk failed
-pub record IsSeen {D : Type 0} (count limit : D → ℕ) (n : NodeOf D) : Type 0 where
-  pub faults : n.faults ≡ count n.disk
-  pub capacity : n.capacity ≡ limit n.disk
+pub record IsSeen {D : Type 0} (device : Ghosts D) (n : NodeOf D) : Type 0 where
+  pub faults : n.faults ≡ device.count n.disk
+  pub capacity : n.capacity ≡ device.limit n.disk
   pub room : NodeHasRoom n
   pub fits : NodeFits n
   pub flown : FliesBroken n
 
 -- all nodes of a ledger do
-pub record AreSeen {D : Type 0} (count limit : D → ℕ) (logs shards : List (NodeOf D)) : Type 0 where
-  pub logs_are : All (IsSeen count limit) logs
-  pub shards_are : All (IsSeen count limit) shards
+pub record AreSeen {D : Type 0} (device : Ghosts D) (logs shards : List (NodeOf D)) : Type 0 where
+  pub logs_are : All (IsSeen device) logs
+  pub shards_are : All (IsSeen device) shards
 
 -- ---- on a rack
 
@@ -183,40 +184,40 @@ abbrev pub entry_ledger : {D : Type 0} → AtEntry D → LedgerOf D
 entry_ledger e = record { header = e.header; logs = e.logs; shards = e.shards }
 
 -- all nodes of the ledger that the rack told were opened, each record of it is caused, and their disks may be put back
-pub record IsOpen {D : Type 0} (content : D → Option (List ℕ)) (images : D → List ℕ → Type 0) (limit count : D → ℕ) (e : AtEntry D) (held : ℕ → Option D)
+pub record IsOpen {D : Type 0} (device : Ghosts D) (e : AtEntry D) (held : ℕ → Option D)
     (can_put : ℕ → ℕ → Type 0) (can_take : ℕ → Type 0) : Type 0 where
-  pub nodes : AreOpened content images limit count e.held e.header e.logs e.shards
+  pub nodes : AreOpened device e.held e.header e.logs e.shards
   pub caused : AreCaused e.header.shape (told_journals e.logs e.shards)
   pub few : length e.logs + length e.shards < 2 ^ 32
-  pub logs_since : ByPlace (λ n x. e.before n ≤ count x.disk) e.logs
-  pub shards_since : ByPlace (λ s x. e.before (e.header.shape.coordinators + s) ≤ count x.disk) e.shards
-  pub logs : EachFrom (MayReturn (λ x. count x.disk) can_put) 0 e.logs
-  pub shards : EachFrom (MayReturn (λ x. count x.disk) can_put) (length e.logs) e.shards
+  pub logs_since : ByPlace (λ n x. e.before n ≤ device.count x.disk) e.logs
+  pub shards_since : ByPlace (λ s x. e.before (e.header.shape.coordinators + s) ≤ device.count x.disk) e.shards
+  pub logs : EachFrom (MayReturn (λ x. device.count x.disk) can_put) 0 e.logs
+  pub shards : EachFrom (MayReturn (λ x. device.count x.disk) can_put) (length e.logs) e.shards
   pub others : (n : ℕ) → length e.logs + length e.shards ≤ n → held n ≡ e.held n
   pub others_in : (n : ℕ) → length e.logs + length e.shards ≤ n → can_take n
 
 -- they were opened, their open batches were brought to their end, and a work was done
-pub record HasCome {D Done : Type 0} (content : D → Option (List ℕ)) (images : D → List ℕ → Type 0) (limit count : D → ℕ) (d : Deed Done) (e : AtEntry D) (held : ℕ → Option D)
+pub record HasCome {D Done : Type 0} (device : Ghosts D) (d : Deed Done) (e : AtEntry D) (held : ℕ → Option D)
     (can_put : ℕ → ℕ → Type 0) (can_take : ℕ → Type 0) (ledger : LedgerOf D) (resumed : List ResumedBatch) (came : Result Done LaneFault) : Type 0 where
-  pub begun : IsOpen content images limit count e held can_put can_take
-  pub ran : HasRun content images d (entry_ledger e) ledger resumed came
+  pub begun : IsOpen device e held can_put can_take
+  pub ran : HasRun device d (entry_ledger e) ledger resumed came
 
 -- where the ledger that the disks told was kept: it came through, each disk holds its journal and no record more and has room for it and for what is
 -- kept, open batches were taken up in the order of their lanes, so many hashes are unspent now, and the sentence holds of the journals
-pub record HasEnded {D Done : Type 0} (images : D → List ℕ → Type 0) (limit : D → ℕ) (held : ℕ → Option D) (d : Deed Done) (told : Told Done)
+pub record HasEnded {D Done : Type 0} (device : Ghosts D) (held : ℕ → Option D) (d : Deed Done) (told : Told Done)
     (K : Shape) (mint : List Output) (submissions : List FullTx) (E : ℕ → List Record) : Type 0 where
   pub exit : ℕ → List Record
   pub well : AllWell d K E exit told.resumed.items told.done
   pub grown : IsGrown K mint (submissions ++ joined d.handed) E exit
-  pub disks : HoldsEach images held K exit
-  pub rooms : HaveRoom limit held K exit
+  pub disks : HoldsEach device held K exit
+  pub rooms : HaveRoom device held K exit
   pub in_order : IsInOrder K E exit
   pub unspent : IsUnspentCount K exit told.unspent
   pub headline : Clean mint (submissions ++ joined d.handed) → Headline K mint (submissions ++ joined d.handed) exit
 
 -- A work was done over the ledger on a rack: what came of it, and what that leaves of the disks.
-pub record HasDone {D Done : Type 0} (content : D → Option (List ℕ)) (images : D → List ℕ → Type 0) (limit count : D → ℕ) (held back : ℕ → Option D)
+pub record HasDone {D Done : Type 0} (device : Ghosts D) (held back : ℕ → Option D)
     (before now : ℕ → ℕ) (d : Deed Done) (came : Result (Told Done) Answer) : Type 0 where
-  pub caused : OnOk came (TookLedger content images limit held back)
-  pub ended : IfOk came (λ told. OfShown content held (HasEnded images limit back d told))
-  pub stopped : IfErr came (WhyNoTurns content images limit count held back before now d.next (EndsWork d) (BeginsWork d) d.handed)
+  pub caused : OnOk came (TookLedger device held back)
+  pub ended : IfOk came (λ told. OfShown device held (HasEnded device back d told))
+  pub stopped : IfErr came (WhyNoTurns device held back before now d.next (EndsWork d) (BeginsWork d) d.handed)

@@ -51,7 +51,7 @@ pub(crate) fn work_files<
     requires idle { AreIdle ledger.header.shape (journals ledger) }
     requires short { All (λ txs. All IsShort txs) files.now }
     requires checked { IsChecked ledger }
-    ensures { HasWorked D.content D.images (files_deed (V.verdict_of verifier.now) files.now) ledger result.ledger result.came }
+    ensures { HasWorked D.Disk (files_deed (V.verdict_of verifier.now) files.now) ledger result.ledger result.came }
 {
     if files.is_empty() {
         return Worked {
@@ -81,7 +81,7 @@ impl Work for NoWork {
 pub(crate) fn work_none<D: Disk>(ledger: Ledger<D>) -> Worked<D, ()>
     requires idle { AreIdle ledger.header.shape (journals ledger) }
     requires checked { IsChecked ledger }
-    ensures { HasWorked D.content D.images no_deed ledger result.ledger result.came }
+    ensures { HasWorked D.Disk no_deed ledger result.ledger result.came }
 {
     Worked {
         ledger,

@@ -19,7 +19,7 @@ use shard_node::ShardNode;
 
 // What each coordinator says of itself: a call that reads it says so.
 fn see_logs<D: Disk>(logs: &[CoordLog<D>])
-    ensures { All (IsSeen D.count D.limit) logs.now }
+    ensures { All (IsSeen D.Disk) logs.now }
 {
     'logs: for log in logs {
         let _header = log.header();
@@ -28,7 +28,7 @@ fn see_logs<D: Disk>(logs: &[CoordLog<D>])
 
 // The same of each shard.
 fn see_shards<D: Disk>(shards: &[ShardNode<D>])
-    ensures { All (IsSeen D.count D.limit) shards.now }
+    ensures { All (IsSeen D.Disk) shards.now }
 {
     'shards: for shard in shards {
         let _header = shard.header();
@@ -93,7 +93,7 @@ pub(crate) fn ledger_of<D: Disk>(nodes: Nodes<D>) -> Ledger<D>
 pub(crate) fn nodes_of<D: Disk>(ledger: Ledger<D>) -> Nodes<D>
     ensures ledger { IsLedger result.header result.logs.items result.shards.items }
     ensures same { ledger ≡ record { header = result.header; logs = result.logs.items; shards = result.shards.items } }
-    ensures seen { AreSeen D.count D.limit result.logs.items result.shards.items }
+    ensures seen { AreSeen D.Disk result.logs.items result.shards.items }
 {
     let Ledger {
         header,

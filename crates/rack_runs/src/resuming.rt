@@ -24,7 +24,7 @@ pub(crate) fn resume_ledger<W: Wait, D: Disk, G: Gate>(
     gate: &G,
 ) -> ResumeRun<D>
     requires checked { IsChecked ledger }
-    ensures { HasResumed D.content D.images ledger result.ledger result.came }
+    ensures { HasResumed D.Disk ledger result.ledger result.came }
 {
     let mut lent = lend(rt, ledger);
     let came = resume_all(alloc, &mut lent, gate);

@@ -2,6 +2,7 @@
 use Rattle.std.proofs.Common.{◌≡◌, ◌<◌, ◌≤◌, ◌+◌, ◌-◌, ◌++◌, ◌∷◌, [], ℕ, List, length, map, true, false, nat_lt, if◌then◌else◌, Option, refl, sym, ◌∙◌, ap, subst, arith}
 use Rattle.std.proofs.lemmas.Bool.{ltb-true, ltb-false}
 use Rattle.std.proofs.lemmas.Option.{slice_get_within}
+use Rattle.outside.specs.declared.disk.Disk.{Ghosts}
 use Rattle.cbdc_model.specs.Records.{Digest, Shape, Header, Record}
 use Rattle.cbdc_model.specs.Ranges.{shard_of}
 use Rattle.cbdc_model.specs.Status.{status}
@@ -46,8 +47,8 @@ module _ {D : Type 0} (K : Shape) (logs shards : List (NodeOf D)) where
       ap (λ (t : Text). t ++ told_lines xs (map (status_among shards) xs)) (ap (status_line x) here)
       ∙ ap (λ (t : Text). status_line x (status_at K (journals_at K logs shards) x) ++ t) (lines_are count xs)
 
-module _ {D : Type 0} (content : D → Option (List ℕ)) (images : D → List ℕ → Type 0) (limit count : D → ℕ) (held : ℕ → Option D) (h : Header) (logs shards : List (NodeOf D))
-    (are : AreOpened content images limit count held h logs shards) where
+module _ {D : Type 0} (device : Ghosts D) (held : ℕ → Option D) (h : Header) (logs shards : List (NodeOf D))
+    (are : AreOpened device held h logs shards) where
   pub few_shards : length shards ≤ 64
   few_shards = omega (arith, are.shards_are, are.limits.shards)
 
@@ -66,22 +67,22 @@ module _ {D : Type 0} (content : D → Option (List ℕ)) (images : D → List �
 
   module _ (mid now : ℕ → Option D) (kept : (n : ℕ) → length logs + length shards ≤ n → mid n ≡ held n) (closed_logs : ByPlace (λ n l. OfTold (now n) (λ d. d ≡ l.disk)) logs)
       (closed_shards : ByPlace (λ s x. OfTold (now (length logs + s)) (λ d. d ≡ x.disk)) shards) (others : (n : ℕ) → length logs + length shards ≤ n → now n ≡ mid n) where
-    pub all_unchanged : AreUnchanged content images limit held now
-    all_unchanged = all_same content images limit count held mid now h logs shards are kept closed_logs closed_shards others
+    pub all_unchanged : AreUnchanged device held now
+    all_unchanged = all_same device held mid now h logs shards are kept closed_logs closed_shards others
 
-    pub all_back : (before after : ℕ → ℕ) → AreBack content images limit before after held now
-    all_back before after n = same_back content images limit (before n) (after n) (held n) (now n) (all_unchanged n)
+    pub all_back : (before after : ℕ → ℕ) → AreBack device before after held now
+    all_back before after n = same_back device (before n) (after n) (held n) (now n) (all_unchanged n)
 
     -- the lines that were printed tell what the ledger knows
-    pub did_status : (printed : Text → Type 0) (hashes : List Digest) → printed (told_lines hashes (map (status_among shards) hashes)) → DidStatus content images limit held now printed hashes
+    pub did_status : (printed : Text → Type 0) (hashes : List Digest) → printed (told_lines hashes (map (status_among shards) hashes)) → DidStatus device held now printed hashes
     did_status printed hashes told = record {
       shape = h.shape;
       genesis = h.genesis;
       journals = journals_at h.shape logs shards;
       limits = are.limits;
-      opened = each_opens content images limit count held h logs shards are Journals of_logs of_shards;
-      room = each_room content images limit count held h logs shards are Journals of_logs of_shards;
+      opened = each_opens device held h logs shards are Journals of_logs of_shards;
+      room = each_room device held h logs shards are Journals of_logs of_shards;
       back = all_unchanged;
-      holds = each_holds content images limit count held h logs shards are Journals of_logs of_shards now closed_logs closed_shards;
+      holds = each_holds device held h logs shards are Journals of_logs of_shards now closed_logs closed_shards;
       prints = subst printed (lines_are h.shape logs shards are.shards_are hashes) told;
     }

@@ -11,6 +11,6 @@ returns-in-Some-clause-refusal g c =
     inr (inl (record {
       lead = c.in-Ok.lead;
       first = ap (λ (k : Header). k.node) c.in-Ok.ensures.fits.asked;
-      lead_at = lead_at g.R.Disk.Disk.content g.R.Disk.Disk.images g.R.Disk.Disk.limit g.R.Disk.Disk.count IsCoord (g.R.Rack.held c.args.rack.now) c.in-Ok.lead.header c.in-Ok.lead refl c.in-Ok.ensures.fits c.in-Ok.ensures.opened;
+      lead_at = lead_at g.R.Disk.Disk IsCoord (g.R.Rack.held c.args.rack.now) c.in-Ok.lead.header c.in-Ok.lead refl c.in-Ok.ensures.fits c.in-Ok.ensures.opened;
       other = subst (λ (k : Header). IsOtherMint (option_copied c.args.id) k c.in-Some.fault) c.header.ensures.header c.in-Some.ensures;
     }))

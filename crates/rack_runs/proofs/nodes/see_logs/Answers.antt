@@ -9,8 +9,8 @@ pub logs-preserved : goal.logs-preserved
 logs-preserved g c =
     let told = c.header-header.ensures in
     let n = c.log-item.result in
-    All-more (IsSeen g.D.Disk.count g.D.Disk.limit) c.args.logs.now c.logs.log-index n c.logs-test.true c.logs.invariant
-    (subst (IsSeen g.D.Disk.count g.D.Disk.limit) c.log-item.is (record {
+    All-more (IsSeen g.D.Disk) c.args.logs.now c.logs.log-index n c.logs-test.true c.logs.invariant
+    (subst (IsSeen g.D.Disk) c.log-item.is (record {
       faults = told.count;
       capacity = told.capacity;
       room = told.room;
@@ -20,5 +20,5 @@ logs-preserved g c =
 
 pub returns : goal.returns
 returns g c =
-    All-same (IsSeen g.D.Disk.count g.D.Disk.limit) c.args.logs.now (take c.logs.log-index c.args.logs.now)
+    All-same (IsSeen g.D.Disk) c.args.logs.now (take c.logs.log-index c.args.logs.now)
     (sym (take_whole c.args.logs.now c.logs.log-index (omega (arith, c.logs-test.false)))) c.logs.invariant

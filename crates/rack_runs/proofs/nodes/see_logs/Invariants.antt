@@ -4,4 +4,4 @@ use Rattle.rack_runs.specs.Works.{IsSeen}
 use Rattle.rack_runs.proofs.nodes.see_logs.Given as goal
 
 abbrev pub invariant-logs : goal.invariant-logs
-invariant-logs g l = All (IsSeen g.D.Disk.count g.D.Disk.limit) (take l.log-index l.logs)
+invariant-logs g l = All (IsSeen g.D.Disk) (take l.log-index l.logs)

@@ -9,8 +9,8 @@ pub shards-preserved : goal.shards-preserved
 shards-preserved g c =
     let told = c.header-header.ensures in
     let n = c.shard-item.result in
-    All-more (IsSeen g.D.Disk.count g.D.Disk.limit) c.args.shards.now c.shards.shard-index n c.shards-test.true c.shards.invariant
-    (subst (IsSeen g.D.Disk.count g.D.Disk.limit) c.shard-item.is (record {
+    All-more (IsSeen g.D.Disk) c.args.shards.now c.shards.shard-index n c.shards-test.true c.shards.invariant
+    (subst (IsSeen g.D.Disk) c.shard-item.is (record {
       faults = told.count;
       capacity = told.capacity;
       room = told.room;
@@ -20,5 +20,5 @@ shards-preserved g c =
 
 pub returns : goal.returns
 returns g c =
-    All-same (IsSeen g.D.Disk.count g.D.Disk.limit) c.args.shards.now (take c.shards.shard-index c.args.shards.now)
+    All-same (IsSeen g.D.Disk) c.args.shards.now (take c.shards.shard-index c.args.shards.now)
     (sym (take_whole c.args.shards.now c.shards.shard-index (omega (arith, c.shards-test.false)))) c.shards.invariant
