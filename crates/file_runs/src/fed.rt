@@ -8,6 +8,7 @@ ghost use Rattle.file_runs.specs.Feeding.{CanWave, no_ledger};
 
 use crate::{Ledger, run_wave};
 use cbdc_types::{LaneId, Shape};
+use lane_driver::Source;
 use lane_sources::{Ahead, Deals, Feeder, FileOf, LaneSource, feed, pipe, rule_ahead};
 use ledger_runs::Work;
 use outside::{Disk, Gate};
@@ -78,8 +79,8 @@ pub(crate) fn ahead_of<'a, W: Threads + Sync, V: Verifier + Sync, F: Deals + Sen
     }
 }
 
-// No lane takes anything more that is found ahead of it, so that each feeder that still waits for room ends.
-fn end_ahead<'a, W: Wait, V: Verifier, F: Deals>(works: &mut Vec<Work<LaneSource<'a, W, V, F>>>)
+// Lanes that memory kept from running let go of their feeders, too, so that each that still waits for room ends.
+fn end_ahead<X: Source>(works: &mut Vec<Work<X>>)
     ensures { works.new.items ≡ works.old.items }
 {
     'works: for lane in 0..works.len() {

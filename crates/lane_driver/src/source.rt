@@ -37,6 +37,10 @@ pub trait Source {
     /// The piece that it gave last.
     fn piece(&self) -> &[CompactTx]
         ensures { result.now ≡ given self.now };
+
+    /// Lets go of whoever makes pieces ready ahead of the lane, which needs none any more. All that it gives is the same.
+    fn end_ahead(&mut self)
+        ensures { all self.new ≡ all self.old };
 }
 
 /// Transactions that are there already.
@@ -86,4 +90,6 @@ impl<'a> Source for SliceSource<'a> {
     fn piece(&self) -> &[CompactTx] {
         self.given
     }
+
+    fn end_ahead(&mut self) {}
 }

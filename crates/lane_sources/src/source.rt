@@ -66,13 +66,6 @@ impl<'a, W: Wait, V: Verifier, F: Deals> LaneSource<'a, W, V, F> {
         })
     }
 
-    /// Takes nothing more that is found ahead, and drops the receiving end of what is sent.
-    pub fn end_ahead(&mut self)
-        ensures { self.new ≡ self.old }
-    {
-        self.ahead = Ahead::Nothing;
-    }
-
     // Keeps that the next submission is sound, and goes to the one behind it.
     fn note_sound(&mut self, id: Hash)
         requires inside { self.old.at < length F.file }
@@ -230,5 +223,10 @@ impl<'a, W: Wait, V: Verifier, F: Deals> Source for LaneSource<'a, W, V, F> {
 
     fn piece(&self) -> &[CompactTx] {
         self.piece.as_slice()
+    }
+
+    // It drops the receiving end of what a feeder sends, which then ends.
+    fn end_ahead(&mut self) {
+        self.ahead = Ahead::Nothing;
     }
 }

@@ -13,13 +13,16 @@ use std::sync::{Mutex, Wait};
 pub struct NotingGate {
     points: Mutex<Vec<Point>>,
     order: PointOrder,
+    is_slow: bool,
 }
 
 impl NotingGate {
-    pub fn new(alloc: Global, order: PointOrder) -> NotingGate {
+    /// Where it has an order it says that calls are slow, or not.
+    pub fn new(alloc: Global, order: PointOrder, is_slow: bool) -> NotingGate {
         NotingGate {
             points: Mutex::new(Vec::new(alloc)),
             order,
+            is_slow,
         }
     }
 
@@ -30,7 +33,11 @@ impl NotingGate {
 
     /// The points of calls that were passed, those of a phase by their nodes.
     pub fn into_points(self, alloc: Global) -> Result<Vec<Point>, AllocError> {
-        let NotingGate { points, order: _ } = self;
+        let NotingGate {
+            points,
+            order: _,
+            is_slow: _,
+        } = self;
         let points = points.into_inner();
         by_nodes(alloc, points.as_slice())
     }
@@ -75,9 +82,9 @@ impl Gate for NotingGate {
         }
     }
 
-    // Calls that it holds up take long.
+    // Calls that it holds up take long, unless it is to say otherwise.
     fn is_slow(&self) -> bool {
-        !self.order.is_empty()
+        self.is_slow && !self.order.is_empty()
     }
 }
 

@@ -111,12 +111,34 @@ fn point_of(words: &[&str]) -> Result<Point, Wrong> {
     })
 }
 
-/// For how many turns a point waits: as told, and no more than `TURNS`, or so many.
-pub fn turns_of(told: &[&str]) -> Result<u32, Wrong> {
-    match told {
-        [] => Ok(TURNS),
-        [word, ..] => Ok(small(word)?.min(TURNS)),
+/// How the points of a run are held: for how many turns each, and whether the gate says that calls are slow.
+#[derive(Clone, Copy)]
+pub struct Holding {
+    pub turns: u32,
+    pub is_slow: bool,
+}
+
+impl Holding {
+    /// Holds each for `TURNS`, and says that calls are slow.
+    pub fn long() -> Holding {
+        Holding {
+            turns: TURNS,
+            is_slow: true,
+        }
     }
+}
+
+/// What is told: `quick` where the gate says that calls are not slow, and then for how many turns a point waits, `TURNS` at most.
+pub fn holding_of(told: &[&str]) -> Result<Holding, Wrong> {
+    let (is_slow, turns) = match told {
+        ["quick", turns @ ..] => (false, turns),
+        turns => (true, turns),
+    };
+    let turns = match turns {
+        [] => TURNS,
+        [word, ..] => small(word)?.min(TURNS),
+    };
+    Ok(Holding { turns, is_slow })
 }
 
 /// The points of lines `LANE NODE KIND WHEN`.

@@ -144,8 +144,8 @@ pub fn play<W: Wait + Threads + Sync>(
     let words = owned(alloc, words)?;
     let mut inbox = inbox(alloc, state)?;
     let rack = rack_of(alloc, &state.disks)?;
-    let order = PointOrder::new(state.order.clone()?, state.turns);
-    let gate = NotingGate::new(alloc, order);
+    let order = PointOrder::new(state.order.clone()?, state.holding.turns);
+    let gate = NotingGate::new(alloc, order, state.holding.is_slow);
     let Done { status, rack } = process(rt, alloc, &words, &mut inbox, rack, &mut out, &gate);
     if !gate.is_kept() {
         return Err(differ(alloc, "the points in this order", "points out of order"));

@@ -1,6 +1,6 @@
 // What a row has made so far: names, disks, and what the last run left.
 use crate::disks::{DiskState, cut, put_digits};
-use crate::ordering::TURNS;
+use crate::ordering::Holding;
 use crate::play::Ran;
 use outside::Point;
 use row_records::{Names, Wrong, count, hex_of};
@@ -27,7 +27,7 @@ pub struct State {
     pub ran: Option<Ran>,
     pub room: usize,
     pub order: Vec<Point>,
-    pub turns: u32,
+    pub holding: Holding,
     pub wrong: Option<Wrong>,
     marks: [usize; 4],
 }
@@ -44,7 +44,7 @@ impl State {
             ran: None,
             room: ROOM,
             order: Vec::new(alloc),
-            turns: TURNS,
+            holding: Holding::long(),
             wrong: None,
             marks: [0; 4],
         }

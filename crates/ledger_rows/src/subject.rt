@@ -1,7 +1,7 @@
 // What the steps of these rows do: whole runs of the program over disks.
 use crate::files::{name_file, name_hash, name_tx};
 use crate::looking::{check_run, look, same};
-use crate::ordering::{points_of, turns_of};
+use crate::ordering::{holding_of, points_of};
 use crate::plain::play_plain;
 use crate::play::{Ran, play};
 use crate::racks::{change_disk, crash, empty_rack, keep, load, take_back};
@@ -66,10 +66,11 @@ fn room(state: &mut State, words: &[&str]) -> Result<(), Wrong> {
     Ok(())
 }
 
-// `order TURNS`, and a line `LANE NODE KIND WHEN` for each point: the points of the next run are held to this order, for so many turns each.
+// `order [quick] [TURNS]`, and a line `LANE NODE KIND WHEN` for each point: the points of the next run are held to this order, for so many turns
+// each, by a gate that says that calls are slow, or `quick`.
 fn order(state: &mut State, alloc: Global, words: &[&str], text: &str) -> Result<(), Wrong> {
     state.order = points_of(alloc, text)?;
-    state.turns = turns_of(words)?;
+    state.holding = holding_of(words)?;
     Ok(())
 }
 

@@ -23,7 +23,8 @@ pub fn play_tested<W: Wait + Threads + Sync>(
     let most = count_at(words, 0)? as u64;
     let mut out = MemSink::new(alloc, state.room, Vec::new(alloc))?;
     let mut rack = rack_of(alloc, &state.disks)?;
-    let gate = NotingGate::new(alloc, PointOrder::new(state.order.clone()?, state.turns));
+    let order = PointOrder::new(state.order.clone()?, state.holding.turns);
+    let gate = NotingGate::new(alloc, order, state.holding.is_slow);
     let answer = resume_few(rt, alloc, &mut rack, most, &gate)
         .err()
         .unwrap_or(Answer::Ok);

@@ -1,11 +1,14 @@
 // A sentinel ahead of a lane, and a lane to which it sends.
 ghost use Rattle.std.specs.Prelude.{◌≡◌, ◌<◌};
 
-use cbdc_types::{CompactTx, FullTx, Hash, Input, LaneId, List, OutPoint, Output, Refusal, Shape};
+use crate::gates::{KeepGate, RowGate};
+use cbdc_types::{
+    CompactTx, FullTx, Hash, Input, LaneId, List, NodeId, OutPoint, Output, Refusal, Shape,
+};
 use crossbeam_channel::Receiver;
 use lane_driver::Source;
 use lane_sources::{Ahead, Deals, FileOf, LaneSource, RuledAt, feed, pipe};
-use outside::OpenGate;
+use outside::{OpenGate, Point, When};
 use sentinel::{AllGood, Verifier};
 use std::alloc::{AllocError, Global};
 use std::marker::Brand;
@@ -112,6 +115,31 @@ fn given<R: Wait, V: Verifier, F: Deals>(
     Ok(all)
 }
 
+// How often the sentinel of a lane passes its gate, a digit for each time, where the lane has let go of it before, or not.
+fn passes<R: Wait, V: Verifier, F: Deals>(
+    rt: &R,
+    alloc: Global,
+    shape: &Shape,
+    file: &FileOf<'_, V, F>,
+    lets_go: bool,
+) -> Result<u64, AllocError>
+    requires { 0 < file.now }
+{
+    let (feeder, messages) = pipe(alloc, LaneId(0))?;
+    let mut source = LaneSource::new(rt, alloc, file, 0, Ahead::Sent(messages))?;
+    if lets_go {
+        source.end_ahead();
+    }
+    let gate = RowGate::Keep(KeepGate::new(Point {
+        lane: LaneId(0),
+        node: NodeId(0),
+        kind: 0,
+        when: When::After,
+    }));
+    feed(rt, alloc, shape, file, feeder, &gate);
+    Ok(gate.passed())
+}
+
 // Whether the messages of each lane come, of one or of two, and whether the lane gets the two sound ones, with them and without.
 fn tried<R: Wait, V: Verifier, F: Deals>(
     rt: &R,
@@ -138,7 +166,14 @@ fn tried<R: Wait, V: Verifier, F: Deals>(
     let with = given(rt, alloc, &file, Ahead::Sent(with))?;
     let without = given(rt, alloc, &file, Ahead::Sent(without))?;
     let is_same = alone.len() == 2 && with == alone && without == alone;
-    Ok(Fed { comes, is_same })
+    let kept = passes(rt, alloc, shape, &file, false)?;
+    let let_go = passes(rt, alloc, shape, &file, true)?;
+    Ok(Fed {
+        comes,
+        is_same,
+        kept,
+        let_go,
+    })
 }
 
 // What was tried.
@@ -146,6 +181,8 @@ fn tried<R: Wait, V: Verifier, F: Deals>(
 struct Fed {
     comes: bool,
     is_same: bool,
+    kept: u64,
+    let_go: u64,
 }
 
 fn try_all<R: Wait, V: Verifier>(rt: &R, alloc: Global, lanes: u32, verifier: &V) -> Option<Fed> {
@@ -167,4 +204,10 @@ pub fn send_their_own<R: Wait>(rt: &R, alloc: Global) -> Option<bool> {
 /// A lane has the same transactions whether its sentinel sends them, ends before the first or was never there.
 pub fn has_the_same<R: Wait>(rt: &R, alloc: Global) -> Option<bool> {
     Some(try_all(rt, alloc, 1, &AllGood)?.is_same)
+}
+
+/// The sentinel of a lane that has let go of it ends at its first message, and one of a lane that has not sends all three.
+pub fn ends_with_its_lane<R: Wait>(rt: &R, alloc: Global) -> Option<bool> {
+    let fed = try_all(rt, alloc, 1, &AllGood)?;
+    Some(fed.let_go == 0 && fed.kept == 333)
 }
