@@ -44,9 +44,9 @@ fn audit_all<W: Threads + Sync, I: Inbox, R: Rack>(
 where
     R::Disk: Send,
     requires { (n : ℕ) → R.can_take rack.old n }
-    ensures did { IfOk result (WasAudited (I.file inbox.old) R.Disk.content R.Disk.images R.Disk.limit (R.held rack.old) (R.held rack.new) mint.now clients.now) }
-    ensures why { IfErr result (WhyUnaudited (I.file inbox.old) (I.count inbox.old) (I.count inbox.new) R.Disk.content R.Disk.images R.Disk.limit R.Disk.count (R.held rack.old) (R.count rack.old) (R.count rack.new) mint.now clients.now) }
-    ensures held { AreBack R.Disk.content R.Disk.images R.Disk.limit (R.count rack.old) (R.count rack.new) (R.held rack.old) (R.held rack.new) }
+    ensures did { IfOk result (WasAudited (I.file inbox.old) R.Disk.Disk (R.held rack.old) (R.held rack.new) mint.now clients.now) }
+    ensures why { IfErr result (WhyUnaudited (I.file inbox.old) (I.count inbox.old) (I.count inbox.new) R.Disk.Disk (R.held rack.old) (R.count rack.old) (R.count rack.new) mint.now clients.now) }
+    ensures held { AreBack R.Disk.Disk (R.count rack.old) (R.count rack.new) (R.held rack.old) (R.held rack.new) }
     ensures fault { IfErr result (IsFault (λ place. (place ≡ mint.now.place) ⊎ OnePlace clients.now place) (λ place. FileRose (I.count inbox.old) (I.count inbox.new) mint.now place ⊎ OneRose (I.count inbox.old) (I.count inbox.new) clients.now place)) }
     ensures untouched { IfErr result (λ e. IsBeforeDisks e → rack.new ≡ rack.old) }
     ensures files { (name : Text) → I.file inbox.new name ≡ I.file inbox.old name }
@@ -112,12 +112,12 @@ where
     requires { (n : ℕ) → R.can_take rack.old n }
     ensures cause { IsDone (λ place. (place ≡ mint.now.place) ⊎ OnePlace clients.now place) (λ place. FileRose (I.count inbox.old) (I.count inbox.new) mint.now place ⊎ OneRose (I.count inbox.old) (I.count inbox.new) clients.now place)
         (Rose (O.count out.old) (O.count out.new)) result }
-    ensures did { IsWell result → DidAudit (I.file inbox.old) R.Disk.content R.Disk.images R.Disk.limit (R.held rack.old) (R.held rack.new) (IsPrinted (O.taken out.old) (O.taken out.new) result) mint.now clients.now }
-    ensures why { IsTold (WhyNoAudit (I.file inbox.old) (I.count inbox.old) (I.count inbox.new) R.Disk.content R.Disk.images R.Disk.limit R.Disk.count (R.held rack.old) (R.held rack.new) (R.count rack.old) (R.count rack.new) mint.now clients.now) result }
+    ensures did { IsWell result → DidAudit (I.file inbox.old) R.Disk.Disk (R.held rack.old) (R.held rack.new) (IsPrinted (O.taken out.old) (O.taken out.new) result) mint.now clients.now }
+    ensures why { IsTold (WhyNoAudit (I.file inbox.old) (I.count inbox.old) (I.count inbox.new) R.Disk.Disk (R.held rack.old) (R.held rack.new) (R.count rack.old) (R.count rack.new) mint.now clients.now) result }
     ensures silent { IsSilent (O.taken out.old) (O.taken out.new) result }
     ensures written_later { O.count out.old ≤ O.count out.new }
     ensures untouched { IsBeforeDisks result → rack.new ≡ rack.old }
-    ensures left { AreBack R.Disk.content R.Disk.images R.Disk.limit (R.count rack.old) (R.count rack.new) (R.held rack.old) (R.held rack.new) }
+    ensures left { AreBack R.Disk.Disk (R.count rack.old) (R.count rack.new) (R.held rack.old) (R.held rack.new) }
     ensures files { (name : Text) → I.file inbox.new name ≡ I.file inbox.old name }
     ensures back { (n : ℕ) → R.can_take rack.new n }
 {

@@ -1,6 +1,7 @@
 -- Where nothing hinders what is asked, it is done, unless memory runs out.
 use Rattle.std.proofs.Common.{◌≡◌, ◌⊎◌, inl, inr, ℕ, Bool, List, [], Option, Some, None, Ok, refl, sym, ap, subst}
 use Rattle.outside.specs.Images.{Tells}
+use Rattle.outside.specs.declared.disk.Disk.{Ghosts}
 use Rattle.line_text.specs.Lines.{Text}
 use Rattle.cbdc_types.specs.declared.answer.Answer.{Answer}
 use Rattle.cbdc_types.specs.declared.answer.Answer.TheVariants as answers
@@ -51,78 +52,78 @@ use Rattle.run_command.specs.Outcomes.{WhyNoRun}
 use Rattle.status_command.specs.Outcomes.{WhyNoStatus}
 use Rattle.commands.specs.Outcomes.{Why}
 
-module _ {D : Type 0} (files : Text → Option (List ℕ)) (files_before files_now : Text → ℕ) (content : D → Option (List ℕ)) (images : D → List ℕ → Type 0) (limit count : D → ℕ) (held back : ℕ → Option D) (before now : ℕ → ℕ) where
-  init_none : (shape : Shape) (file : FileWord) (answer : Answer) → CanInit files files_before files_now content limit held before now shape file.name.now
-      → WhyNoInit files files_before files_now content limit held before now shape file answer → answer ≡ answers.Memory
+module _ {D : Type 0} (files : Text → Option (List ℕ)) (files_before files_now : Text → ℕ) (device : Ghosts D) (held back : ℕ → Option D) (before now : ℕ → ℕ) where
+  init_none : (shape : Shape) (file : FileWord) (answer : Answer) → CanInit files files_before files_now device held before now shape file.name.now
+      → WhyNoInit files files_before files_now device held before now shape file answer → answer ≡ answers.Memory
   init_none shape file answer can (inl not_read) = not_read_none files files_before files_now file.place mint_of_file file.name.now can.mint answer can.holds not_read
   init_none shape file answer can (inr unmade) =
       let same : unmade.0 ≡ can.mint = read_once files files_before files_now mint_of_file file.name.now can.mint unmade.0 can.holds unmade.1 in
-      made content limit held before now shape unmade.0 answer (subst (λ (m : List Output). CanMake content limit held shape m) (sym same) can.can) can.steady unmade.2
+      made device held before now shape unmade.0 answer (subst (λ (m : List Output). CanMake device held shape m) (sym same) can.can) can.steady unmade.2
 
-  status_none : (answer : Answer) → IsReady content limit held before now none_sound [] → WhyNoStatus content images limit count held back before now answer → answer ≡ answers.Memory
+  status_none : (answer : Answer) → IsReady device held before now none_sound [] → WhyNoStatus device held back before now answer → answer ≡ answers.Memory
   status_none answer ready why =
       let shows = ready.shows in
-      let rooms = ample_rooms ready.shape ready.mint ready.submissions ready.journals (λ n. limit_at limit (held n)) shows.limits shows.kept none_sound [] ready.ample in
-      unopened_none content images limit count held before now ready.shape ready.mint ready.submissions ready.journals ready.shows rooms ready.steady None answer tt why.0
+      let rooms = ample_rooms ready.shape ready.mint ready.submissions ready.journals (λ n. limit_at device (held n)) shows.limits shows.kept none_sound [] ready.ample in
+      unopened_none device held before now ready.shape ready.mint ready.submissions ready.journals ready.shows rooms ready.steady None answer tt why.0
 
   -- what is not resumed
-  unresumed : (sound : FullTx → Bool) (handed : List (List FullTx)) (answer : Answer) → IsReady content limit held before now sound handed → IsUnresumed content images limit count held before now answer → answer ≡ answers.Memory
+  unresumed : (sound : FullTx → Bool) (handed : List (List FullTx)) (answer : Answer) → IsReady device held before now sound handed → IsUnresumed device held before now answer → answer ≡ answers.Memory
   unresumed sound handed answer ready (inl unopened) =
       let shows = ready.shows in
-      let rooms = ample_rooms ready.shape ready.mint ready.submissions ready.journals (λ n. limit_at limit (held n)) shows.limits shows.kept sound handed ready.ample in
-      unopened_none content images limit count held before now ready.shape ready.mint ready.submissions ready.journals ready.shows rooms ready.steady None answer tt unopened
-  unresumed sound handed answer ready (inr (inl unsound)) = absurd (unsound_none content held ready.shape ready.mint ready.submissions ready.journals ready.shows images limit count answer unsound)
+      let rooms = ample_rooms ready.shape ready.mint ready.submissions ready.journals (λ n. limit_at device (held n)) shows.limits shows.kept sound handed ready.ample in
+      unopened_none device held before now ready.shape ready.mint ready.submissions ready.journals ready.shows rooms ready.steady None answer tt unopened
+  unresumed sound handed answer ready (inr (inl unsound)) = absurd (unsound_none device held ready.shape ready.mint ready.submissions ready.journals ready.shows answer unsound)
   unresumed sound handed answer ready (inr (inr memory)) = memory
 
-  recover_none : (answer : Answer) → IsReady content limit held before now none_sound [] → WhyNoTurns content images limit count held back before now NothingNext IsLeastOpen NonePrepared [] answer → answer ≡ answers.Memory
+  recover_none : (answer : Answer) → IsReady device held before now none_sound [] → WhyNoTurns device held back before now NothingNext IsLeastOpen NonePrepared [] answer → answer ≡ answers.Memory
   recover_none answer ready (inl unbegun) = unresumed none_sound [] answer ready unbegun.0
   recover_none answer ready (inr lane) =
-      recovery_none content images limit held back before now ready.shape ready.mint ready.submissions ready.journals ready.shows ready.steady none_sound ready.ample answer lane
+      recovery_none device.content device.images device.limit held back before now ready.shape ready.mint ready.submissions ready.journals ready.shows ready.steady none_sound ready.ample answer lane
 
-  module _ (verdicts : FileWord) (clients : List FileWord) (can : CanRun files files_before files_now content limit held before now verdicts.name.now (names_of clients)) where
+  module _ (verdicts : FileWord) (clients : List FileWord) (can : CanRun files files_before files_now device held before now verdicts.name.now (names_of clients)) where
     -- over the transactions and verdicts that the files hold
     turns_none : (handed : List (List FullTx)) (tells : VerdictsOf) (answer : Answer) → handed ≡ can.handed → tells ≡ told can.known
-        → WhyNoTurns content images limit count held back before now (PieceNext tells handed) (EndsRun tells handed) (PiecesPrepared tells handed) handed answer → answer ≡ answers.Memory
+        → WhyNoTurns device held back before now (PieceNext tells handed) (EndsRun tells handed) (PiecesPrepared tells handed) handed answer → answer ≡ answers.Memory
     turns_none handed tells answer these known (inl unbegun) = unresumed (sound_by (told can.known)) can.handed answer can.ready unbegun.0
     turns_none handed tells answer these known (inr lane) =
         let ready = can.ready in
-        run_none content images limit held back before now ready.shape ready.mint ready.submissions ready.journals ready.shows ready.steady tells handed
-        (subst (λ v. Ample ready.shape (sound_by v) (λ n. limit_at limit (held n)) handed ready.journals) (sym known)
-        (subst (λ hs. Ample ready.shape (sound_by (told can.known)) (λ n. limit_at limit (held n)) hs ready.journals) (sym these) ready.ample)) answer lane
+        run_none device.content device.images device.limit held back before now ready.shape ready.mint ready.submissions ready.journals ready.shows ready.steady tells handed
+        (subst (λ v. Ample ready.shape (sound_by v) (λ n. limit_at device (held n)) handed ready.journals) (sym known)
+        (subst (λ hs. Ample ready.shape (sound_by (told can.known)) (λ n. limit_at device (held n)) hs ready.journals) (sym these) ready.ample)) answer lane
 
-    run_unhindered : (answer : Answer) → WhyNoRun files files_before files_now content images limit count held back before now verdicts clients answer → answer ≡ answers.Memory
+    run_unhindered : (answer : Answer) → WhyNoRun files files_before files_now device held back before now verdicts clients answer → answer ≡ answers.Memory
     run_unhindered answer (inl not_read) = clients_none files files_before files_now clients can.handed answer can.holds not_read
     run_unhindered answer (inr (handed, read, inl unknown)) = verdicts_none files files_before files_now verdicts.name.now can.known can.knows verdicts.place answer unknown
     run_unhindered answer (inr (handed, read, inr (known, knows, why))) =
         turns_none handed (told known) answer (clients_once files files_before files_now clients 0 can.handed handed can.holds read)
         (verdicts_once files files_before files_now verdicts.name.now can.known can.knows known knows) why
 
-  module _ (file : FileWord) (clients : List FileWord) (can : CanAudit files files_before files_now content limit held before now file.name.now (names_of clients)) where
+  module _ (file : FileWord) (clients : List FileWord) (can : CanAudit files files_before files_now device held before now file.name.now (names_of clients)) where
     this_mint : (mint : List Output) → Tells (files file.name.now) (λ c. mint_of_file c ≡ Ok mint) → mint ≡ can.mint
     this_mint mint tells = read_once files files_before files_now mint_of_file file.name.now can.mint mint can.holds tells
 
     these_files : (handed : List (List FullTx)) → AreRead files 0 clients handed → handed ≡ can.handed
     these_files handed read = clients_once files files_before files_now clients 0 can.handed handed can.clients_hold read
 
-    unopened : (mint : List Output) (answer : Answer) → mint ≡ can.mint → WhyUnopened content images limit count held before now mint answer → answer ≡ answers.Memory
+    unopened : (mint : List Output) (answer : Answer) → mint ≡ can.mint → WhyUnopened device held before now mint answer → answer ≡ answers.Memory
     unopened mint answer same (inr memory) = memory
     unopened mint answer same (inl why) =
         let shows = can.shows in
-        let rooms = idle_rooms can.shape can.mint (joined can.handed) can.journals (λ n. limit_at limit (held n)) shows.limits shows.kept can.idle can.fits in
-        unopened_none content images limit count held before now can.shape can.mint (joined can.handed) can.journals can.shows rooms can.steady (Some (genesis_id mint)) answer (ap genesis_id same) why
+        let rooms = idle_rooms can.shape can.mint (joined can.handed) can.journals (λ n. limit_at device (held n)) shows.limits shows.kept can.idle can.fits in
+        unopened_none device held before now can.shape can.mint (joined can.handed) can.journals can.shows rooms can.steady (Some (genesis_id mint)) answer (ap genesis_id same) why
 
-    unaudited : (answer : Answer) → WhyUnaudited files files_before files_now content images limit count held before now file clients answer → answer ≡ answers.Memory
+    unaudited : (answer : Answer) → WhyUnaudited files files_before files_now device held before now file clients answer → answer ≡ answers.Memory
     unaudited answer (inl not_read) = not_read_none files files_before files_now file.place mint_of_file file.name.now can.mint answer can.holds not_read
     unaudited answer (inr (mint, read, inl not_read)) = clients_none files files_before files_now clients can.handed answer can.clients_hold not_read
     unaudited answer (inr (mint, read, inr (handed, are_read, why))) = unopened mint answer (this_mint mint read) why
 
-    never_wrong : (place : ℕ) (kind : UnsoundKind) → WasAudited files content images limit held back file clients (Unsound place kind) → ⊥
+    never_wrong : (place : ℕ) (kind : UnsoundKind) → WasAudited files device held back file clients (Unsound place kind) → ⊥
     never_wrong place kind was =
-        audit_sound content held can.shape can.mint (joined can.handed) can.journals can.shows can.idle can.clean place kind
-        (subst (λ (m : List Output). IsAudited content held m (joined can.handed) (Unsound place kind)) (this_mint was.mint was.read)
-        (subst (λ (hs : List (List FullTx)). IsAudited content held was.mint (joined hs) (Unsound place kind)) (these_files was.handed was.clients_read) was.audited))
+        audit_sound device held can.shape can.mint (joined can.handed) can.journals can.shows can.idle can.clean place kind
+        (subst (λ (m : List Output). IsAudited device held m (joined can.handed) (Unsound place kind)) (this_mint was.mint was.read)
+        (subst (λ (hs : List (List FullTx)). IsAudited device held was.mint (joined hs) (Unsound place kind)) (these_files was.handed was.clients_read) was.audited))
 
-    unsound : (answer : Answer) → IsUnsoundBy (WasAudited files content images limit held back file clients) answer → answer ≡ answers.Memory
+    unsound : (answer : Answer) → IsUnsoundBy (WasAudited files device held back file clients) answer → answer ≡ answers.Memory
     unsound (answers.Unsound place kind) was = absurd (never_wrong place kind was)
     unsound answers.Ok was = absurd was
     unsound answers.BadWords was = absurd was
@@ -139,7 +140,7 @@ module _ {D : Type 0} (files : Text → Option (List ℕ)) (files_before files_n
     unsound (answers.DiskFault n) was = absurd was
     unsound answers.Memory was = absurd was
 
-    audit_none : (answer : Answer) → WhyNoAudit files files_before files_now content images limit count held back before now file clients answer → answer ≡ answers.Memory
+    audit_none : (answer : Answer) → WhyNoAudit files files_before files_now device held back before now file clients answer → answer ≡ answers.Memory
     audit_none answer why = elim why.1 [
       | inl wrong ↦ unsound answer wrong
       | inr without ↦ unaudited answer without
@@ -163,10 +164,10 @@ module _ {D : Type 0} (files : Text → Option (List ℕ)) (files_before files_n
   gen_none shape seed size (answers.DiskFault n) clean why = absurd why
 
   abbrev Free : Request → Type 0
-  Free r = IsUnhindered files files_before files_now content limit held before now r
+  Free r = IsUnhindered files files_before files_now device held before now r
 
   abbrev Caused : Request → Answer → Type 0
-  Caused r answer = Why files files_before files_now content images limit count held back before now r answer
+  Caused r answer = Why files files_before files_now device held back before now r answer
 
   -- nothing but want of memory is the cause
   why_none : (r : Request) (answer : Answer) → Free r → Caused r answer → answer ≡ answers.Memory
@@ -181,17 +182,17 @@ module _ {D : Type 0} (files : Text → Option (List ℕ)) (files_before files_n
   -- the same request is hindered no more
   free_alike : (r other : Request) → AreAlike r other → Free r → Free other
   free_alike (Init shape mint) (Init kind file) alike free =
-      subst (λ (s : Shape). CanInit files files_before files_now content limit held before now s file.name.now) alike.0
-      (subst (λ (name : Text). CanInit files files_before files_now content limit held before now shape name) alike.1 free)
+      subst (λ (s : Shape). CanInit files files_before files_now device held before now s file.name.now) alike.0
+      (subst (λ (name : Text). CanInit files files_before files_now device held before now shape name) alike.1 free)
   free_alike (Run verdicts clients options) (Run others words settings) alike free =
-      subst (λ (names : List Text). CanRun files files_before files_now content limit held before now others.name.now names) alike.1
-      (subst (λ (name : Text). CanRun files files_before files_now content limit held before now name (names_of clients.items)) alike.0 free)
+      subst (λ (names : List Text). CanRun files files_before files_now device held before now others.name.now names) alike.1
+      (subst (λ (name : Text). CanRun files files_before files_now device held before now name (names_of clients.items)) alike.0 free)
   free_alike Recover Recover alike free = free
   free_alike (Status hashes) (Status sought) alike free = (subst AreWhole alike free.0, free.1)
   free_alike (Audit mint clients) (Audit file others) alike free =
-      subst (λ (names : List Text). CanAudit files files_before files_now content limit held before now file.name.now names) alike.1
-      (subst (λ (name : Text). CanAudit files files_before files_now content limit held before now name (names_of clients.items)) alike.0 free)
-  free_alike (Gen shape seed size) (Gen kind number count) alike free = subst (λ k. Clean (mint_of number k) (all_of number k)) alike.2 (subst (λ k. Clean (mint_of k size) (all_of k size)) alike.1 free)
+      subst (λ (names : List Text). CanAudit files files_before files_now device held before now file.name.now names) alike.1
+      (subst (λ (name : Text). CanAudit files files_before files_now device held before now name (names_of clients.items)) alike.0 free)
+  free_alike (Gen shape seed size) (Gen kind number device.count) alike free = subst (λ k. Clean (mint_of number k) (all_of number k)) alike.2 (subst (λ k. Clean (mint_of k size) (all_of k size)) alike.1 free)
   free_alike (Show text) (Show other) alike free = tt
   free_alike _ _ alike free = absurd alike
 

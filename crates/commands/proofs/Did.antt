@@ -2,6 +2,7 @@
 use Rattle.std.proofs.Common.{◌≡◌, ◌++◌, ℕ, List, [], take, Option, Some, Result, Ok, Err, ◌∙◌, ap}
 use Rattle.std.proofs.Math.Seq.{take-nil}
 use Rattle.std.proofs.lemmas.List.{append-nil}
+use Rattle.outside.specs.declared.disk.Disk.{Ghosts}
 use Rattle.cbdc_types.specs.declared.answer.Answer.{Answer}
 use Rattle.cbdc_types.specs.declared.answer.Answer.TheVariants as answers
 use Rattle.requests.specs.declared.Request.{Request}
@@ -12,9 +13,9 @@ use Rattle.init_command.proofs.Did.{init_by}
 use Rattle.commands.specs.Outcomes.{Did}
 use Rattle.command_answers.specs.Texts.{IsPrinted}
 
-module _ {D : Type 0} (files : Text → Option (List ℕ)) (content : D → Option (List ℕ)) (images : D → List ℕ → Type 0) (limit : D → ℕ) (before now : ℕ → Option D) (P Q : Text → Type 0) (by : (text : Text) → P text → Q text) where
-  pub did_by : (r : Request) → Did files content images limit before now P r → Did files content images limit before now Q r
-  did_by (Init shape mint) is = init_by files content images limit before now P Q by shape mint is
+module _ {D : Type 0} (files : Text → Option (List ℕ)) (device : Ghosts D) (before now : ℕ → Option D) (P Q : Text → Type 0) (by : (text : Text) → P text → Q text) where
+  pub did_by : (r : Request) → Did files device before now P r → Did files device before now Q r
+  did_by (Init shape mint) is = init_by files device before now P Q by shape mint is
   did_by (Run verdicts clients options) is = record {
     handed = is.handed;
     known = is.known;
@@ -34,7 +35,7 @@ module _ {D : Type 0} (files : Text → Option (List ℕ)) (content : D → Opti
   did_by (Status hashes) is =
       record { shape = is.shape; genesis = is.genesis; journals = is.journals; limits = is.limits; opened = is.opened; room = is.room; back = is.back; holds = is.holds; prints = by _ is.prints }
   did_by (Audit mint clients) is = record { totals = is.totals; was = is.was; sentence = is.sentence; prints = by _ is.prints }
-  did_by (Gen shape seed count) is = (is.0, (is.1.0, is.1.1, by is.1.0 is.1.2))
+  did_by (Gen shape seed device.count) is = (is.0, (is.1.0, is.1.1, by is.1.0 is.1.2))
   did_by (Show text) is = by _ is
 
 -- nothing more was printed

@@ -1,5 +1,6 @@
 -- Of a ledger that was opened, none of whose records is not caused, no refusal has its cause in the disks.
 use Rattle.std.proofs.Common.{◌≡◌, ◌⊎◌, inl, inr, ⊎_elim, ℕ, List, reverse, Option, Some, None, Result, Ok, sym, ◌∙◌, subst, ap}
+use Rattle.outside.specs.declared.disk.Disk.{Ghosts}
 use Rattle.line_text.specs.Lines.{Text}
 use Rattle.client_files.specs.declared.fault.BadFile.{BadFile}
 use Rattle.cbdc_types.specs.Limits.{IsWithinLimits}
@@ -30,22 +31,22 @@ use Rattle.commands.specs.Outcomes.{Did}
 same_mint : (r : Result (List Output) BadFile) (a b : List Output) → r ≡ Ok a → r ≡ Ok b → a ≡ b
 same_mint r a b is also = let same = sym is ∙ also in cc
 
-module _ {D : Type 0} (content : D → Option (List ℕ)) (images : D → List ℕ → Type 0) (limit count : D → ℕ) (held : ℕ → Option D) where
+module _ {D : Type 0} (device : Ghosts D) (held : ℕ → Option D) where
   -- what is not opened is answered by no place of a history
-  no_place : (before now : ℕ → ℕ) (id : Option Digest) (place : ℕ) (kind : UnsoundKind) → IsUnopenedBy content images limit count held before now id (answers.Unsound place kind) → ⊥
+  no_place : (before now : ℕ → ℕ) (id : Option Digest) (place : ℕ) (kind : UnsoundKind) → IsUnopenedBy device held before now id (answers.Unsound place kind) → ⊥
   no_place before now id place kind (inl (inl refused)) = refused.kind
   no_place before now None place kind (inl (inr (inl other))) = other.other
   no_place before now (Some id) place kind (inl (inr (inl other))) = let same = other.other.1 in absurd cc
   no_place before now id place kind (inl (inr (inr lacks))) = lacks.refused.kind
   no_place before now id place kind (inr lacks) = lacks.refused.kind
 
-  module _ (K : Shape) (g : Digest) (J : ℕ → List Record) (limits : IsWithinLimits K) (opens : EachOpens content held K g J) (room : AllHaveRoom limit held K J) (tell : AllTell content held K) where
-    opened : (id : Option Digest) → IsMintOf id (header_of K g 0) → (before now : ℕ → ℕ) (answer : Answer) → IsOfDisks answer → IsUnopenedBy content images limit count held before now id answer → ⊥
+  module _ (K : Shape) (g : Digest) (J : ℕ → List Record) (limits : IsWithinLimits K) (opens : EachOpens device held K g J) (room : AllHaveRoom device held K J) (tell : AllTell device held K) where
+    opened : (id : Option Digest) → IsMintOf id (header_of K g 0) → (before now : ℕ → ℕ) (answer : Answer) → IsOfDisks answer → IsUnopenedBy device held before now id answer → ⊥
     opened id mint before now (answers.Unsound place kind) of cause = no_place before now id place kind cause
     opened id mint before now answer of cause =
-        none_refused content images limit count held before now K g J (tell_told content held K g J limits opens tell) answer of (λ full. room) id mint cause
+        none_refused device held before now K g J (tell_told device held K g J limits opens tell) answer of (λ full. room) id mint cause
 
-  resumed : (ledger : IsCausedLedger content held) → AllHaveRoom limit held ledger.shape (λ n. journal n (reverse ledger.rows)) → HasNoCause content held (IsUnresumed content images limit count held)
+  resumed : (ledger : IsCausedLedger device held) → AllHaveRoom device held ledger.shape (λ n. journal n (reverse ledger.rows)) → HasNoCause device held (IsUnresumed device held)
   resumed ledger room = record {
     shape = ledger.shape;
     genesis = ledger.genesis;
@@ -54,12 +55,12 @@ module _ {D : Type 0} (content : D → Option (List ℕ)) (images : D → List �
     opens = ledger.history.opened;
     none = λ tell before now answer of cause. elim cause [
       | inl unopened ↦ opened ledger.shape ledger.genesis (λ n. journal n (reverse ledger.rows)) ledger.history.limits ledger.history.opened room tell None tt before now answer of unopened
-      | inr later ↦ ⊎_elim (λ unsound. not_both content images limit count held ledger answer tell unsound) (λ memory. subst IsOfDisks memory of) later
+      | inr later ↦ ⊎_elim (λ unsound. not_both device held ledger answer tell unsound) (λ memory. subst IsOfDisks memory of) later
     ];
   }
 
   module _ (files : Text → Option (List ℕ)) where
-    audited : (now : ℕ → Option D) (file : FileWord) (clients : List FileWord) (verdict : Verdict) → WasAudited files content images limit held now file clients verdict → HasNoCause content held (IsUnopenedOf files content images limit count held file.name.now)
+    audited : (now : ℕ → Option D) (file : FileWord) (clients : List FileWord) (verdict : Verdict) → WasAudited files device held now file clients verdict → HasNoCause device held (IsUnopenedOf files device held file.name.now)
     audited now file clients verdict was =
         let is = was.audited in
         let J : ℕ → List Record = λ n. journal n (reverse is.rows) in
@@ -76,7 +77,7 @@ module _ {D : Type 0} (content : D → Option (List ℕ)) (images : D → List �
         }
 
     -- what was done
-    did_exact : (now : ℕ → Option D) (printed : Text → Type 0) (r : Request) → Did files content images limit held now printed r → IsExact files content images limit count held r
+    did_exact : (now : ℕ → Option D) (printed : Text → Type 0) (r : Request) → Did files device held now printed r → IsExact files device held r
     did_exact now printed (Run verdicts clients options) did = resumed did.caused.ledger did.caused.room
     did_exact now printed Recover did = resumed did.0.ledger did.0.room
     did_exact now printed (Status hashes) did = record {
@@ -93,29 +94,29 @@ module _ {D : Type 0} (content : D → Option (List ℕ)) (images : D → List �
     did_exact now printed (Show text) did = tt
 
     -- what ended later
-    unsound_exact : (now : ℕ → Option D) (file : FileWord) (clients : List FileWord) (answer : Answer) → IsUnsoundBy (WasAudited files content images limit held now file clients) answer → HasNoCause content held (IsUnopenedOf files content images limit count held file.name.now)
+    unsound_exact : (now : ℕ → Option D) (file : FileWord) (clients : List FileWord) (answer : Answer) → IsUnsoundBy (WasAudited files device held now file clients) answer → HasNoCause device held (IsUnopenedOf files device held file.name.now)
     unsound_exact now file clients (answers.Unsound place kind) was = audited now file clients (Unsound place kind) was
     unsound_exact now file clients answer was = absurd was
 
-    later_exact : (now : ℕ → Option D) (disks_before disks_now : ℕ → ℕ) (r : Request) (answer : Answer) → IsEndedLater files content images limit held now disks_before disks_now r answer → IsExact files content images limit count held r
+    later_exact : (now : ℕ → Option D) (disks_before disks_now : ℕ → ℕ) (r : Request) (answer : Answer) → IsEndedLater files device held now disks_before disks_now r answer → IsExact files device held r
     later_exact now disks_before disks_now (Run verdicts clients options) answer later = let lane = later.2 in resumed lane.ledger lane.room
     later_exact now disks_before disks_now Recover answer lane = resumed lane.ledger lane.room
     later_exact now disks_before disks_now (Audit mint clients) answer was = unsound_exact now mint clients.items answer was
     later_exact now disks_before disks_now r answer later = absurd later
 
     -- the same request
-    exact_alike : (r other : Request) → AreAlike r other → IsExact files content images limit count held r → IsExact files content images limit count held other
+    exact_alike : (r other : Request) → AreAlike r other → IsExact files device held r → IsExact files device held other
     exact_alike (Init shape mint) (Init kind file) alike exact = tt
     exact_alike (Run verdicts clients options) (Run told words settings) alike exact = exact
     exact_alike Recover Recover alike exact = exact
     exact_alike (Status hashes) (Status sought) alike exact = exact
-    exact_alike (Audit mint clients) (Audit file words) alike exact = subst (λ (name : Text). HasNoCause content held (IsUnopenedOf files content images limit count held name)) alike.0 exact
-    exact_alike (Gen shape seed size) (Gen kind number count) alike exact = tt
+    exact_alike (Audit mint clients) (Audit file words) alike exact = subst (λ (name : Text). HasNoCause device held (IsUnopenedOf files device held name)) alike.0 exact
+    exact_alike (Gen shape seed size) (Gen kind number device.count) alike exact = tt
     exact_alike (Show text) (Show other) alike exact = tt
     exact_alike _ _ alike exact = absurd alike
 
     pub exact : (now : ℕ → Option D) (disks_before disks_now : ℕ → ℕ) (printed : Text → Type 0) (words : List Text) (r : Request) (answer : Answer) → IsAsked words r
-        → ((other : Request) × IsAsked words other × Did files content images limit held now printed other) ⊎ IsEndedLater files content images limit held now disks_before disks_now r answer
-        → IsExact files content images limit count held r
+        → ((other : Request) × IsAsked words other × Did files device held now printed other) ⊎ IsEndedLater files device held now disks_before disks_now r answer
+        → IsExact files device held r
     exact now disks_before disks_now printed words r answer asked (inl did) = exact_alike did.0 r (one_request_law words did.0 r did.1 asked) (did_exact now printed did.0 did.2)
     exact now disks_before disks_now printed words r answer asked (inr later) = later_exact now disks_before disks_now r answer later

@@ -3,6 +3,7 @@ use Rattle.std.proofs.Common.{◌≡◌, ◌⊎◌, ◌<◌, ◌≤◌, ◌+◌,
 use Rattle.std.specs.Prelude.{is_some}
 use Rattle.std.proofs.lemmas.Bool.{cases_lt}
 use Rattle.outside.specs.Counts.{Rose}
+use Rattle.outside.specs.declared.disk.Disk.{Ghosts}
 use Rattle.line_text.specs.Lines.{Text}
 use Rattle.cbdc_types.specs.declared.answer.Answer.{Answer}
 use Rattle.cbdc_types.specs.declared.answer.Answer.TheVariants as answers
@@ -20,7 +21,7 @@ use Rattle.command_answers.specs.Causes.{IsWell}
 use Rattle.commands.specs.Complete.{IsUnhindered}
 use Rattle.commands.specs.InMemory.{IsFree}
 
-module _ {D : Type 0} (files : Text → Option (List ℕ)) (files_before files_now : Text → ℕ) (content : D → Option (List ℕ)) (limit : D → ℕ) (held : ℕ → Option D) (before now : ℕ → ℕ)
+module _ {D : Type 0} (files : Text → Option (List ℕ)) (files_before files_now : Text → ℕ) (device : Ghosts D) (held : ℕ → Option D) (before now : ℕ → ℕ)
     (files_steady : (name : Text) (bytes : List ℕ) → files name ≡ Some bytes → Rose (files_before name) (files_now name) → ⊥) (nodes_steady : (n : ℕ) → n < 80 → Rose (before n) (now n) → ⊥) where
   holds_file : {X : Type 0} (read : List ℕ → Result X BadFile) (name : Text) (held : X) → HoldsFile files (λ _. 0) (λ _. 0) read name held → HoldsFile files files_before files_now read name held
   holds_file read name held holds = record { bytes = holds.bytes; told = holds.told; reads = holds.reads; steady = files_steady name holds.bytes holds.told }
@@ -40,7 +41,7 @@ module _ {D : Type 0} (files : Text → Option (List ℕ)) (files_before files_n
   steady : (K : Shape) → K.shards ≤ 64 → K.coordinators ≤ 16 → NoneRises K before now
   steady K shards coordinators n low = nodes_steady n (omega (arith, low, shards, coordinators))
 
-  ready : (sound : FullTx → Bool) (handed : List (List FullTx)) → IsReady content limit held (λ _. 0) (λ _. 0) sound handed → IsReady content limit held before now sound handed
+  ready : (sound : FullTx → Bool) (handed : List (List FullTx)) → IsReady device held (λ _. 0) (λ _. 0) sound handed → IsReady device held before now sound handed
   ready sound handed is = record {
     shape = is.shape;
     mint = is.mint;
@@ -51,7 +52,7 @@ module _ {D : Type 0} (files : Text → Option (List ℕ)) (files_before files_n
     steady = steady is.shape is.shows.limits.shards is.shows.limits.coordinators;
   }
 
-  pub unhindered : (words : List Text) (r : Request) → IsAsked words r → IsFree files content limit held r → IsUnhindered files files_before files_now content limit held before now r
+  pub unhindered : (words : List Text) (r : Request) → IsAsked words r → IsFree files device held r → IsUnhindered files files_before files_now device held before now r
   unhindered words (Init shape mint) asked free =
       let shaped = asked.1.1 in
       record {

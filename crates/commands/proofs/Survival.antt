@@ -2,6 +2,7 @@
 use Rattle.std.proofs.Common.{◌≡◌, ◌∙◌, ◌⊎◌, inl, inr, ℕ, ◌<◌, ◌≤◌, List, [], ◌∷◌, ◌++◌, reverse, Bool, true, false, ◌==◌, if◌then◌else◌, Option, Some, None, refl, sym, ap, subst, arith}
 use Rattle.std.proofs.lemmas.List.{append-nil}
 use Rattle.outside.specs.Images.{NoMore}
+use Rattle.outside.specs.declared.disk.Disk.{Ghosts}
 use Rattle.line_text.specs.Lines.{Text}
 use Rattle.cbdc_types.specs.Limits.{IsWithinLimits}
 use Rattle.cbdc_types.specs.declared.answer.Answer.{Answer}
@@ -78,11 +79,11 @@ abbrev told_or : Option (List ℕ) → List ℕ
 told_or None = []
 told_or (Some c) = c
 
-module _ {D : Type 0} (content : D → Option (List ℕ)) (images : D → List ℕ → Type 0) (reads : (d : D) (c : List ℕ) → content d ≡ Some c → images d c) (limit : D → ℕ) (before now : ℕ → Option D)
-    (K : Shape) (mint : List Output) (submissions : List FullTx) (E : ℕ → List Record) (within : IsWithinLimits K) (shown : Shows content before K (genesis_id mint) E) (kept : KeptJournals K mint submissions E) where
+module _ {D : Type 0} (device : Ghosts D) (reads : (d : D) (c : List ℕ) → device.content d ≡ Some c → device.images d c) (device : Ghosts D) (before now : ℕ → Option D)
+    (K : Shape) (mint : List Output) (submissions : List FullTx) (E : ℕ → List Record) (within : IsWithinLimits K) (shown : Shows device before K (genesis_id mint) E) (kept : KeptJournals K mint submissions E) where
   abbrev bytes_of : Option D → List ℕ
   bytes_of None = []
-  bytes_of (Some d) = told_or (content d)
+  bytes_of (Some d) = told_or (device.content d)
 
   -- bytes of a disk that is told now, or else what it told before
   abbrev pick : Option D → List ℕ → List ℕ → List ℕ
@@ -96,27 +97,27 @@ module _ {D : Type 0} (content : D → Option (List ℕ)) (images : D → List �
   shown_bytes n inside = let s = shown n inside in ap bytes_of s.1 ∙ ap told_or s.2.1
 
   -- what a disk told is an image of it
-  shown_image : (n : ℕ) (d : D) → n < node_count K → before n ≡ Some d → images d (bytes_of (before n))
+  shown_image : (n : ℕ) (d : D) → n < node_count K → before n ≡ Some d → device.images d (bytes_of (before n))
   shown_image n d inside is =
       let s = shown n inside in
       let same : s.0 ≡ d = let z : Some s.0 ≡ Some d = sym s.1 ∙ is in cc in
-      subst (λ (c : List ℕ). images d c) (sym (shown_bytes n inside)) (subst (λ (x : D). images x s.2.0) same (reads s.0 s.2.0 s.2.1))
+      subst (λ (c : List ℕ). device.images d c) (sym (shown_bytes n inside)) (subst (λ (x : D). device.images x s.2.0) same (reads s.0 s.2.0 s.2.1))
 
   -- a crash leaves nothing of the ledger's disks that it could not leave before
   abbrev LeavesNoMore : Type 0
-  LeavesNoMore = (n : ℕ) → n < node_count K → OfTold (before n) (λ was. OfTold (now n) (λ is. NoMore (images was) (images is)))
+  LeavesNoMore = (n : ℕ) → n < node_count K → OfTold (before n) (λ was. OfTold (now n) (λ is. NoMore (device.images was) (device.images is)))
 
-  left_before : (contents : ℕ → List ℕ) → LeavesNoMore → AreLeft images now K contents → AreLeft images before K (chosen contents)
+  left_before : (contents : ℕ → List ℕ) → LeavesNoMore → AreLeft device now K contents → AreLeft device before K (chosen contents)
   left_before contents fewer left n inside d is = go (now n) refl
     where
-      go : (o : Option D) → now n ≡ o → images d (pick o (bytes_of (before n)) (contents n))
+      go : (o : Option D) → now n ≡ o → device.images d (pick o (bytes_of (before n)) (contents n))
       go None e = shown_image n d inside is
       go (Some x) e = fewer n inside d is x e (contents n) (left n inside x e)
 
-  stays : LeavesNoMore → IsKeptWhatever images before K mint submissions → GrowsWhatever images before now K mint submissions E
+  stays : LeavesNoMore → IsKeptWhatever device before K mint submissions → GrowsWhatever device before now K mint submissions E
   stays fewer whatever contents left = (k.0, opens, k.2, grew)
     where
-      old : AreLeft images before K (chosen contents)
+      old : AreLeft device before K (chosen contents)
       old = left_before contents fewer left
 
       k : (X : ℕ → List Record) × OpenTo before K (chosen contents) X × KeptJournals K mint submissions X
@@ -127,7 +128,7 @@ module _ {D : Type 0} (content : D → Option (List ℕ)) (images : D → List �
           let s = shown n inside in
           subst (λ (o : Option D). OpensTo (reverse (k.0 n)) (pick o (bytes_of (before n)) (contents n))) is (k.1 n inside s.0 s.1)
 
-      grew : (n : ℕ) → n < node_count K → OfTold (before n) (λ d. GrewFrom images d (E n) (k.0 n))
+      grew : (n : ℕ) → n < node_count K → OfTold (before n) (λ d. GrewFrom device d (E n) (k.0 n))
       grew n inside d is = record {
         image = chosen contents n;
         could = old n inside d is;
@@ -143,7 +144,7 @@ module _ {D : Type 0} (content : D → Option (List ℕ)) (images : D → List �
       }
 
   -- a journal that has grown from the one at entry has grown from that of an image
-  from_entry : (X : ℕ → List Record) → ((n : ℕ) → IsEnd (E n) (X n)) → (n : ℕ) → n < node_count K → OfTold (before n) (λ d. GrewFrom images d (E n) (X n))
+  from_entry : (X : ℕ → List Record) → ((n : ℕ) → IsEnd (E n) (X n)) → (n : ℕ) → n < node_count K → OfTold (before n) (λ d. GrewFrom device d (E n) (X n))
   from_entry X grows n inside d is =
       record {
         image = bytes_of (before n);
@@ -154,44 +155,44 @@ module _ {D : Type 0} (content : D → Option (List ℕ)) (images : D → List �
         synced = λ c only. grows n;
       }
 
-  cut_short : (txs : List FullTx) → SurvivesCrashes images limit now K mint (submissions ++ txs) E → GrowsWhatever images before now K mint (submissions ++ txs) E
+  cut_short : (txs : List FullTx) → SurvivesCrashes device now K mint (submissions ++ txs) E → GrowsWhatever device before now K mint (submissions ++ txs) E
   cut_short txs crashes contents left = let k = crashes contents left in (k.0, k.1, k.2.kept, from_entry k.0 k.2.grows)
 
-  come_through : (txs : List FullTx) (exit : ℕ → List Record) → HoldsEach images now K exit → IsGrown K mint (submissions ++ txs) E exit → GrowsWhatever images before now K mint (submissions ++ txs) E
+  come_through : (txs : List FullTx) (exit : ℕ → List Record) → HoldsEach device now K exit → IsGrown K mint (submissions ++ txs) E exit → GrowsWhatever device before now K mint (submissions ++ txs) E
   come_through txs exit holds grown contents left = (exit, (λ n inside d is. holds n inside d is (contents n) (left n inside d is)), grown.kept, from_entry exit grown.grows)
 
   -- no other ledger is made over the one that the disks show
-  in_use : (shape : Shape) (other : List Output) → 0 < shape.coordinators → MayBeMade shape other content before → ⊥
+  in_use : (shape : Shape) (other : List Output) → 0 < shape.coordinators → MayBeMade shape other device before → ⊥
   in_use shape other some was =
       let first : 0 < node_count K = let limits = within in omega (arith, limits.some_coordinator) in
       let s = shown 0 first in
       let is = s.2.2 in
       was.unused 0 (omega (arith, some)) s.0 s.1 s.2.0 s.2.1 (has_first (header_of K (genesis_id mint) 0) (E 0) is.opens.rest s.2.0 (whole_fronts (header_of K (genesis_id mint) 0) (E 0) s.2.0 is.limits is.journal is.opens))
 
-  module _ (files : Text → Option (List ℕ)) (words : List Text) (disks_before disks_now : ℕ → ℕ) (printed : Text → Type 0) (whatever : IsKeptWhatever images before K mint submissions)
+  module _ (files : Text → Option (List ℕ)) (words : List Text) (disks_before disks_now : ℕ → ℕ) (printed : Text → Type 0) (whatever : IsKeptWhatever device before K mint submissions)
       (spared : AreBadOr IsOfNoRack words → (n : ℕ) → now n ≡ before n) where
     abbrev Survived : Type 0
-    Survived = Survives files images before now words K mint submissions E
+    Survived = Survives files device before now words K mint submissions E
 
-    no_more : GrowsWhatever images before now K mint (submissions ++ []) E → Survived
+    no_more : GrowsWhatever device before now K mint (submissions ++ []) E → Survived
     no_more grows = record { txs = []; handed_in = inl refl; grows = grows }
 
     stayed : LeavesNoMore → Survived
-    stayed fewer = no_more (subst (λ (l : List FullTx). GrowsWhatever images before now K mint l E) (sym (append-nil submissions)) (stays fewer whatever))
+    stayed fewer = no_more (subst (λ (l : List FullTx). GrowsWhatever device before now K mint l E) (sym (append-nil submissions)) (stays fewer whatever))
 
     same : ((n : ℕ) → now n ≡ before n) → Survived
-    same e = stayed (λ n inside was told is back c image. let one : was ≡ is = let z : Some was ≡ Some is = sym told ∙ sym (e n) ∙ back in cc in subst (λ (x : D). images x c) (sym one) image)
+    same e = stayed (λ n inside was told is back c image. let one : was ≡ is = let z : Some was ≡ Some is = sym told ∙ sym (e n) ∙ back in cc in subst (λ (x : D). device.images x c) (sym one) image)
 
-    unchanged : AreUnchanged content images limit before now → Survived
+    unchanged : AreUnchanged device before now → Survived
     unchanged are = stayed (λ n inside was told is back. (are n was told is back).read.leaves)
 
-    returned : AreBack content images limit disks_before disks_now before now → Survived
+    returned : AreBack device disks_before disks_now before now → Survived
     returned are = stayed (λ n inside was told is back. (are n was told is back).read.leaves)
 
-    made_none : (shape : Shape) (other : List Output) → 1 ≤ shape.coordinators → MayBeMade shape other content before → Survived
+    made_none : (shape : Shape) (other : List Output) → 1 ≤ shape.coordinators → MayBeMade shape other device before → Survived
     made_none shape other some was = absurd (in_use shape other (omega (arith, some)) was)
 
-    did_survive : (r : Request) → IsAsked words r → Did files content images limit before now printed r → Survived
+    did_survive : (r : Request) → IsAsked words r → Did files device before now printed r → Survived
     did_survive (Init shape mint) asked did = made_none shape did.mint asked.1.1.coordinators.2.some did.was
     did_survive (Run verdicts clients options) asked did =
         let told = did.ran K mint submissions E within shown kept in
@@ -209,7 +210,7 @@ module _ {D : Type 0} (content : D → Option (List ℕ)) (images : D → List �
     did_survive (Gen shape seed size) asked did = same did.0
     did_survive (Show text) asked did = same (spared (inr (Show text, asked, tt)))
 
-    left_survives : (r : Request) (answer : Answer) → IsAsked words r → Leaves files content images limit before now disks_before disks_now r answer → Survived
+    left_survives : (r : Request) (answer : Answer) → IsAsked words r → Leaves files device before now disks_before disks_now r answer → Survived
     left_survives (Init shape mint) answer asked (other, told, inl back) = returned back
     left_survives (Init shape mint) answer asked (other, told, inr (k, stopped)) = made_none shape other asked.1.1.coordinators.2.some stopped.was
     left_survives (Run verdicts clients options) answer asked (handed, read, known, told, inl back) = returned back
@@ -225,13 +226,13 @@ module _ {D : Type 0} (content : D → Option (List ℕ)) (images : D → List �
     left_survives (Gen shape seed size) answer asked left = same (spared (inr (Gen shape seed size, asked, tt)))
     left_survives (Show text) answer asked left = same (spared (inr (Show text, asked, tt)))
 
-    by_left : (answer : Answer) → ((n : ℕ) → now n ≡ before n) ⊎ ((r : Request) × IsAsked words r × Leaves files content images limit before now disks_before disks_now r answer) → Survived
+    by_left : (answer : Answer) → ((n : ℕ) → now n ≡ before n) ⊎ ((r : Request) × IsAsked words r × Leaves files device before now disks_before disks_now r answer) → Survived
     by_left answer (inl e) = same e
     by_left answer (inr left) = left_survives left.0 answer left.1 left.2
 
     -- whatever was answered
-    pub survives : (answer : Answer) → (IsWell answer → (r : Request) × IsAsked words r × Did files content images limit before now printed r)
-        → ((IsWell answer → ⊥) → ((n : ℕ) → now n ≡ before n) ⊎ ((r : Request) × IsAsked words r × Leaves files content images limit before now disks_before disks_now r answer)) → Survived
+    pub survives : (answer : Answer) → (IsWell answer → (r : Request) × IsAsked words r × Did files device before now printed r)
+        → ((IsWell answer → ⊥) → ((n : ℕ) → now n ≡ before n) ⊎ ((r : Request) × IsAsked words r × Leaves files device before now disks_before disks_now r answer)) → Survived
     survives answers.Ok did left = let d = did tt in did_survive d.0 d.1 d.2
     survives answers.WriteFault did left = let d = did tt in did_survive d.0 d.1 d.2
     survives answers.BadWords did left = by_left answers.BadWords (left (λ w. w))

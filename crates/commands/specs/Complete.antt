@@ -1,5 +1,6 @@
 -- When nothing hinders what is asked: it is done then, unless memory runs out.
 use Rattle.std.specs.Prelude.{ℕ, ◌≤◌, ◌<◌, List, [], Bool, false, Option}
+use Rattle.outside.specs.declared.disk.Disk.{Ghosts}
 use Rattle.line_text.specs.Lines.{Text}
 use Rattle.cbdc_model.specs.Records.{Shape, Record}
 use Rattle.cbdc_model.specs.Coins.{Output, FullTx}
@@ -23,23 +24,23 @@ use Rattle.rack_laws.specs.Making.{CanMake}
 use Rattle.rack_laws.specs.Ready.{IsReady, ShowsKept, NoneRises, limit_at}
 
 -- the file holds a mint of which a ledger can be made (`CanMake`), and no count of faults of its nodes rises
-pub record CanInit {D : Type 0} (files : Text → Option (List ℕ)) (files_before files_now : Text → ℕ) (content : D → Option (List ℕ)) (limit : D → ℕ) (held : ℕ → Option D) (before now : ℕ → ℕ) (shape : Shape) (name : Text) : Type 0 where
+pub record CanInit {D : Type 0} (files : Text → Option (List ℕ)) (files_before files_now : Text → ℕ) (device : Ghosts D) (held : ℕ → Option D) (before now : ℕ → ℕ) (shape : Shape) (name : Text) : Type 0 where
   pub mint : List Output
   pub holds : HoldsFile files files_before files_now mint_of_file name mint
-  pub can : CanMake content limit held shape mint
+  pub can : CanMake device held shape mint
   pub steady : NoneRises shape before now
 
 -- the files hold verdicts and transactions, and the disks show a kept ledger, with room and stamps for all that is to come of them
-pub record CanRun {D : Type 0} (files : Text → Option (List ℕ)) (files_before files_now : Text → ℕ) (content : D → Option (List ℕ)) (limit : D → ℕ) (held : ℕ → Option D) (before now : ℕ → ℕ) (verdicts : Text) (clients : List Text) : Type 0 where
+pub record CanRun {D : Type 0} (files : Text → Option (List ℕ)) (files_before files_now : Text → ℕ) (device : Ghosts D) (held : ℕ → Option D) (before now : ℕ → ℕ) (verdicts : Text) (clients : List Text) : Type 0 where
   pub known : VerdictFile
   pub handed : List (List FullTx)
   pub knows : HoldsVerdicts files files_before files_now verdicts known
   pub holds : HoldClients files files_before files_now 0 clients handed
-  pub ready : IsReady content limit held before now (sound_by (told known)) handed
+  pub ready : IsReady device held before now (sound_by (told known)) handed
 
 -- the files hold a mint and transactions, no hashes of which clash; the disks show a kept ledger of this mint and these transactions, every lane of
 -- which is idle; each disk may hold the bytes that its journal takes; and no count of faults of its nodes rises
-pub record CanAudit {D : Type 0} (files : Text → Option (List ℕ)) (files_before files_now : Text → ℕ) (content : D → Option (List ℕ)) (limit : D → ℕ) (held : ℕ → Option D) (before now : ℕ → ℕ) (name : Text) (clients : List Text) : Type 0 where
+pub record CanAudit {D : Type 0} (files : Text → Option (List ℕ)) (files_before files_now : Text → ℕ) (device : Ghosts D) (held : ℕ → Option D) (before now : ℕ → ℕ) (name : Text) (clients : List Text) : Type 0 where
   pub mint : List Output
   pub handed : List (List FullTx)
   pub holds : HoldsFile files files_before files_now mint_of_file name mint
@@ -47,9 +48,9 @@ pub record CanAudit {D : Type 0} (files : Text → Option (List ℕ)) (files_bef
   pub clean : Clean mint (joined handed)
   pub shape : Shape
   pub journals : ℕ → List Record
-  pub shows : ShowsKept content held shape mint (joined handed) journals
+  pub shows : ShowsKept device held shape mint (joined handed) journals
   pub idle : AreIdle shape journals
-  pub fits : (n : ℕ) → n < node_count shape → used_of (journals n) ≤ limit_at limit (held n)
+  pub fits : (n : ℕ) → n < node_count shape → used_of (journals n) ≤ limit_at device (held n)
   pub steady : NoneRises shape before now
 
 -- no submission is sound where there are none
@@ -59,13 +60,13 @@ none_sound t = false
 -- nothing hinders what is asked: of `init` `CanInit`; of `run` `CanRun`; of `recover` `IsReady` of no files; of `status` the same, and each hash
 -- has its 32 bytes; of `audit` `CanAudit`; of `gen` that no hashes of its workload clash; of a text that is shown nothing more. So of `run`,
 -- `recover` and `status` the disks are `Ample`
-abbrev pub IsUnhindered : {D : Type 0} → (Text → Option (List ℕ)) → (Text → ℕ) → (Text → ℕ) → (D → Option (List ℕ)) → (D → ℕ) → (ℕ → Option D) → (ℕ → ℕ) → (ℕ → ℕ) → Request → Type 0
-IsUnhindered files files_before files_now content limit held before now (Init shape mint) = CanInit files files_before files_now content limit held before now shape mint.name.now
-IsUnhindered files files_before files_now content limit held before now (Run verdicts clients options) =
-    CanRun files files_before files_now content limit held before now verdicts.name.now (names_of clients.items)
-IsUnhindered files files_before files_now content limit held before now Recover = IsReady content limit held before now none_sound []
-IsUnhindered files files_before files_now content limit held before now (Status hashes) = AreWhole hashes.items × IsReady content limit held before now none_sound []
-IsUnhindered files files_before files_now content limit held before now (Audit mint clients) =
-    CanAudit files files_before files_now content limit held before now mint.name.now (names_of clients.items)
-IsUnhindered files files_before files_now content limit held before now (Gen shape seed count) = Clean (mint_of seed count) (all_of seed count)
-IsUnhindered files files_before files_now content limit held before now (Show text) = Unit {0}
+abbrev pub IsUnhindered : {D : Type 0} → (Text → Option (List ℕ)) → (Text → ℕ) → (Text → ℕ) → Ghosts D → (ℕ → Option D) → (ℕ → ℕ) → (ℕ → ℕ) → Request → Type 0
+IsUnhindered files files_before files_now device held before now (Init shape mint) = CanInit files files_before files_now device held before now shape mint.name.now
+IsUnhindered files files_before files_now device held before now (Run verdicts clients options) =
+    CanRun files files_before files_now device held before now verdicts.name.now (names_of clients.items)
+IsUnhindered files files_before files_now device held before now Recover = IsReady device held before now none_sound []
+IsUnhindered files files_before files_now device held before now (Status hashes) = AreWhole hashes.items × IsReady device held before now none_sound []
+IsUnhindered files files_before files_now device held before now (Audit mint clients) =
+    CanAudit files files_before files_now device held before now mint.name.now (names_of clients.items)
+IsUnhindered files files_before files_now device held before now (Gen shape seed device.count) = Clean (mint_of seed device.count) (all_of seed device.count)
+IsUnhindered files files_before files_now device held before now (Show text) = Unit {0}

@@ -1,5 +1,6 @@
 -- Where what was asked for was done, no refusal to open the ledger has its cause in the disks.
 use Rattle.std.specs.Prelude.{◌≡◌, ℕ, List, [], Option, Some, Ok}
+use Rattle.outside.specs.declared.disk.Disk.{Ghosts}
 use Rattle.line_text.specs.Lines.{Text}
 use Rattle.cbdc_types.specs.Limits.{IsWithinLimits}
 use Rattle.cbdc_types.specs.declared.answer.Answer.{Answer}
@@ -27,34 +28,34 @@ IsOfDisks answer = IsOfBytes answer
 
 -- what is told of the disks opens to the journals of a ledger, and where each of its nodes' disks is told, with its content, no such answer has this
 -- cause, whatever the counts of faults are
-pub record HasNoCause {D : Type 0} (content : D → Option (List ℕ)) (held : ℕ → Option D) (cause : (ℕ → ℕ) → (ℕ → ℕ) → Answer → Type 0) : Type 0 where
+pub record HasNoCause {D : Type 0} (device : Ghosts D) (held : ℕ → Option D) (cause : (ℕ → ℕ) → (ℕ → ℕ) → Answer → Type 0) : Type 0 where
   pub shape : Shape
   pub genesis : Digest
   pub journals : ℕ → List Record
   pub limits : IsWithinLimits shape
-  pub opens : EachOpens content held shape genesis journals
-  pub none : AllTell content held shape → (before now : ℕ → ℕ) (answer : Answer) → IsOfDisks answer → cause before now answer → ⊥
+  pub opens : EachOpens device held shape genesis journals
+  pub none : AllTell device held shape → (before now : ℕ → ℕ) (answer : Answer) → IsOfDisks answer → cause before now answer → ⊥
 
 -- the ledger of the mint that a file is told to hold is not opened: the first node that can't be, or node 0 where another mint began it
-abbrev pub IsUnopenedOf : {D : Type 0} → (Text → Option (List ℕ)) → (D → Option (List ℕ)) → (D → List ℕ → Type 0) → (D → ℕ) → (D → ℕ) → (ℕ → Option D) → Text → (ℕ → ℕ) → (ℕ → ℕ) → Answer → Type 0
-IsUnopenedOf files content images limit count held name before now answer =
+abbrev pub IsUnopenedOf : {D : Type 0} → (Text → Option (List ℕ)) → Ghosts D → (ℕ → Option D) → Text → (ℕ → ℕ) → (ℕ → ℕ) → Answer → Type 0
+IsUnopenedOf files device held name before now answer =
     (bytes : List ℕ) × (mint : List Output) × (files name ≡ Some bytes) × (mint_of_file bytes ≡ Ok mint)
-    × IsUnopenedBy content images limit count held before now (Some (genesis_id mint)) answer
+    × IsUnopenedBy device held before now (Some (genesis_id mint)) answer
 
 -- no refusal of what is asked has its cause in the disks: of the ledger that `run` and `recover` resume, that `status` opens, and that `audit` opens by
 -- its mint; of other requests nothing is said
-abbrev pub IsExact : {D : Type 0} → (Text → Option (List ℕ)) → (D → Option (List ℕ)) → (D → List ℕ → Type 0) → (D → ℕ) → (D → ℕ) → (ℕ → Option D) → Request → Type 0
-IsExact files content images limit count held (Run verdicts clients options) = HasNoCause content held (IsUnresumed content images limit count held)
-IsExact files content images limit count held Recover = HasNoCause content held (IsUnresumed content images limit count held)
-IsExact files content images limit count held (Status hashes) = HasNoCause content held (IsUnopened content images limit count held)
-IsExact files content images limit count held (Audit mint clients) = HasNoCause content held (IsUnopenedOf files content images limit count held mint.name.now)
-IsExact files content images limit count held other = Unit {0}
+abbrev pub IsExact : {D : Type 0} → (Text → Option (List ℕ)) → Ghosts D → (ℕ → Option D) → Request → Type 0
+IsExact files device held (Run verdicts clients options) = HasNoCause device held (IsUnresumed device held)
+IsExact files device held Recover = HasNoCause device held (IsUnresumed device held)
+IsExact files device held (Status hashes) = HasNoCause device held (IsUnopened device held)
+IsExact files device held (Audit mint clients) = HasNoCause device held (IsUnopenedOf files device held mint.name.now)
+IsExact files device held other = Unit {0}
 
 -- what was asked ended behind the opening of the ledger: a lane met a fault (`IsLaneFault`), or an audit found something wrong (`IsUnsoundBy`)
-abbrev pub IsEndedLater : {D : Type 0} → (Text → Option (List ℕ)) → (D → Option (List ℕ)) → (D → List ℕ → Type 0) → (D → ℕ) → (ℕ → Option D) → (ℕ → Option D) → (ℕ → ℕ) → (ℕ → ℕ) → Request → Answer → Type 0
-IsEndedLater files content images limit disks now disks_before disks_now (Run verdicts clients options) answer =
+abbrev pub IsEndedLater : {D : Type 0} → (Text → Option (List ℕ)) → Ghosts D → (ℕ → Option D) → (ℕ → Option D) → (ℕ → ℕ) → (ℕ → ℕ) → Request → Answer → Type 0
+IsEndedLater files device disks now disks_before disks_now (Run verdicts clients options) answer =
     (handed : List (List FullTx)) × (known : VerdictFile)
-    × IsLaneFault content images limit disks now disks_before disks_now (PieceNext (told known) handed) (EndsRun (told known) handed) (PiecesPrepared (told known) handed) handed answer
-IsEndedLater files content images limit disks now disks_before disks_now Recover answer = IsLaneFault content images limit disks now disks_before disks_now NothingNext IsLeastOpen NonePrepared [] answer
-IsEndedLater files content images limit disks now disks_before disks_now (Audit mint clients) answer = IsUnsoundBy (WasAudited files content images limit disks now mint clients.items) answer
-IsEndedLater files content images limit disks now disks_before disks_now other answer = ⊥
+    × IsLaneFault device disks now disks_before disks_now (PieceNext (told known) handed) (EndsRun (told known) handed) (PiecesPrepared (told known) handed) handed answer
+IsEndedLater files device disks now disks_before disks_now Recover answer = IsLaneFault device disks now disks_before disks_now NothingNext IsLeastOpen NonePrepared [] answer
+IsEndedLater files device disks now disks_before disks_now (Audit mint clients) answer = IsUnsoundBy (WasAudited files device disks now mint clients.items) answer
+IsEndedLater files device disks now disks_before disks_now other answer = ⊥

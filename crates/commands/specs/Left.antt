@@ -1,5 +1,6 @@
 -- What is left of the disks where what was asked for was not done.
 use Rattle.std.specs.Prelude.{ℕ, List, [], Option}
+use Rattle.outside.specs.declared.disk.Disk.{Ghosts}
 use Rattle.line_text.specs.Lines.{Text}
 use Rattle.cbdc_types.specs.declared.answer.Answer.{Answer}
 use Rattle.requests.specs.declared.Request.{Request}
@@ -14,13 +15,13 @@ use Rattle.run_command.specs.Outcomes.{RunLeaves}
 -- what is left by what was asked for and did not come through: by `init` of a mint that its file holds all disks as they were read, or first records at
 -- the nodes above the one at which their writing stopped; by `run` of transactions that its files hold, and by `recover`, all disks as they were read, or
 -- as a lane's fault leaves them; by `status` and `audit` all disks as they were read; of a workload and of a text that is shown nothing is said here
-abbrev pub Leaves : {D : Type 0} → (Text → Option (List ℕ)) → (D → Option (List ℕ)) → (D → List ℕ → Type 0) → (D → ℕ) → (ℕ → Option D) → (ℕ → Option D) → (ℕ → ℕ) → (ℕ → ℕ) → Request → Answer → Type 0
-Leaves files content images limit before now disks_before disks_now (Init shape mint) answer = InitLeaves files content images limit before now disks_before disks_now shape mint answer
-Leaves files content images limit before now disks_before disks_now (Run verdicts clients options) answer = RunLeaves files content images limit before now disks_before disks_now verdicts clients.items answer
-Leaves files content images limit before now disks_before disks_now Recover answer = TurnsLeave content images limit before now disks_before disks_now NothingNext IsLeastOpen NonePrepared [] answer
-Leaves files content images limit before now disks_before disks_now (Status hashes) answer = AreBack content images limit disks_before disks_now before now
-Leaves files content images limit before now disks_before disks_now (Audit mint clients) answer = AreBack content images limit disks_before disks_now before now
-Leaves files content images limit before now disks_before disks_now other answer = Unit {0}
+abbrev pub Leaves : {D : Type 0} → (Text → Option (List ℕ)) → Ghosts D → (ℕ → Option D) → (ℕ → Option D) → (ℕ → ℕ) → (ℕ → ℕ) → Request → Answer → Type 0
+Leaves files device before now disks_before disks_now (Init shape mint) answer = InitLeaves files device before now disks_before disks_now shape mint answer
+Leaves files device before now disks_before disks_now (Run verdicts clients options) answer = RunLeaves files device before now disks_before disks_now verdicts clients.items answer
+Leaves files device before now disks_before disks_now Recover answer = TurnsLeave device before now disks_before disks_now NothingNext IsLeastOpen NonePrepared [] answer
+Leaves files device before now disks_before disks_now (Status hashes) answer = AreBack device disks_before disks_now before now
+Leaves files device before now disks_before disks_now (Audit mint clients) answer = AreBack device disks_before disks_now before now
+Leaves files device before now disks_before disks_now other answer = Unit {0}
 
 -- what is asked is about no rack: a workload in memory, or a text that is shown
 abbrev pub IsOfNoRack : Request → Type 0

@@ -8,7 +8,7 @@ ghost use Rattle.requests.specs.declared.Request.{Request as Asked};
 ghost use Rattle.commands.specs.InMemory.{IsFree};
 ghost use Rattle.commands.specs.Outcomes.{Did};
 ghost use Rattle.mem_devices.specs.Named.{file_of};
-ghost use Rattle.mem_devices.specs.PlainRacks.{AllIn, bytes_told, bytes_left, room_of, disk_at};
+ghost use Rattle.mem_devices.specs.PlainRacks.{AllIn, disk_at, plain};
 
 use crate::top::{Done, process};
 use cbdc_types::Answer;
@@ -38,11 +38,11 @@ pub fn process_in_memory<const N: usize, W: Wait + Threads + Sync, G: Gate + Syn
     ensures back { AllIn result.rack }
 
     // What was done, as `process` says it.
-    ensures did { IsWell result.status → (r : Asked) × IsAsked (texts words.now) r × Did (λ name. file_of inbox.old.files.items name) bytes_told bytes_left room_of (disk_at rack) (disk_at result.rack)
+    ensures did { IsWell result.status → (r : Asked) × IsAsked (texts words.now) r × Did (λ name. file_of inbox.old.files.items name) plain (disk_at rack) (disk_at result.rack)
         (IsPrinted (Some out.old.bytes.items) (Some out.new.bytes.items) result.status) r }
 
     // Where nothing hinders what is asked, it was done, unless memory ran out, and its lines were written, unless the output is full.
-    ensures complete { (r : Asked) → IsAsked (texts words.now) r → IsFree (λ name. file_of inbox.old.files.items name) bytes_told room_of (disk_at rack) r
+    ensures complete { (r : Asked) → IsAsked (texts words.now) r → IsFree (λ name. file_of inbox.old.files.items name) plain (disk_at rack) r
         → (result.status ≡ Answer.Ok) ⊎ ((result.status ≡ Answer.Memory) ⊎ ((result.status ≡ Answer.WriteFault) × (N ≤ length out.new.bytes.items))) }
 {
     process(rt, alloc, words, inbox, rack, out, gate)

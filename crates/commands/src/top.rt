@@ -126,13 +126,13 @@ where
     requires sized { IsSized request.now }
     ensures back { (n : ℕ) → R.can_take rack.new n }
     ensures cause { IsDone (RequestPlace request.now) (RequestRose request.now (I.count inbox.old) (I.count inbox.new)) (Rose (O.count out.old) (O.count out.new)) result }
-    ensures did { IsWell result → Did (I.file inbox.old) R.Disk.content R.Disk.images R.Disk.limit (R.held rack.old) (R.held rack.new) (IsPrinted (O.taken out.old) (O.taken out.new) result) request.now }
-    ensures why { IsTold (Why (I.file inbox.old) (I.count inbox.old) (I.count inbox.new) R.Disk.content R.Disk.images R.Disk.limit R.Disk.count (R.held rack.old) (R.held rack.new) (R.count rack.old) (R.count rack.new) request.now) result }
+    ensures did { IsWell result → Did (I.file inbox.old) R.Disk.Disk (R.held rack.old) (R.held rack.new) (IsPrinted (O.taken out.old) (O.taken out.new) result) request.now }
+    ensures why { IsTold (Why (I.file inbox.old) (I.count inbox.old) (I.count inbox.new) R.Disk.Disk (R.held rack.old) (R.held rack.new) (R.count rack.old) (R.count rack.new) request.now) result }
     ensures untouched { IsBeforeDisks result → rack.new ≡ rack.old }
     ensures spared { IsOfNoRack request.now → rack.new ≡ rack.old }
     ensures unread { IsOfNoFile request.now → inbox.new ≡ inbox.old }
     ensures files { (name : Text) → I.file inbox.new name ≡ I.file inbox.old name }
-    ensures left { (IsWell result → ⊥) → (rack.new ≡ rack.old) ⊎ Leaves (I.file inbox.old) R.Disk.content R.Disk.images R.Disk.limit (R.held rack.old) (R.held rack.new) (R.count rack.old) (R.count rack.new) request.now result }
+    ensures left { (IsWell result → ⊥) → (rack.new ≡ rack.old) ⊎ Leaves (I.file inbox.old) R.Disk.Disk (R.held rack.old) (R.held rack.new) (R.count rack.old) (R.count rack.new) request.now result }
     ensures silent { IsSilent (O.taken out.old) (O.taken out.new) result }
     ensures written_later { O.count out.old ≤ O.count out.new }
 {
@@ -171,13 +171,13 @@ where
     ensures back { (n : ℕ) → R.can_take rack.new n }
     ensures cause { IsAnswered (texts words.entry.now) (I.count inbox.old) (I.count inbox.new) (Rose (O.count out.old) (O.count out.new)) result.status }
     ensures told { IsRefused (texts words.entry.now) WordsFault.Bad → (result.status ≡ Answer.BadWords) ⊎ (result.status ≡ Answer.Memory) }
-    ensures did { IsWell result.status → (r : Asked) × IsAsked (texts words.entry.now) r × Did (I.file inbox.old) R.Disk.content R.Disk.images R.Disk.limit (R.held rack.old) (R.held rack.new) (IsPrinted (O.taken out.old) (O.taken out.new) result.status) r }
-    ensures why { IsTold (λ a. (r : Asked) × IsAsked (texts words.entry.now) r × Why (I.file inbox.old) (I.count inbox.old) (I.count inbox.new) R.Disk.content R.Disk.images R.Disk.limit R.Disk.count (R.held rack.old) (R.held rack.new) (R.count rack.old) (R.count rack.new) r a) result.status }
+    ensures did { IsWell result.status → (r : Asked) × IsAsked (texts words.entry.now) r × Did (I.file inbox.old) R.Disk.Disk (R.held rack.old) (R.held rack.new) (IsPrinted (O.taken out.old) (O.taken out.new) result.status) r }
+    ensures why { IsTold (λ a. (r : Asked) × IsAsked (texts words.entry.now) r × Why (I.file inbox.old) (I.count inbox.old) (I.count inbox.new) R.Disk.Disk (R.held rack.old) (R.held rack.new) (R.count rack.old) (R.count rack.new) r a) result.status }
     ensures untouched { IsBeforeDisks result.status → rack.new ≡ rack.old }
     ensures spared { AreBadOr IsOfNoRack (texts words.entry.now) → rack.new ≡ rack.old }
     ensures unread { AreBadOr IsOfNoFile (texts words.entry.now) → inbox.new ≡ inbox.old }
     ensures files { (name : Text) → I.file inbox.new name ≡ I.file inbox.old name }
-    ensures left { (IsWell result.status → ⊥) → (rack.new ≡ rack.old) ⊎ ((r : Asked) × IsAsked (texts words.entry.now) r × Leaves (I.file inbox.old) R.Disk.content R.Disk.images R.Disk.limit (R.held rack.old) (R.held rack.new) (R.count rack.old) (R.count rack.new) r result.status) }
+    ensures left { (IsWell result.status → ⊥) → (rack.new ≡ rack.old) ⊎ ((r : Asked) × IsAsked (texts words.entry.now) r × Leaves (I.file inbox.old) R.Disk.Disk (R.held rack.old) (R.held rack.new) (R.count rack.old) (R.count rack.new) r result.status) }
     ensures named { Names (AskedName (texts words.entry.now)) result.status result.name.now }
     ensures silent { IsSilent (O.taken out.old) (O.taken out.new) result.status }
     ensures written_later { O.count out.old ≤ O.count out.new }
@@ -255,7 +255,7 @@ where
     // batches open there. In each place of a ledger that was made, run over or brought to an end there is as much room as there was. A look
     // and an audit change nothing: each disk reads as it did, and whatever a crash leaves of one that told its content opens to exactly the
     // journal that was read.
-    ensures did { IsWell result.status → (r : Asked) × IsAsked (texts words.now) r × Did (I.file inbox.old) R.Disk.content R.Disk.images R.Disk.limit (R.held rack) (R.held result.rack) (IsPrinted (O.taken out.old) (O.taken out.new) result.status) r }
+    ensures did { IsWell result.status → (r : Asked) × IsAsked (texts words.now) r × Did (I.file inbox.old) R.Disk.Disk (R.held rack) (R.held result.rack) (IsPrinted (O.taken out.old) (O.taken out.new) result.status) r }
 
     // At every other status the sink took the line of the fault and nothing else, or, where its count rose, a front of it. At BadInput and
     // ReadFault the file has a place among the words, and the name in the line is the one that stands there (verdicts may stand behind their
@@ -284,7 +284,7 @@ where
     // `gen` ends with Ok, WriteFault or Memory; or its audit is Unsound with just this place and kind, and then two outputs of the workload share a
     // hash or two transactions an id. No other answer comes: the workload fits, its nodes in memory have room and stamps for all that it writes,
     // none of them is at fault or in use, and no record is without its cause.
-    ensures why { IsTold (λ a. (r : Asked) × IsAsked (texts words.now) r × Why (I.file inbox.old) (I.count inbox.old) (I.count inbox.new) R.Disk.content R.Disk.images R.Disk.limit R.Disk.count (R.held rack) (R.held result.rack) (R.count rack) (R.count result.rack) r a) result.status }
+    ensures why { IsTold (λ a. (r : Asked) × IsAsked (texts words.now) r × Why (I.file inbox.old) (I.count inbox.old) (I.count inbox.new) R.Disk.Disk (R.held rack) (R.held result.rack) (R.count rack) (R.count result.rack) r a) result.status }
 
     // At BadWords, BadInput, ReadFault and TooMuch the rack is as it was: no disk was taken. Tested in `ledger_rows` (`left.rows`,
     // `bad_words.rows`).
@@ -309,12 +309,12 @@ where
     // is in use); or the writing of first records stopped at a node that has no room or whose disk failed, or where memory ran out: the disks of
     // the nodes below it are unchanged, those above it hold their first records, and a crash leaves of its own no first record, or what it might
     // have left before, or, where the disk failed, the new one alone. Tested in `left.rows`.
-    ensures left { (IsWell result.status → ⊥) → (result.rack ≡ rack) ⊎ ((r : Asked) × IsAsked (texts words.now) r × Leaves (I.file inbox.old) R.Disk.content R.Disk.images R.Disk.limit (R.held rack) (R.held result.rack) (R.count rack) (R.count result.rack) r result.status) }
+    ensures left { (IsWell result.status → ⊥) → (result.rack ≡ rack) ⊎ ((r : Asked) × IsAsked (texts words.now) r × Leaves (I.file inbox.old) R.Disk.Disk (R.held rack) (R.held result.rack) (R.count rack) (R.count result.rack) r result.status) }
 
     // Whatever was answered: of a kept ledger that the disks showed, and that was kept whatever a crash before the call left of them, whatever a
     // crash behind it leaves opens to kept journals, with the transactions of the files that were to be run besides or without. Each of these has
     // grown at its end from a journal that a crash before might have left of its disk: where nothing was unsynced there, from the one that it told.
-    ensures survives { StaysKeptWhatever (I.file inbox.old) R.Disk.content R.Disk.images (R.held rack) (R.held result.rack) (texts words.now) }
+    ensures survives { StaysKeptWhatever (I.file inbox.old) R.Disk.Disk (R.held rack) (R.held result.rack) (texts words.now) }
 
     // Of `run`, `recover`, `status`, `audit`: where it comes through (Ok or WriteFault), where a lane's fault ends a run or a recovery, and where
     // an audit finds something wrong, nothing that the disks held at entry was to be refused: what is told of them opens to the journals of a
@@ -322,8 +322,8 @@ where
     // Damaged, Foreign or Full, whatever the counts of faults (at `audit` in the ledger of the mint that the file is told to hold), nor at `run`
     // and `recover` any record to be the first that is not caused. So, but for a disk's fault and running out of memory, the ledger is refused only
     // where it is so (`why`), and nothing is done over one where it is so.
-    ensures exact { (r : Asked) → IsAsked (texts words.now) r → IsWell result.status ⊎ IsEndedLater (I.file inbox.old) R.Disk.content R.Disk.images R.Disk.limit (R.held rack) (R.held result.rack) (R.count rack) (R.count result.rack) r result.status
-        → IsExact (I.file inbox.old) R.Disk.content R.Disk.images R.Disk.limit R.Disk.count (R.held rack) r }
+    ensures exact { (r : Asked) → IsAsked (texts words.now) r → IsWell result.status ⊎ IsEndedLater (I.file inbox.old) R.Disk.Disk (R.held rack) (R.held result.rack) (R.count rack) (R.count result.rack) r result.status
+        → IsExact (I.file inbox.old) R.Disk.Disk (R.held rack) r }
 
     // Where nothing hinders what is asked it ends with Ok or Memory, or with WriteFault, where the sink's count rose (`written`). Nothing does
     // where no count of a file that is named or of a node of the ledger rises, all files and disks that it is about are told, and
@@ -333,7 +333,7 @@ where
     // same of no transactions; of `status` the same, and each hash has its 32 bytes;
     // of `audit` the files hold the mint of the kept ledger that the disks show and transactions of which it is kept, all lanes are idle, no hashes
     // clash, and what is used is within each disk's limit; of `gen` no hashes of its workload clash.
-    ensures complete { (r : Asked) → IsAsked (texts words.now) r → IsUnhindered (I.file inbox.old) (I.count inbox.old) (I.count inbox.new) R.Disk.content R.Disk.limit (R.held rack) (R.count rack) (R.count result.rack) r
+    ensures complete { (r : Asked) → IsAsked (texts words.now) r → IsUnhindered (I.file inbox.old) (I.count inbox.old) (I.count inbox.new) R.Disk.Disk (R.held rack) (R.count rack) (R.count result.rack) r
         → IsWell result.status ⊎ (result.status ≡ Answer.Memory) }
 
     // BadWords only where the words have a mistake, or a value is out of form (as `parse` refuses them).

@@ -3,3 +3,8 @@ pub mod Standing
 pub mod Deciding
 pub mod Outcomes
 pub mod Following
+pub mod Same
+pub mod Rooms
+pub mod Journals
+pub mod Kept
+pub mod Roomy

@@ -3,7 +3,7 @@ use Rattle.std.specs.Prelude.{◌≡◌, ℕ, List}
 use Rattle.cbdc_model.specs.Records.{Record, Batch, last_stamp, txs_of}
 use Rattle.cbdc_model.specs.Slots.{slot, InPrepare}
 use Rattle.coord_core.specs.Masks.{masks_of}
-use Rattle.coord_core.specs.Lanes.{CoordOf, IsOwn, lane_at}
+use Rattle.coord_core.specs.Lanes.{CoordOf, IsOwn, lane_at, AllRoomed}
 
 -- the batch that a lane's slot names
 abbrev pub batch_of : List Record → ℕ → Batch
@@ -14,3 +14,8 @@ pub record StandsFor (c : CoordOf) (J : List Record) : Type 0 where
   pub last : c.last ≡ last_stamp J
   pub slots : (lane : ℕ) → IsOwn c.header lane → (lane_at c lane).slot ≡ slot J lane
   pub masks : (lane : ℕ) → IsOwn c.header lane → (slot J lane).phase ≡ InPrepare → (lane_at c lane).masks ≡ masks_of c.header.shape.shards (txs_of J (batch_of J lane))
+
+-- and its prepared batches have room for their outcomes
+pub record IsRoomyFor (c : CoordOf) (J : List Record) : Type 0 where
+  pub stands : StandsFor c J
+  pub rooms : AllRoomed c

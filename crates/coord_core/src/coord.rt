@@ -226,6 +226,7 @@ impl CoordCore {
     pub fn records_ahead(&self) -> usize
         ensures value { result ≡ ahead_of self.now.lanes }
         ensures bound { result ≤ 48 }
+        ensures whole { IsWhole self.now }
     {
         let mut ahead = 0;
         for lane in &self.lanes {

@@ -9,6 +9,7 @@ mod copying;
 mod lane;
 mod mask;
 mod phase;
+mod replaying;
 
 pub use coord::CoordCore;
 pub use copying::copied_txs;

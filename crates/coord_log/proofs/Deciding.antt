@@ -22,9 +22,10 @@ use Rattle.coord_core.specs.Stands.{StandsFor}
 use Rattle.coord_core.proofs.Deciding.{latest_is}
 use Rattle.coord_log.specs.Logs.{commit_due}
 use Rattle.coord_log.specs.Inside.{largest, IsReady, StandsOn, IsDue}
-use Rattle.coord_log.proofs.Going.{stands_same}
-use Rattle.coord_log.proofs.Journals.{prepared_size}
-use Rattle.coord_log.proofs.Places.{commit_place, others_roomed, next_fits, next_ahead, commit_size}
+use Rattle.coord_core.proofs.Rooms.{others_roomed}
+use Rattle.coord_core.proofs.Same.{stands_same}
+use Rattle.coord_core.proofs.Journals.{prepared_size}
+use Rattle.coord_log.proofs.Places.{commit_place, next_fits, next_ahead, commit_size}
 use Rattle.coord_log.proofs.Owed.{batch_is, named_batch, in_time, too_late, memory_for, all_memory}
 
 -- the stamp of a Commit by these replies

@@ -1,5 +1,3 @@
-pub mod Going
-pub mod Journals
 pub mod Kept
 pub mod Written
 pub mod Places
@@ -7,7 +5,5 @@ pub mod Owed
 pub mod Deciding
 pub mod Preparing
 pub mod Opened
-pub mod Stops
-pub mod Leaving
 pub mod Foreign
 pub mod Flying

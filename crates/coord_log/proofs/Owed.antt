@@ -17,10 +17,12 @@ use Rattle.record_log.specs.Logs.{HasRoom}
 use Rattle.record_log.specs.declared.log.RecordLog.{RecordLog}
 use Rattle.coord_core.specs.Lanes.{CoordOf, IsWhole, IsOwn, IsNext, lane_at, lane_kept, ahead_in, ahead_of, open_batch as core_batch}
 use Rattle.coord_core.specs.Stands.{StandsFor}
-use Rattle.coord_log.specs.Logs.{LogOf, sight, Breaks}
-use Rattle.coord_log.specs.Inside.{shown, largest, IsReady, StandsOn, IsDue}
-use Rattle.coord_log.proofs.Journals.{SlotFacts, slot_facts}
-use Rattle.coord_log.proofs.Places.{discard_place, done_place, all_others, next_fits, next_ahead}
+use Rattle.node_journal.specs.Nodes.{NodeOf, sight, broken_behind}
+use Rattle.node_journal.specs.Shown.{shown}
+use Rattle.coord_log.specs.Inside.{largest, IsReady, StandsOn, IsDue}
+use Rattle.coord_core.proofs.Rooms.{all_others}
+use Rattle.coord_core.proofs.Journals.{SlotFacts, slot_facts}
+use Rattle.coord_log.proofs.Places.{discard_place, done_place, next_fits, next_ahead}
 
 -- the record was written, or the disk failed at it
 pub meets_ok : {A : Type 0} (memory : Bool) (due : Due A) (a : A) (r : Record) (old new : Sight) (J : List Record) → due ≡ Writes a r → Appends old new J r → Meets memory due old new J (Ok a)
@@ -29,8 +31,8 @@ meets_ok memory due a r old new J is appends = inr (r, is, appends)
 pub meets_err : {A : Type 0} (memory : Bool) (due : Due A) (a : A) (r : Record) (old new : Sight) (J : List Record) (e : NodeFault) → due ≡ Writes a r → e ≡ DiskFault → Fails old new J r → Meets memory due old new J (Err e)
 meets_err memory due a r old new J e is fault fails = let P : NodeFault → Type 0 = λ x. MeetsFault memory due old new J x in subst P (sym fault) (a, r, is, fails)
 
-pub breaks_err : (A : Type 0) (e : NodeFault) (old new : Option ℕ) (now : ℕ) → e ≡ DiskFault → new ≡ Some now → Breaks {A = A} (Err e) old new now
-breaks_err A e old new now fault is = let P : NodeFault → Type 0 = λ x. Breaks {A = A} (Err x) old new now in subst P (sym fault) is
+pub breaks_err : (A : Type 0) (e : NodeFault) (old new : Option ℕ) (now : ℕ) → e ≡ DiskFault → new ≡ Some now → new ≡ broken_behind {A = A} (Err e) now old
+breaks_err A e old new now fault is = let P : NodeFault → Type 0 = λ x. new ≡ broken_behind {A = A} (Err x) now old in subst P (sym fault) is
 
 -- within the bound
 pub in_time : {A : Type 0} (broken : Option ℕ) (bound stamp : ℕ) (due : Due A) → broken ≡ None → stamp ≤ bound → unless_broken broken (if_early bound stamp due) ≡ due
@@ -139,29 +141,29 @@ done_ready {D} {G} l c flight lane stamp r whole on sound ready own phase some l
     })
 
 -- the same of what contracts see
-pub told_err : {A D : Type 0} {G : Ghosts D} (memory : Bool) (due : Option ℕ → List Record → Due A) (old new : RecordLog D G) (opened : ℕ) (flight left : Option Record) (now : LogOf D) (a : A) (r : Record) (e : NodeFault)
+pub told_err : {A D : Type 0} {G : Ghosts D} (memory : Bool) (due : Option ℕ → List Record → Due A) (old new : RecordLog D G) (opened : ℕ) (flight left : Option Record) (now : NodeOf D) (a : A) (r : Record) (e : NodeFault)
     → shown old opened flight ≡ now → due (broken_of old.journal) (reverse old.records.items) ≡ Writes a r
     → (e ≡ DiskFault) × Fails (sight (shown old opened flight)) (sight (shown new opened left)) (reverse old.records.items) r
     → MeetsFault memory (due now.broken now.journal) (sight now) (sight (shown new opened left)) now.journal e
 told_err {A} {D} memory due old new opened flight left now a r e is owed told =
-    let P : LogOf D → Type 0 = λ x. MeetsFault memory (due x.broken x.journal) (sight x) (sight (shown new opened left)) x.journal e in
+    let P : NodeOf D → Type 0 = λ x. MeetsFault memory (due x.broken x.journal) (sight x) (sight (shown new opened left)) x.journal e in
     subst P is (meets_err memory (due (broken_of old.journal) (reverse old.records.items)) a r (sight (shown old opened flight)) (sight (shown new opened left)) (reverse old.records.items) e owed told.0 told.1)
 
-pub told_ok : {A D : Type 0} {G : Ghosts D} (memory : Bool) (due : Option ℕ → List Record → Due A) (old new : RecordLog D G) (opened : ℕ) (flight left : Option Record) (now : LogOf D) (a : A) (r : Record)
+pub told_ok : {A D : Type 0} {G : Ghosts D} (memory : Bool) (due : Option ℕ → List Record → Due A) (old new : RecordLog D G) (opened : ℕ) (flight left : Option Record) (now : NodeOf D) (a : A) (r : Record)
     → shown old opened flight ≡ now → due (broken_of old.journal) (reverse old.records.items) ≡ Writes a r
     → Appends (sight (shown old opened flight)) (sight (shown new opened left)) (reverse old.records.items) r
     → Meets memory (due now.broken now.journal) (sight now) (sight (shown new opened left)) now.journal (Ok a)
 told_ok {A} {D} memory due old new opened flight left now a r is owed told =
-    let P : LogOf D → Type 0 = λ x. Meets memory (due x.broken x.journal) (sight x) (sight (shown new opened left)) x.journal (Ok a) in
+    let P : NodeOf D → Type 0 = λ x. Meets memory (due x.broken x.journal) (sight x) (sight (shown new opened left)) x.journal (Ok a) in
     subst P is (meets_ok memory (due (broken_of old.journal) (reverse old.records.items)) a r (sight (shown old opened flight)) (sight (shown new opened left)) (reverse old.records.items) owed told)
 
 -- the lane is the lanes' own, and in the phase of the journal
-pub own_lane : {D : Type 0} {G : Ghosts D} (l : RecordLog D G) (c : CoordOf) (opened : ℕ) (flight : Option Record) (now : LogOf D) (lane : ℕ) → shown l opened flight ≡ now → c.header ≡ l.header → IsOwn now.header lane → IsOwn c.header lane
+pub own_lane : {D : Type 0} {G : Ghosts D} (l : RecordLog D G) (c : CoordOf) (opened : ℕ) (flight : Option Record) (now : NodeOf D) (lane : ℕ) → shown l opened flight ≡ now → c.header ≡ l.header → IsOwn now.header lane → IsOwn c.header lane
 own_lane {D} l c opened flight now lane is header own =
-    let P : LogOf D → Type 0 = λ x. IsOwn x.header lane in
+    let P : NodeOf D → Type 0 = λ x. IsOwn x.header lane in
     let Q : Header → Type 0 = λ h. IsOwn h lane in
     subst Q (sym header) (subst P (sym is) own)
 
-pub own_phase : {D : Type 0} {G : Ghosts D} (l : RecordLog D G) (opened : ℕ) (flight : Option Record) (now : LogOf D) (lane : ℕ) (p : Phase) → shown l opened flight ≡ now → (slot now.journal lane).phase ≡ p
+pub own_phase : {D : Type 0} {G : Ghosts D} (l : RecordLog D G) (opened : ℕ) (flight : Option Record) (now : NodeOf D) (lane : ℕ) (p : Phase) → shown l opened flight ≡ now → (slot now.journal lane).phase ≡ p
     → (slot (reverse l.records.items) lane).phase ≡ p
-own_phase {D} l opened flight now lane p is phase = let P : LogOf D → Type 0 = λ x. (slot x.journal lane).phase ≡ p in subst P (sym is) phase
+own_phase {D} l opened flight now lane p is phase = let P : NodeOf D → Type 0 = λ x. (slot x.journal lane).phase ≡ p in subst P (sym is) phase

@@ -23,10 +23,11 @@ use Rattle.coord_core.specs.Hashes.{AreHashed}
 use Rattle.coord_core.specs.Lanes.{CoordOf, IsWhole, IsOwn, IsNext, IsSameButRoom, HasGrown, no_lane, lane_at, kept_of, ahead_of, next_batch}
 use Rattle.coord_core.specs.Stands.{StandsFor}
 use Rattle.coord_log.specs.Logs.{IsShort}
-use Rattle.coord_log.specs.Inside.{shown, largest, IsReady, StandsOn, IsSound, IsDue, IsNoRoom}
-use Rattle.coord_log.proofs.Going.{stands_same}
-use Rattle.coord_log.proofs.Places.{prepare_place, rooms_grow, fewer}
-use Rattle.coord_log.proofs.Kept.{kept_is}
+use Rattle.coord_log.specs.Inside.{largest, IsReady, StandsOn, IsSound, IsDue, IsNoRoom}
+use Rattle.coord_core.proofs.Rooms.{rooms_grow}
+use Rattle.coord_core.proofs.Same.{stands_same}
+use Rattle.coord_log.proofs.Places.{prepare_place, fewer}
+use Rattle.coord_core.proofs.Kept.{kept_is}
 use Rattle.coord_log.proofs.Owed.{in_time}
 
 -- more room, and nothing else
@@ -63,19 +64,6 @@ sound_kept {D} {G} old new b c opened flight untouched records header keeps same
       fits = rw (header, records, limit) sound.fits;
       free = omega (arith, sound.free, used, same.kept, limit);
     }
-
-pub shown_same : {D : Type 0} {G : Ghosts D} (old new : RecordLog D G) (opened : ℕ) (flight : Option Record) → IsUntouched old new → new.records.items ≡ old.records.items → new.header ≡ old.header → shown new opened flight ≡ shown old opened flight
-shown_same {D} {G} old new opened flight untouched records header = λ i. record {
-  header = header i;
-  journal = reverse (records i);
-  flight = flight;
-  faults = G.count (untouched.disk i);
-  opened = opened;
-  broken = untouched.broken i;
-  used = untouched.gate i + 1;
-  capacity = G.limit (untouched.disk i);
-  disk = untouched.disk i;
-}
 
 -- there was no room
 pub room_refused : {A : Type 0} (due : Due A) (old new : Sight) (J : List Record) (used need limit : ℕ) (fault : NodeFault) → IsNoRoom used need limit fault

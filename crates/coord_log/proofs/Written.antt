@@ -1,15 +1,14 @@
 -- What a write leaves of a coordinator's parts.
-use Rattle.std.proofs.Common.{◌≡◌, ℕ, ◌+◌, ◌-◌, ◌≤◌, List, [], ◌∷◌, ◌++◌, length, reverse, refl, ap, sym, ◌∙◌, subst, arith, Some, None, Option, Result, Err}
+use Rattle.std.proofs.Common.{◌≡◌, ℕ, ◌+◌, ◌≤◌, List, [], ◌∷◌, ◌++◌, length, reverse, refl, ap, sym, ◌∙◌, subst, arith, Some, None, Option, Result, Err}
 use Rattle.std.specs.Prelude.{MatchOption, IfSome, IsOkUnless, sum_by}
 use Rattle.std.proofs.lemmas.Bool.{le-ltb}
-use Rattle.std.proofs.lemmas.List.{reverse-append, reverse-reverse}
+use Rattle.std.proofs.lemmas.List.{reverse-append}
 use Rattle.std.proofs.lemmas.List.Sums.{sum_by-cons}
 use Rattle.outside.specs.Counts.{Rose}
 use Rattle.outside.specs.declared.disk.Disk.{Ghosts}
 use Rattle.gate_journal.specs.Shown.{disk_of, gate_of, broken_of}
 use Rattle.gate_journal.specs.Appending.{refusal}
 use Rattle.gate_journal.specs.declared.faults.AppendFault.{AppendFault}
-use Rattle.gate_journal.specs.Rows.{OpensWithOrWithout}
 use Rattle.cbdc_types.specs.Limits.{IsWithinLimits}
 use Rattle.cbdc_model.specs.Records.{Header, Record}
 use Rattle.cbdc_model.specs.Grammar.{IsInGrammar}
@@ -19,17 +18,16 @@ use Rattle.cbdc_model.specs.Room.{size_of, need_of}
 use Rattle.cbdc_model.specs.Sights.{HasRisen, IsBrokenSince}
 use Rattle.record_log.specs.Bodies.{body_of}
 use Rattle.record_log.proofs.LogSizes.{size_is}
-use Rattle.record_log.specs.Held.{bodies_of, OpensToEither}
-use Rattle.record_log.specs.Logs.{HoldsAll, HasRoom}
+use Rattle.record_log.specs.Logs.{HasRoom}
 use Rattle.record_log.specs.declared.log.LogFault.{LogFault}
 use Rattle.record_log.specs.declared.log.LogFault.TheVariants.{DiskFault}
 use Rattle.record_log.specs.declared.log.RecordLog.{RecordLog}
 use Rattle.coord_core.specs.Lanes.{CoordOf, Takes, ahead_of}
 use Rattle.coord_core.specs.Stands.{StandsFor}
-use Rattle.coord_log.specs.Logs.{HoldsJournal}
-use Rattle.coord_log.specs.Inside.{shown, largest, HasPlace, IsSound, IsDue}
-use Rattle.coord_log.proofs.Journals.{follows_next, journal_more}
-use Rattle.coord_log.proofs.Going.{takes_header}
+use Rattle.coord_log.specs.Inside.{largest, HasPlace, IsSound, IsDue}
+use Rattle.coord_core.proofs.Journals.{follows_next}
+use Rattle.node_journal.proofs.Journals.{goes_on}
+use Rattle.coord_core.proofs.Same.{takes_header}
 
 -- where there is room, only the disk can fail
 pub only_disk : {T : Type 0} (P : AppendFault → Type 0) (broken : Option ℕ) (used need limit : ℕ) (result : Result T LogFault) → broken ≡ None → used + need ≤ limit
@@ -79,7 +77,7 @@ sound_after {D} {G} old new c d flight r opened due since later records header g
         header = takes_header c d r takes ∙ due.on.header ∙ sym header;
         limits = let P : Header → Type 0 = λ h. IsWithinLimits h.shape in subst P (sym header) due.on.limits;
         stands = let P : List Record → Type 0 = λ x. StandsFor d x in subst P (sym J) stands;
-        journal = let P : Header → List Record → Type 0 = λ h x. IsJournal h x in rw (header, J) (journal_more old.header (reverse old.records.items) r due.on.journal after);
+        journal = let P : Header → List Record → Type 0 = λ h x. IsJournal h x in rw (header, J) (goes_on old.header (reverse old.records.items) r due.on.journal after);
       };
       since_opened = omega arith;
       broken = let B : Option ℕ → Type 0 = λ b. IsBrokenSince opened (G.count (disk_of new.journal)) b in subst B (sym whole) tt;
@@ -122,31 +120,4 @@ sound_broken {D} {G} old new c flight r opened due since rose later records head
       unbroken = λ e. absurd (let z : Some r ≡ None = e in cc);
       fits = rw (header, records, limit) due.needs;
       free = omega (arith, ap (λ x. used_of (reverse x)) records, due.used, due.free, limit);
-    }
-
--- a disk that holds the records, and nothing in flight
-pub to_journal : {D : Type 0} {G : Ghosts D} (l : RecordLog D G) (opened : ℕ) (flight : Option Record) → flight ≡ None → HoldsAll l l.records.items → HoldsJournal G.content G.images (shown l opened flight)
-to_journal {D} {G} l opened flight none holds =
-    let same : reverse (reverse l.records.items) ≡ l.records.items = reverse-reverse l.records.items in
-    let at : gate_of l.journal + 1 - 1 ≡ gate_of l.journal = omega arith in
-    record {
-      each = λ c image. rw (none, same) (let P : List ℕ → Type 0 = λ x. OpensToEither l.records.items None x in subst P (sym (holds.durable c image)) holds.opens);
-      reads = λ e. rw (at, same) holds;
-    }
-
-pub from_journal : {D : Type 0} {G : Ghosts D} (l : RecordLog D G) (opened : ℕ) (flight : Option Record) → broken_of l.journal ≡ None → HoldsJournal G.content G.images (shown l opened flight) → HoldsAll l l.records.items
-from_journal {D} {G} l opened flight whole journal =
-    let same : reverse (reverse l.records.items) ≡ l.records.items = reverse-reverse l.records.items in
-    let at : gate_of l.journal + 1 - 1 ≡ gate_of l.journal = omega arith in
-    let h = journal.reads whole in
-    rw (at, same) at h
-
--- a disk that failed leaves the record in flight
-pub to_broken : {D : Type 0} {G : Ghosts D} (l : RecordLog D G) (records : List Record) (opened : ℕ) (r : Record) → l.records.items ≡ records → broken_of l.journal ≡ Some (G.count (disk_of l.journal))
-    → ((c : List ℕ) → G.images (disk_of l.journal) c → OpensWithOrWithout (bodies_of records) (body_of r) c) → HoldsJournal G.content G.images (shown l opened (Some r))
-to_broken {D} {G} l records opened r same broken each =
-    let twice : reverse (reverse l.records.items) ≡ records = reverse-reverse l.records.items ∙ same in
-    record {
-      each = λ c image. rw twice (each c image);
-      reads = λ e. cc;
     }

@@ -15,21 +15,6 @@ use Rattle.record_log.specs.declared.log.RecordLog.{RecordLog}
 use Rattle.record_log.specs.Logs.{HasRoom}
 use Rattle.coord_core.specs.Lanes.{CoordOf, IsNext, Takes, AllRoomed, kept_of, ahead_of}
 use Rattle.coord_core.specs.Stands.{StandsFor}
-use Rattle.coord_log.specs.Logs.{LogOf}
-
--- what contracts see of these parts
-abbrev pub shown : {D : Type 0} {G : Ghosts D} → RecordLog D G → ℕ → Option Record → LogOf D
-shown {D} {G} l opened flight = record {
-  header = l.header;
-  journal = reverse l.records.items;
-  flight = flight;
-  faults = G.count (disk_of l.journal);
-  opened = opened;
-  broken = broken_of l.journal;
-  used = gate_of l.journal + 1;
-  capacity = G.limit (disk_of l.journal);
-  disk = disk_of l.journal;
-}
 
 -- the most bytes of a later record's body
 abbrev pub largest : ℕ

@@ -12,7 +12,8 @@ ghost use Rattle.coord_core.specs.Phases.{slot_of};
 ghost use Rattle.coord_core.specs.Hashes.{AllNameBatches};
 ghost use Rattle.coord_core.specs.Decided.{RisesBelow, AllEarlier, AreRepliesTo};
 ghost use Rattle.coord_core.specs.Lanes.{IsOwn};
-ghost use Rattle.coord_log.specs.Logs.{sight, HoldsJournal, LeavesBetween, Breaks, IsShort, commit_due};
+ghost use Rattle.coord_log.specs.Logs.{IsShort, commit_due};
+ghost use Rattle.node_journal.specs.Nodes.{sight, HoldsJournal, LeavesBetween, broken_behind};
 ghost use Rattle.coord_log.specs.OpenLanes.{open_lane};
 
 use crate::copying::{outcomes_of, stamp_of, tell, txs_of};
@@ -32,8 +33,7 @@ const LAST_PREPARE: u64 = 1 << 62;
 /// The last stamp of a Commit, a Discard or a Done.
 const LAST_STAMP: u64 = (1 << 62) + (1 << 20);
 
-/// A coordinator on its disk. Contracts see its header, its journal (the newest record first), the record that a
-/// failed call may have left on the disk, how often the disk has failed, and the disk.
+/// A coordinator on its disk. Contracts see of it what they see of any node (`NodeOf`).
 #[derive(Drop)]
 pub struct CoordLog<D: Disk> {
     alloc: Global,
@@ -44,10 +44,11 @@ pub struct CoordLog<D: Disk> {
 }
 
 impl<D: Disk> Model for CoordLog<D> {
-    ghost use Rattle.coord_log.specs.Logs.{LogOf};
-    ghost use Rattle.coord_log.specs.Inside.{shown, IsSound};
+    ghost use Rattle.node_journal.specs.Nodes.{NodeOf};
+    ghost use Rattle.node_journal.specs.Shown.{shown};
+    ghost use Rattle.coord_log.specs.Inside.{IsSound};
 
-    ghost Value = { LogOf D };
+    ghost Value = { NodeOf D };
 
     ghost view = { λ l. shown l.log l.opened l.flight };
 
@@ -55,7 +56,8 @@ impl<D: Disk> Model for CoordLog<D> {
 }
 
 impl<D: Disk> CoordLog<D> {
-    ghost use Rattle.coord_log.specs.Inside.{shown, IsSound, IsDue};
+    ghost use Rattle.node_journal.specs.Shown.{shown};
+    ghost use Rattle.coord_log.specs.Inside.{IsSound, IsDue};
 
     /// The header of its journal. Takes no memory.
     pub fn header(&self) -> &Header
@@ -135,7 +137,7 @@ impl<D: Disk> CoordLog<D> {
 
         // It does what the journal says, or wants memory.
         ensures meets { Meets true (prepare_due self.old.header.shape self.old.capacity lane txs.now self.old.broken self.old.journal) (sight self.old) (sight self.new) self.old.journal result }
-        ensures breaks { Breaks result self.old.broken self.new.broken self.new.faults }
+        ensures broken { self.new.broken ≡ broken_behind result self.new.faults self.old.broken }
         ensures journal { IsJournal self.new.header self.new.journal }
         ensures header { self.new.header ≡ self.old.header }
         ensures limit { self.new.capacity ≡ self.old.capacity }
@@ -200,7 +202,7 @@ impl<D: Disk> CoordLog<D> {
         ensures bound { IfOk result (λ t. t ≤ 2 ^ 62 + 2 ^ 20) }
         ensures count { OnOk result (length out.new.items ≡ length (txs_of self.old.journal (open_batch self.old.journal lane))) }
         ensures node { IsSameNode (sight self.old) (sight self.new) }
-        ensures breaks { Breaks result self.old.broken self.new.broken self.new.faults }
+        ensures broken { self.new.broken ≡ broken_behind result self.new.faults self.old.broken }
         ensures journal { IsJournal self.new.header self.new.journal }
         ensures header { self.new.header ≡ self.old.header }
         ensures limit { self.new.capacity ≡ self.old.capacity }
@@ -235,7 +237,7 @@ impl<D: Disk> CoordLog<D> {
         requires committed { (slot self.old.journal lane).phase ≡ InCommit }
         requires cause { cause < 2 ^ 63 }
         ensures meets { Meets false (discard_due lane cause self.old.broken self.old.journal) (sight self.old) (sight self.new) self.old.journal result }
-        ensures breaks { Breaks result self.old.broken self.new.broken self.new.faults }
+        ensures broken { self.new.broken ≡ broken_behind result self.new.faults self.old.broken }
         ensures journal { IsJournal self.new.header self.new.journal }
         ensures header { self.new.header ≡ self.old.header }
         ensures limit { self.new.capacity ≡ self.old.capacity }
@@ -269,7 +271,7 @@ impl<D: Disk> CoordLog<D> {
         requires discarded { (slot self.old.journal lane).phase ≡ InDiscard }
         requires cause { cause < 2 ^ 63 }
         ensures meets { Meets false (done_due lane cause self.old.broken self.old.journal) (sight self.old) (sight self.new) self.old.journal result }
-        ensures breaks { Breaks result self.old.broken self.new.broken self.new.faults }
+        ensures broken { self.new.broken ≡ broken_behind result self.new.faults self.old.broken }
         ensures journal { IsJournal self.new.header self.new.journal }
         ensures header { self.new.header ≡ self.old.header }
         ensures limit { self.new.capacity ≡ self.old.capacity }

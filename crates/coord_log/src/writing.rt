@@ -6,8 +6,9 @@ ghost use Rattle.cbdc_model.specs.Room.{room_behind_prepare};
 ghost use Rattle.cbdc_model.specs.Sights.{Appends, Fails};
 ghost use Rattle.coord_core.specs.Lanes.{IsWhole, kept_of, ahead_of};
 ghost use Rattle.record_log.specs.Logs.{HasRoom, KeepsRoom, IsUntouched};
-ghost use Rattle.coord_log.specs.Logs.{sight, HoldsJournal, LeavesBetween};
-ghost use Rattle.coord_log.specs.Inside.{shown, largest, IsSound, IsDue, IsNoRoom};
+ghost use Rattle.node_journal.specs.Nodes.{sight, HoldsJournal, LeavesBetween};
+ghost use Rattle.node_journal.specs.Shown.{shown};
+ghost use Rattle.coord_log.specs.Inside.{largest, IsSound, IsDue, IsNoRoom};
 
 use cbdc_types::{NodeFault, Record};
 use coord_core::CoordCore;

@@ -6,9 +6,8 @@ use Rattle.cbdc_model.specs.Records.{Shape, Header, Batch, Compact, Outcome, Rec
 use Rattle.cbdc_model.specs.Slots.{Slot, slot, slot_stamp}
 use Rattle.cbdc_model.specs.Ranges.{home_of}
 use Rattle.cbdc_model.specs.Grammar.{HasSize}
-use Rattle.coord_log.specs.Logs.{LogOf, sight}
+use Rattle.node_journal.specs.Nodes.{NodeOf, sight}
 use Rattle.coord_log.specs.OpenLanes.{open_lane, open_phase}
-use Rattle.shard_node.specs.Shards.{ShardOf, sight_of}
 use Rattle.node_ports.specs.Nodes.{sight_at}
 use Rattle.lane_laws.specs.Batches.{own}
 use Rattle.lane_laws.proofs.Own.{slot_own, stamp_own}
@@ -44,7 +43,7 @@ same_open lane L M same =
     stamps : slot_stamp M lane ≡ slot_stamp L lane
     stamps = stamp_own lane M ∙ ap (λ N. slot_stamp N lane) same ∙ sym (stamp_own lane L)
 
-module _ {D : Type 0} (count limit : D → ℕ) (content : D → Option (List ℕ)) (images : D → List ℕ → Type 0) (h : Header) (lane : ℕ) (logs : List (LogOf D)) (shards : List (ShardOf D))
+module _ {D : Type 0} (content : D → Option (List ℕ)) (images : D → List ℕ → Type 0) (h : Header) (lane : ℕ) (logs shards : List (NodeOf D))
     (ledger : IsLedger h logs shards) (lt : IsLaneOf h.shape lane) where
   abbrev K : Shape
   K = h.shape
@@ -53,29 +52,29 @@ module _ {D : Type 0} (count limit : D → ℕ) (content : D → Option (List �
   opens l = open_lane (sight_at sight logs (home_of K l)).seen l
 
   abbrev I : ℕ → List Record
-  I = journals_of count limit h.shape logs shards
+  I = journals_of h.shape logs shards
 
   sizes : (found : Option OpenLane) → opens lane ≡ found → IfSome found (λ o. HasSize K o.txs)
   sizes None told = tt
   sizes (Some o) told =
       let shape = ap (λ k. k.shape) (ledger.log_headers (home_of K lane) (home_inside lane K.coordinators K.lanes lt)) in
-      subst (λ k. HasSize k o.txs) shape (open_at count limit h logs shards lane (home_of K lane) o ledger lt refl told).size
+      subst (λ k. HasSize k o.txs) shape (open_at h logs shards lane (home_of K lane) o ledger lt refl told).size
 
-  pub is_found : (at : ℕ) (x : LogOf D) → at ≡ home_of K lane → x ≡ get_or logs at x → {E : Type 0} (found : Result (Option OpenLane) E) → IfOk found (λ o. o ≡ open_lane x.journal lane) → IfOk found (IsFound K I opens lane)
+  pub is_found : (at : ℕ) (x : NodeOf D) → at ≡ home_of K lane → x ≡ get_or logs at x → {E : Type 0} (found : Result (Option OpenLane) E) → IfOk found (λ o. o ≡ open_lane x.journal lane) → IfOk found (IsFound K I opens lane)
   is_found at x at_is is (Err e) told = tt
   is_found at x at_is is (Ok found) told =
-      let there : opens lane ≡ found = told_there count limit content images h lane logs shards ledger lt at x at_is is found found told refl in
+      let there : opens lane ≡ found = told_there content images h lane logs shards ledger lt at x at_is is found found told refl in
       record {
         told = sym there;
-        idle = λ none. none_open count limit content images h lane logs shards ledger lt (there ∙ none);
+        idle = λ none. none_open content images h lane logs shards ledger lt (there ∙ none);
         size = sizes found there;
       }
 
   -- another lane's is what it was behind a turn of this one
-  pub opens_keep : (logs' : List (LogOf D)) (shards' : List (ShardOf D)) → GrowBy lane I (journals_of count limit h.shape logs' shards') → KeepsOpens K lane opens (λ l. open_lane (sight_at sight logs' (home_of K l)).seen l)
+  pub opens_keep : (logs' : List (NodeOf D)) (shards' : List (NodeOf D)) → GrowBy lane I (journals_of h.shape logs' shards') → KeepsOpens K lane opens (λ l. open_lane (sight_at sight logs' (home_of K l)).seen l)
   opens_keep logs' shards' grown other inside apart =
       let home : home_of K other < K.coordinators = home_inside other K.coordinators K.lanes inside in
       same_open other (sight_at sight logs (home_of K other)).seen (sight_at sight logs' (home_of K other)).seen
-      (ap (λ L. own other L) (sym (seen_log K (sight_at sight logs') (sight_at (sight_of count limit) shards') (home_of K other) home))
-      ∙ own_same other lane (λ e. apart (sym e)) I (journals_of count limit h.shape logs' shards') grown (home_of K other)
-      ∙ ap (λ L. own other L) (seen_log K (sight_at sight logs) (sight_at (sight_of count limit) shards) (home_of K other) home))
+      (ap (λ L. own other L) (sym (seen_log K (sight_at sight logs') (sight_at sight shards') (home_of K other) home))
+      ∙ own_same other lane (λ e. apart (sym e)) I (journals_of h.shape logs' shards') grown (home_of K other)
+      ∙ ap (λ L. own other L) (seen_log K (sight_at sight logs) (sight_at sight shards) (home_of K other) home))

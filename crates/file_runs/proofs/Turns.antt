@@ -5,12 +5,11 @@ use Rattle.cbdc_model.specs.Records.{Shape, Header, Compact, Record}
 use Rattle.cbdc_model.specs.Slots.{slot, Idle}
 use Rattle.cbdc_model.specs.Ranges.{home_of}
 use Rattle.cbdc_model.specs.Sights.{Sight}
-use Rattle.coord_log.specs.Logs.{LogOf, sight}
+use Rattle.node_journal.specs.Nodes.{NodeOf, sight}
 use Rattle.std.specs.Prelude.{option_map}
 use Rattle.cbdc_types.specs.declared.batch.Phase.{Phase as OpenPhase}
 use Rattle.cbdc_model.specs.Due.{open_batch}
 use Rattle.coord_log.specs.OpenLanes.{open_lane, open_phase, batch_in}
-use Rattle.shard_node.specs.Shards.{ShardOf, sight_of}
 use Rattle.node_ports.specs.Nodes.{sight_at}
 use Rattle.lane_laws.specs.Resuming.{IsTakenUp}
 use Rattle.lane_driver.specs.declared.fault.LaneFault.{LaneFault}
@@ -34,10 +33,10 @@ use Rattle.ledger_runs.specs.Pieces.{HasPrepared}
 use Rattle.ledger_runs.specs.Faults.{IsOpenCause, HaveFailed, MayHold, Nothing}
 use Rattle.file_runs.specs.Ledgers.{IsLedger, journals_of, flights_of, faults_of, opened_of, capacity_of, AreChecked, AreQuiet, KeepsLedgerOf}
 use Rattle.file_runs.specs.Steps.{IsStep}
-use Rattle.file_runs.proofs.Steps.{home_inside, are_nodes, are_shards, is_lane, log_is, same_flight}
+use Rattle.file_runs.proofs.Steps.{home_inside, are_nodes, are_shards, is_lane, journal_at}
 
 -- the node that was read at a place is what is seen there
-read_at : {D : Type 0} (logs : List (LogOf D)) (n : ℕ) (x : LogOf D) → n < length logs → x ≡ get_or logs n x → sight_at sight logs n ≡ sight x
+read_at : {D : Type 0} (logs : List (NodeOf D)) (n : ℕ) (x : NodeOf D) → n < length logs → x ≡ get_or logs n x → sight_at sight logs n ≡ sight x
 read_at [] n x lt e = absurd (let z : n < 0 = lt in omega (arith, z))
 read_at (l ∷ logs) zero x lt e = ap sight (sym e)
 read_at (l ∷ logs) (suc n) x lt e = read_at logs n x (omega (arith, lt)) e
@@ -46,7 +45,7 @@ batch_of : (J : List Record) (lane : ℕ) (phase : Option OpenPhase) (o : OpenLa
 batch_of J lane None o told = absurd (let z : None ≡ Some o = told in cc)
 batch_of J lane (Some p) o told = let same : o ≡ batch_in J lane p = cc in ap (λ l. l.batch) same
 
-module _ {D : Type 0} (count limit : D → ℕ) (content : D → Option (List ℕ)) (images : D → List ℕ → Type 0) (h : Header) (lane : ℕ) (logs : List (LogOf D)) (shards : List (ShardOf D))
+module _ {D : Type 0} (content : D → Option (List ℕ)) (images : D → List ℕ → Type 0) (h : Header) (lane : ℕ) (logs shards : List (NodeOf D))
     (ledger : IsLedger h logs shards) (lt : IsLaneOf h.shape lane) where
   abbrev K : Shape
   K = h.shape
@@ -55,10 +54,10 @@ module _ {D : Type 0} (count limit : D → ℕ) (content : D → Option (List �
   L = sight_at sight logs
 
   abbrev S : ℕ → Sight
-  S = sight_at (sight_of count limit) shards
+  S = sight_at sight shards
 
   abbrev I : ℕ → List Record
-  I = journals_of count limit h.shape logs shards
+  I = journals_of h.shape logs shards
 
   home : home_of K lane < K.coordinators
   home = home_inside lane K.coordinators K.lanes lt
@@ -77,16 +76,16 @@ module _ {D : Type 0} (count limit : D → ℕ) (content : D → Option (List �
   pub none_open : open_lane (L (home_of K lane)).seen lane ≡ None → phase_at K I lane ≡ Idle
   none_open told =
       ap (λ J. (slot J lane).phase) at_log
-      ∙ is_idle (L (home_of K lane)).header (L (home_of K lane)).seen (log_is logs ledger.log_journals (home_of K lane) (subst (λ m. home_of K lane < m) (sym ledger.coordinators) home)) lane
-      (is_lane count limit h logs shards lane (home_of K lane) ledger lt refl)
+      ∙ is_idle (L (home_of K lane)).header (L (home_of K lane)).seen (journal_at logs ledger.log_journals (home_of K lane) (subst (λ m. home_of K lane < m) (sym ledger.coordinators) home)) lane
+      (is_lane h logs shards lane (home_of K lane) ledger lt refl)
       (subst (λ k. k.node < k.shape.coordinators) (sym (ledger.log_headers (home_of K lane) home)) home) told
 
   -- what the driver wants of checked journals: the lane is settled where it is idle, and else each shard has come as far as its phase lets it
-  pub is_settled : phase_at K I lane ≡ Idle → AreChecked count limit K logs shards → (at : ℕ) → at ≡ home_of K lane → IsSettled K lane (sight_at sight logs at) S
+  pub is_settled : phase_at K I lane ≡ Idle → AreChecked K logs shards → (at : ℕ) → at ≡ home_of K lane → IsSettled K lane (sight_at sight logs at) S
   is_settled idle c at e = subst (λ n. IsSettled K lane (sight_at sight logs n) S) (sym e)
       ((slot (L (home_of K lane)).seen lane).number, checked_rest_law K c.0 lane L S some home shape c.1 (ap (λ J. (slot J lane).phase) (sym at_log) ∙ idle))
 
-  pub is_unfinished : (o : OpenLane) → open_lane (L (home_of K lane)).seen lane ≡ Some o → AreChecked count limit K logs shards → (at : ℕ) → at ≡ home_of K lane → IsUnfinished o.phase K o (sight_at sight logs at) S
+  pub is_unfinished : (o : OpenLane) → open_lane (L (home_of K lane)).seen lane ≡ Some o → AreChecked K logs shards → (at : ℕ) → at ≡ home_of K lane → IsUnfinished o.phase K o (sight_at sight logs at) S
   is_unfinished o told c at e = subst (λ n. IsUnfinished o.phase K o (sight_at sight logs n) S) (sym e)
       (unfinished K lane (L (home_of K lane)) S o told (checked_resume_law K c.0 lane L S some home shape c.1))
 
@@ -98,7 +97,7 @@ module _ {D : Type 0} (count limit : D → ℕ) (content : D → Option (List �
   all_opened o told (Ok r) resumed = is_opened o told r resumed
   all_opened o told (Err e) resumed = tt
 
-  module _ (at : ℕ) (x : LogOf D) (at_is : at ≡ home_of K lane) (is : x ≡ get_or logs at x) where
+  module _ (at : ℕ) (x : NodeOf D) (at_is : at ≡ home_of K lane) (is : x ≡ get_or logs at x) where
     here : L (home_of K lane) ≡ sight x
     here = subst (λ n. sight_at sight logs n ≡ sight x) at_is
         (read_at logs at x (subst (λ n. n < length logs) (sym at_is) (subst (λ m. home_of K lane < m) (sym ledger.coordinators) home)) is)
@@ -106,41 +105,41 @@ module _ {D : Type 0} (count limit : D → ℕ) (content : D → Option (List �
     pub told_there : (found o : Option OpenLane) → found ≡ open_lane x.journal lane → found ≡ o → open_lane (L (home_of K lane)).seen lane ≡ o
     told_there found o e f = ap (λ s. open_lane s.seen lane) here ∙ sym e ∙ f
 
-  module _ (logs' : List (LogOf D)) (shards' : List (ShardOf D)) (step : IsStep count limit content images h lane logs shards logs' shards') where
+  module _ (logs' : List (NodeOf D)) (shards' : List (NodeOf D)) (step : IsStep content images h lane logs shards logs' shards') where
     abbrev L' : ℕ → Sight
     L' = sight_at sight logs'
 
     abbrev S' : ℕ → Sight
-    S' = sight_at (sight_of count limit) shards'
+    S' = sight_at sight shards'
 
     abbrev J : ℕ → List Record
-    J = journals_of count limit h.shape logs' shards'
+    J = journals_of h.shape logs' shards'
 
     -- nothing is in flight behind a turn that left what was as it was
     quiet_on : SameFlights L S L' S' → AreQuiet logs shards → AreQuiet logs' shards'
     quiet_on same was = record {
       logs_are = λ n. same.logs_same n ∙ was.logs_are n;
-      shards_are = λ s. sym (same_flight count limit shards' s) ∙ same.shards_same s ∙ same_flight count limit shards s ∙ was.shards_are s;
+      shards_are = λ s. same.shards_same s ∙ was.shards_are s;
     }
 
     -- what no turn changes of the nodes
-    opened_same : (n : ℕ) → opened_of count limit K logs' shards' n ≡ opened_of count limit K logs shards n
+    opened_same : (n : ℕ) → opened_of K logs' shards' n ≡ opened_of K logs shards n
     opened_same n = elim (nat_lt n K.coordinators) as (λ c. (if c then (L' n).opened else (S' (n - K.coordinators)).opened) ≡ (if c then (L n).opened else (S (n - K.coordinators)).opened)) [
       | true ↦ (step.log_nodes n).opened
       | false ↦ (step.shard_nodes (n - K.coordinators)).opened
     ]
 
-    capacity_same : (n : ℕ) → capacity_of count limit K logs' shards' n ≡ capacity_of count limit K logs shards n
+    capacity_same : (n : ℕ) → capacity_of K logs' shards' n ≡ capacity_of K logs shards n
     capacity_same n = elim (nat_lt n K.coordinators) as (λ c. (if c then (L' n).capacity else (S' (n - K.coordinators)).capacity) ≡ (if c then (L n).capacity else (S (n - K.coordinators)).capacity)) [
       | true ↦ (step.log_nodes n).capacity
       | false ↦ (step.shard_nodes (n - K.coordinators)).capacity
     ]
 
-    pub step_keeps : KeepsLedgerOf count limit content images (record { header = h; logs = logs; shards = shards }) (record { header = h; logs = logs'; shards = shards' })
+    pub step_keeps : KeepsLedgerOf content images (record { header = h; logs = logs; shards = shards }) (record { header = h; logs = logs'; shards = shards' })
     step_keeps = record { shape_same = refl; opened_same = opened_same; later = step.later; capacity_same = capacity_same; held = step.stored }
 
     shard_shapes : (s : ℕ) → s < K.shards → (S' s).header.shape ≡ K
-    shard_shapes s lt = (are_shards count limit h logs' shards' step.ledger s lt).0
+    shard_shapes s lt = (are_shards h logs' shards' step.ledger s lt).0
 
     module _ (idle : phase_at K I lane ≡ Idle) (txs : List Compact) where
       idle_there : (slot (L (home_of K lane)).seen lane).phase ≡ Idle
@@ -150,58 +149,58 @@ module _ {D : Type 0} (count limit : D → ℕ) (content : D → Option (List �
       pub resumed_keeps : (came : Result ResumedBatch LaneFault) → OnOk came (IsUnfinished o.phase K o (L (home_of K lane)) S → IsTakenUp K true o.batch (L (home_of K lane)) S (L' (home_of K lane)) S')
           → IfErr came (IsResumeStopped K true o (L (home_of K lane)) S (L' (home_of K lane)) S') → OfKept K I (StaysKept K I J)
       resumed_keeps (Ok r) taken stop =
-          resume_keeps K lane L S L' S' some home shape step.elsewhere (are_nodes count limit h logs shards ledger) (are_nodes count limit h logs' shards' step.ledger) step.log_nodes step.shard_nodes o told taken
+          resume_keeps K lane L S L' S' some home shape step.elsewhere (are_nodes h logs shards ledger) (are_nodes h logs' shards' step.ledger) step.log_nodes step.shard_nodes o told taken
       resumed_keeps (Err e) taken stop =
-          left_keeps K lane L S L' S' some home shape step.elsewhere (are_nodes count limit h logs shards ledger) (are_nodes count limit h logs' shards' step.ledger) step.log_nodes step.shard_nodes o told e stop
+          left_keeps K lane L S L' S' some home shape step.elsewhere (are_nodes h logs shards ledger) (are_nodes h logs' shards' step.ledger) step.log_nodes step.shard_nodes o told e stop
 
       pub resumed_flies : (came : Result ResumedBatch LaneFault) → OnOk came (IsUnfinished o.phase K o (L (home_of K lane)) S → IsTakenUp K true o.batch (L (home_of K lane)) S (L' (home_of K lane)) S')
-          → IfErr came (IsResumeStopped K true o (L (home_of K lane)) S (L' (home_of K lane)) S') → OfKept K I (FliesOn K I J (flights_of count limit K logs shards) (flights_of count limit K logs' shards'))
+          → IfErr came (IsResumeStopped K true o (L (home_of K lane)) S (L' (home_of K lane)) S') → OfKept K I (FliesOn K I J (flights_of K logs shards) (flights_of K logs' shards'))
       resumed_flies (Ok r) taken stop =
-          resume_flies K lane L S L' S' some home shape step.elsewhere (are_nodes count limit h logs shards ledger) (are_nodes count limit h logs' shards' step.ledger) step.log_nodes step.shard_nodes step.next o told taken
+          resume_flies K lane L S L' S' some home shape step.elsewhere (are_nodes h logs shards ledger) (are_nodes h logs' shards' step.ledger) step.log_nodes step.shard_nodes step.next o told taken
       resumed_flies (Err e) taken stop =
-          left_flies K lane L S L' S' some home shape step.elsewhere (are_nodes count limit h logs shards ledger) (are_nodes count limit h logs' shards' step.ledger) step.log_nodes step.shard_nodes step.next o told e stop
+          left_flies K lane L S L' S' some home shape step.elsewhere (are_nodes h logs shards ledger) (are_nodes h logs' shards' step.ledger) step.log_nodes step.shard_nodes step.next o told e stop
 
       pub resumed_checked : (came : Result ResumedBatch LaneFault) → OnOk came (IsUnfinished o.phase K o (L (home_of K lane)) S → IsTakenUp K true o.batch (L (home_of K lane)) S (L' (home_of K lane)) S')
-          → IfErr came (IsResumeStopped K true o (L (home_of K lane)) S (L' (home_of K lane)) S') → (c : AreChecked count limit K logs shards) → IsCheckedTurn K c.0 lane I J
+          → IfErr came (IsResumeStopped K true o (L (home_of K lane)) S (L' (home_of K lane)) S') → (c : AreChecked K logs shards) → IsCheckedTurn K c.0 lane I J
       resumed_checked (Ok r) taken stop c =
-          taken_checked K lane L S L' S' ledger.limits home shape shard_shapes step.elsewhere (are_nodes count limit h logs shards ledger) (are_nodes count limit h logs' shards' step.ledger) step.log_nodes step.shard_nodes c.0 c.1 o told taken
+          taken_checked K lane L S L' S' ledger.limits home shape shard_shapes step.elsewhere (are_nodes h logs shards ledger) (are_nodes h logs' shards' step.ledger) step.log_nodes step.shard_nodes c.0 c.1 o told taken
       resumed_checked (Err e) taken stop c =
-          left_checked K lane L S L' S' ledger.limits home shape shard_shapes step.elsewhere (are_nodes count limit h logs shards ledger) (are_nodes count limit h logs' shards' step.ledger) step.log_nodes step.shard_nodes c.0 c.1 o told e stop
+          left_checked K lane L S L' S' ledger.limits home shape shard_shapes step.elsewhere (are_nodes h logs shards ledger) (are_nodes h logs' shards' step.ledger) step.log_nodes step.shard_nodes c.0 c.1 o told e stop
 
       pub resumed_unprepared : (came : Result ResumedBatch LaneFault) → OnOk came (IsUnfinished o.phase K o (L (home_of K lane)) S → IsTakenUp K true o.batch (L (home_of K lane)) S (L' (home_of K lane)) S')
-          → IfErr came (IsResumeStopped K true o (L (home_of K lane)) S (L' (home_of K lane)) S') → AreChecked count limit K logs shards → HasPrepared K lane [] I J
+          → IfErr came (IsResumeStopped K true o (L (home_of K lane)) S (L' (home_of K lane)) S') → AreChecked K logs shards → HasPrepared K lane [] I J
       resumed_unprepared (Ok r) taken stop c =
-          taken_unprepared K lane L S L' S' ledger.limits home shape shard_shapes step.elsewhere (are_nodes count limit h logs shards ledger) (are_nodes count limit h logs' shards' step.ledger) step.log_nodes step.shard_nodes c.0 c.1 o told taken
+          taken_unprepared K lane L S L' S' ledger.limits home shape shard_shapes step.elsewhere (are_nodes h logs shards ledger) (are_nodes h logs' shards' step.ledger) step.log_nodes step.shard_nodes c.0 c.1 o told taken
       resumed_unprepared (Err e) taken stop c =
-          left_unprepared K lane L S L' S' ledger.limits home shape shard_shapes step.elsewhere (are_nodes count limit h logs shards ledger) (are_nodes count limit h logs' shards' step.ledger) step.log_nodes step.shard_nodes c.0 c.1 o told e stop
+          left_unprepared K lane L S L' S' ledger.limits home shape shard_shapes step.elsewhere (are_nodes h logs shards ledger) (are_nodes h logs' shards' step.ledger) step.log_nodes step.shard_nodes c.0 c.1 o told e stop
 
-      resumed_cause : (e : LaneFault) → IsResumeStopped K true o (L (home_of K lane)) S (L' (home_of K lane)) S' e → AreChecked count limit K logs shards
-          → IsOpenCause K lane I J (HaveFailed (opened_of count limit K logs' shards') (faults_of count limit K logs' shards')) (MayHold (capacity_of count limit K logs' shards')) e
+      resumed_cause : (e : LaneFault) → IsResumeStopped K true o (L (home_of K lane)) S (L' (home_of K lane)) S' e → AreChecked K logs shards
+          → IsOpenCause K lane I J (HaveFailed (opened_of K logs' shards') (faults_of K logs' shards')) (MayHold (capacity_of K logs' shards')) e
       resumed_cause e stop c =
-          left_cause K lane L S L' S' ledger.limits home shape shard_shapes step.elsewhere (are_nodes count limit h logs shards ledger) (are_nodes count limit h logs' shards' step.ledger) step.log_nodes step.shard_nodes c.0 c.1 o told e stop
+          left_cause K lane L S L' S' ledger.limits home shape shard_shapes step.elsewhere (are_nodes h logs shards ledger) (are_nodes h logs' shards' step.ledger) step.log_nodes step.shard_nodes c.0 c.1 o told e stop
 
-      pub resumed_fault : (came : Result ResumedBatch LaneFault) → IfErr came (IsResumeStopped K true o (L (home_of K lane)) S (L' (home_of K lane)) S') → AreChecked count limit K logs shards
-          → IfErr came (IsOpenCause K lane I J (HaveFailed (opened_of count limit K logs' shards') (faults_of count limit K logs' shards')) (MayHold (capacity_of count limit K logs' shards')))
+      pub resumed_fault : (came : Result ResumedBatch LaneFault) → IfErr came (IsResumeStopped K true o (L (home_of K lane)) S (L' (home_of K lane)) S') → AreChecked K logs shards
+          → IfErr came (IsOpenCause K lane I J (HaveFailed (opened_of K logs' shards') (faults_of K logs' shards')) (MayHold (capacity_of K logs' shards')))
       resumed_fault (Ok r) stop c = tt
       resumed_fault (Err e) stop c = resumed_cause e stop c
 
-      quiet_behind : (IsUnfinished o.phase K o (L (home_of K lane)) S → IsTakenUp K true o.batch (L (home_of K lane)) S (L' (home_of K lane)) S') → AreChecked count limit K logs shards → AreQuiet logs shards → AreQuiet logs' shards'
-      quiet_behind taken c = quiet_on (resume_same K lane L S L' S' ledger.limits home shape shard_shapes step.elsewhere (are_nodes count limit h logs shards ledger) (are_nodes count limit h logs' shards' step.ledger) step.log_nodes step.shard_nodes step.next c.0 c.1 o told taken)
+      quiet_behind : (IsUnfinished o.phase K o (L (home_of K lane)) S → IsTakenUp K true o.batch (L (home_of K lane)) S (L' (home_of K lane)) S') → AreChecked K logs shards → AreQuiet logs shards → AreQuiet logs' shards'
+      quiet_behind taken c = quiet_on (resume_same K lane L S L' S' ledger.limits home shape shard_shapes step.elsewhere (are_nodes h logs shards ledger) (are_nodes h logs' shards' step.ledger) step.log_nodes step.shard_nodes step.next c.0 c.1 o told taken)
 
-      pub resumed_quiet : (came : Result ResumedBatch LaneFault) → OnOk came (IsUnfinished o.phase K o (L (home_of K lane)) S → IsTakenUp K true o.batch (L (home_of K lane)) S (L' (home_of K lane)) S') → AreChecked count limit K logs shards
+      pub resumed_quiet : (came : Result ResumedBatch LaneFault) → OnOk came (IsUnfinished o.phase K o (L (home_of K lane)) S → IsTakenUp K true o.batch (L (home_of K lane)) S (L' (home_of K lane)) S') → AreChecked K logs shards
           → OnOk came (AreQuiet logs shards → AreQuiet logs' shards')
       resumed_quiet (Ok r) taken c = quiet_behind taken c
       resumed_quiet (Err e) taken c = tt
 
       pub resumed_launches : (came : Result ResumedBatch LaneFault) → OnOk came (IsUnfinished o.phase K o (L (home_of K lane)) S → IsTakenUp K true o.batch (L (home_of K lane)) S (L' (home_of K lane)) S')
-          → IfErr came (IsResumeStopped K true o (L (home_of K lane)) S (L' (home_of K lane)) S') → AreChecked count limit K logs shards → Launches K (λ _. Nothing) I J (flights_of count limit K logs shards) (flights_of count limit K logs' shards')
-      resumed_launches (Ok r) taken stop c = resume_launches K lane L S L' S' ledger.limits home shape shard_shapes step.elsewhere (are_nodes count limit h logs shards ledger) (are_nodes count limit h logs' shards' step.ledger) step.log_nodes step.shard_nodes step.next c.0 c.1 o told taken
-      resumed_launches (Err e) taken stop c = left_launches K lane L S L' S' ledger.limits home shape shard_shapes step.elsewhere (are_nodes count limit h logs shards ledger) (are_nodes count limit h logs' shards' step.ledger) step.log_nodes step.shard_nodes step.next c.0 c.1 o told e stop
+          → IfErr came (IsResumeStopped K true o (L (home_of K lane)) S (L' (home_of K lane)) S') → AreChecked K logs shards → Launches K (λ _. Nothing) I J (flights_of K logs shards) (flights_of K logs' shards')
+      resumed_launches (Ok r) taken stop c = resume_launches K lane L S L' S' ledger.limits home shape shard_shapes step.elsewhere (are_nodes h logs shards ledger) (are_nodes h logs' shards' step.ledger) step.log_nodes step.shard_nodes step.next c.0 c.1 o told taken
+      resumed_launches (Err e) taken stop c = left_launches K lane L S L' S' ledger.limits home shape shard_shapes step.elsewhere (are_nodes h logs shards ledger) (are_nodes h logs' shards' step.ledger) step.log_nodes step.shard_nodes step.next c.0 c.1 o told e stop
 
       took_behind : (r : ResumedBatch) → IsResumed o r → (IsUnfinished o.phase K o (L (home_of K lane)) S → IsTakenUp K true o.batch (L (home_of K lane)) S (L' (home_of K lane)) S')
           → (IsUnfinished o.phase K o (L (home_of K lane)) S → HasItsOutcomes o.phase o (L' (home_of K lane)).seen r) → OfKept K I (λ _ _. TookUp K lane I J (Some r))
       took_behind r resumed taken has =
-          resume_took K lane L S L' S' some home shape step.elsewhere (are_nodes count limit h logs shards ledger) (are_nodes count limit h logs' shards' step.ledger) step.log_nodes step.shard_nodes o told r resumed taken has
+          resume_took K lane L S L' S' some home shape step.elsewhere (are_nodes h logs shards ledger) (are_nodes h logs' shards' step.ledger) step.log_nodes step.shard_nodes o told r resumed taken has
 
       pub resumed_took : (came : Result ResumedBatch LaneFault) → IfOk came (IsResumed o) → OnOk came (IsUnfinished o.phase K o (L (home_of K lane)) S → IsTakenUp K true o.batch (L (home_of K lane)) S (L' (home_of K lane)) S')
           → IfOk came (λ r. IsUnfinished o.phase K o (L (home_of K lane)) S → HasItsOutcomes o.phase o (L' (home_of K lane)).seen r) → IfOk came (λ r. OfKept K I (λ _ _. TookUp K lane I J (Some r)))

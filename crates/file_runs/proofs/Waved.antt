@@ -8,9 +8,8 @@ use Rattle.cbdc_model.specs.Ranges.{home_of, shard_node}
 use Rattle.cbdc_model.specs.World.{AreIdle}
 use Rattle.cbdc_model.specs.After.{IsJournal}
 use Rattle.cbdc_model.specs.Sights.{Sight}
-use Rattle.coord_log.specs.Logs.{LogOf, sight, HoldsJournal as HoldsLog}
-use Rattle.shard_node.specs.Shards.{ShardOf, sight_of, HoldsJournal as HoldsShard}
-use Rattle.node_ports.specs.Nodes.{sight_at, IsLogHeld, IsShardHeld}
+use Rattle.node_journal.specs.Nodes.{NodeOf, sight, HoldsJournal}
+use Rattle.node_ports.specs.Nodes.{sight_at, IsNodeHeld}
 use Rattle.run_laws.specs.Flights.{flying}
 use Rattle.lane_driver.specs.Stops.{IsSettled}
 use Rattle.ledger_runs.specs.Waving.{AreWithin}
@@ -20,9 +19,9 @@ use Rattle.thread_laws.proofs.Running.{fresh_settled_law, wave_ran_law}
 use Rattle.lane_waves.specs.Waves.{AreNodesOf}
 use Rattle.lane_waves.specs.Laws.{WentOn}
 use Rattle.lane_waves.proofs.NodePlaces.{same_length, past_end, beyond, all_held}
-use Rattle.file_runs.specs.Ledgers.{IsLedger, IsLogNext, IsShardNext, journals_of, AreChecked, AreStored, AreQuiet}
+use Rattle.file_runs.specs.Ledgers.{IsLedger, FliesNext, journals_of, AreChecked, AreStored, AreQuiet}
 use Rattle.file_runs.specs.Waving.{WaveLaw}
-use Rattle.file_runs.proofs.Steps.{are_nodes, are_next, are_shards, same_header, same_flight, held_logs, held_shards}
+use Rattle.file_runs.proofs.Steps.{are_nodes, are_next, are_shards, all_held as all_held_there}
 
 is_low : (a b : ℕ) → a < b → nat_lt a b ≡ true
 is_low a b lt = grind (arith, lt)
@@ -44,11 +43,11 @@ module _ (K : Shape) (logs shards : ℕ → Sight) where
       back : shard_node K s - K.coordinators ≡ s
       back = omega arith
 
-module _ {D : Type 0} (count limit : D → ℕ) (content : D → Option (List ℕ)) (images : D → List ℕ → Type 0) (h : Header) (logs : List (LogOf D)) (shards : List (ShardOf D)) (logs' : List (LogOf D)) (shards' : List (ShardOf D))
+module _ {D : Type 0} (content : D → Option (List ℕ)) (images : D → List ℕ → Type 0) (h : Header) (logs shards : List (NodeOf D)) (logs' : List (NodeOf D)) (shards' : List (NodeOf D))
     (old new : List LaneOf) (ledger : IsLedger h logs shards) (places : length old ≡ h.shape.coordinators * h.shape.lanes)
-    (ran : WaveRan h.shape (sight_at sight logs) (sight_at (sight_of count limit) shards) (sight_at sight logs') (sight_at (sight_of count limit) shards') old new)
-    (logs_go : WentOn sight (λ a b. IsLogHeld content images a → IsLogHeld content images b) logs logs') (shards_go : WentOn (sight_of count limit) (λ a b. IsShardHeld content images a → IsShardHeld content images b) shards shards')
-    (log_journals : All (λ l. IsJournal l.header l.journal) logs') (log_flights : All IsLogNext logs') (shard_journals : All (λ s. IsJournal s.header s.journal) shards') (shard_flights : All IsShardNext shards') where
+    (ran : WaveRan h.shape (sight_at sight logs) (sight_at sight shards) (sight_at sight logs') (sight_at sight shards') old new)
+    (logs_go : WentOn sight (λ a b. IsNodeHeld content images a → IsNodeHeld content images b) logs logs') (shards_go : WentOn sight (λ a b. IsNodeHeld content images a → IsNodeHeld content images b) shards shards')
+    (log_journals : All (λ l. IsJournal l.header l.journal) logs') (log_flights : All FliesNext logs') (shard_journals : All (λ s. IsJournal s.header s.journal) shards') (shard_flights : All FliesNext shards') where
   abbrev K : Shape
   K = h.shape
 
@@ -56,25 +55,22 @@ module _ {D : Type 0} (count limit : D → ℕ) (content : D → Option (List �
   L = sight_at sight logs
 
   abbrev S : ℕ → Sight
-  S = sight_at (sight_of count limit) shards
+  S = sight_at sight shards
 
   abbrev L' : ℕ → Sight
   L' = sight_at sight logs'
 
   abbrev S' : ℕ → Sight
-  S' = sight_at (sight_of count limit) shards'
+  S' = sight_at sight shards'
 
-  abbrev LogGoes : LogOf D → LogOf D → Type 0
-  LogGoes a b = IsLogHeld content images a → IsLogHeld content images b
-
-  abbrev ShardGoes : ShardOf D → ShardOf D → Type 0
-  ShardGoes a b = IsShardHeld content images a → IsShardHeld content images b
+  abbrev Goes : NodeOf D → NodeOf D → Type 0
+  Goes a b = IsNodeHeld content images a → IsNodeHeld content images b
 
   log_count : length logs' ≡ length logs
-  log_count = same_length sight LogGoes logs logs' logs_go
+  log_count = same_length sight Goes logs logs' logs_go
 
   shard_count : length shards' ≡ length shards
-  shard_count = same_length (sight_of count limit) ShardGoes shards shards' shards_go
+  shard_count = same_length sight Goes shards shards' shards_go
 
   still : IsLedger h logs' shards'
   still = record {
@@ -82,7 +78,7 @@ module _ {D : Type 0} (count limit : D → ℕ) (content : D → Option (List �
     coordinators = log_count ∙ ledger.coordinators;
     shards_are = shard_count ∙ ledger.shards_are;
     log_headers = λ n lt. (ran.log_ran n lt).same.header ∙ ledger.log_headers n lt;
-    shard_headers = λ s lt. sym (same_header count limit shards' s) ∙ (ran.shard_ran s lt).same.header ∙ same_header count limit shards s ∙ ledger.shard_headers s lt;
+    shard_headers = λ s lt. (ran.shard_ran s lt).same.header ∙ ledger.shard_headers s lt;
     log_journals = log_journals;
     shard_journals = shard_journals;
   }
@@ -90,12 +86,12 @@ module _ {D : Type 0} (count limit : D → ℕ) (content : D → Option (List �
   nodes : WaveNodes K L S L' S'
   nodes = record {
     limits = ledger.limits;
-    before = are_nodes count limit h logs shards ledger;
-    behind = are_nodes count limit h logs' shards' still;
-    next = are_next count limit h logs' shards' still.coordinators still.shards_are log_flights shard_flights;
+    before = are_nodes h logs shards ledger;
+    behind = are_nodes h logs' shards' still;
+    next = are_next h logs' shards' still.coordinators still.shards_are log_flights shard_flights;
     log_shapes = λ n lt. ap (λ k. k.shape) (ledger.log_headers n lt);
-    shard_shapes = λ s lt. (are_shards count limit h logs shards ledger s lt).0;
-    beyond = λ s le. beyond (sight_of count limit) ShardGoes shards shards' shards_go s (subst (λ m. m ≤ s) (sym ledger.shards_are) le);
+    shard_shapes = λ s lt. (are_shards h logs shards ledger s lt).0;
+    beyond = λ s le. beyond sight Goes shards shards' shards_go s (subst (λ m. m ≤ s) (sym ledger.shards_are) le);
   }
 
   all : AllSays K L S L' S' old new
@@ -103,60 +99,60 @@ module _ {D : Type 0} (count limit : D → ℕ) (content : D → Option (List �
 
   stored : AreStored content images logs shards → AreStored content images logs' shards'
   stored s = record {
-    logs_are = All-weaker (IsLogHeld content images) (HoldsLog content images) (λ l x. x.held) logs'
-        (all_held sight (IsLogHeld content images) logs logs' logs_go (held_logs content images logs ledger.log_journals s.logs_are));
-    shards_are = All-weaker (IsShardHeld content images) (HoldsShard content images) (λ x y. y.held) shards'
-        (all_held (sight_of count limit) (IsShardHeld content images) shards shards' shards_go (held_shards content images shards ledger.shard_journals s.shards_are));
+    logs_are = All-weaker (IsNodeHeld content images) (HoldsJournal content images) (λ l x. x.held) logs'
+        (all_held sight (IsNodeHeld content images) logs logs' logs_go (all_held_there content images logs ledger.log_journals s.logs_are));
+    shards_are = All-weaker (IsNodeHeld content images) (HoldsJournal content images) (λ x y. y.held) shards'
+        (all_held sight (IsNodeHeld content images) shards shards' shards_go (all_held_there content images shards ledger.shard_journals s.shards_are));
   }
 
   -- nothing is in flight at any node, by its place or by its number
   was_quiet : AreQuiet logs shards → (n : ℕ) → flying K L S n ≡ None
   was_quiet q n = elim (nat_lt n K.coordinators) as (λ c. (if c then (L n).flight else (S (n - K.coordinators)).flight) ≡ None) [
     | true ↦ q.logs_are n
-    | false ↦ same_flight count limit shards (n - K.coordinators) ∙ q.shards_are (n - K.coordinators)
+    | false ↦ q.shards_are (n - K.coordinators)
   ]
 
   now_quiet : ((n : ℕ) → flying K L' S' n ≡ None) → AreQuiet logs' shards'
   now_quiet none = record {
     logs_are = λ n. log_at n (below n K.coordinators);
-    shards_are = λ s. sym (same_flight count limit shards' s) ∙ sym (shard_flight K L' S' s) ∙ none (shard_node K s);
+    shards_are = λ s. sym (shard_flight K L' S' s) ∙ none (shard_node K s);
   }
     where
       log_at : (n : ℕ) → (n < K.coordinators) ⊎ (K.coordinators ≤ n) → (L' n).flight ≡ None
       log_at n (inl lt) = sym (log_flight K L' S' n lt) ∙ none n
-      log_at n (inr le) = ap (λ x. x.flight) (past_end sight LogGoes logs' n (subst (λ m. m ≤ n) (sym still.coordinators) le))
+      log_at n (inr le) = ap (λ x. x.flight) (past_end sight Goes logs' n (subst (λ m. m ≤ n) (sym still.coordinators) le))
 
-pub wave_law : {D : Type 0} (count limit : D → ℕ) (content : D → Option (List ℕ)) (images : D → List ℕ → Type 0) (h : Header) (logs : List (LogOf D)) (shards : List (ShardOf D)) (logs' : List (LogOf D)) (shards' : List (ShardOf D))
-    (old new : List LaneOf) → WaveLaw count limit content images h logs shards logs' shards' old new
-wave_law count limit content images h logs shards logs' shards' old new ledger places ran logs_go shards_go log_journals log_flights shard_journals shard_flights =
-    let a = all count limit content images h logs shards logs' shards' old new ledger places ran logs_go shards_go log_journals log_flights shard_journals shard_flights in
+pub wave_law : {D : Type 0} (content : D → Option (List ℕ)) (images : D → List ℕ → Type 0) (h : Header) (logs shards : List (NodeOf D)) (logs' : List (NodeOf D)) (shards' : List (NodeOf D))
+    (old new : List LaneOf) → WaveLaw content images h logs shards logs' shards' old new
+wave_law content images h logs shards logs' shards' old new ledger places ran logs_go shards_go log_journals log_flights shard_journals shard_flights =
+    let a = all content images h logs shards logs' shards' old new ledger places ran logs_go shards_go log_journals log_flights shard_journals shard_flights in
     record {
-      ledger = still count limit content images h logs shards logs' shards' old new ledger places ran logs_go shards_go log_journals log_flights shard_journals shard_flights;
+      ledger = still content images h logs shards logs' shards' old new ledger places ran logs_go shards_go log_journals log_flights shard_journals shard_flights;
       says = a.0;
       checked = λ c. (c.0, a.0.checked c.0 c.1);
-      quiet = λ none q. now_quiet count limit content images h logs shards logs' shards' old new ledger places ran logs_go shards_go log_journals log_flights shard_journals shard_flights
-          (a.0.quiet none (was_quiet count limit content images h logs shards logs' shards' old new ledger places ran logs_go shards_go log_journals log_flights shard_journals shard_flights q));
+      quiet = λ none q. now_quiet content images h logs shards logs' shards' old new ledger places ran logs_go shards_go log_journals log_flights shard_journals shard_flights
+          (a.0.quiet none (was_quiet content images h logs shards logs' shards' old new ledger places ran logs_go shards_go log_journals log_flights shard_journals shard_flights q));
       keeps_ledger = record {
         shape_same = refl;
         opened_same = a.1.opened_same;
         later = a.1.later;
         capacity_same = a.1.capacity_same;
-        held = stored count limit content images h logs shards logs' shards' old new ledger places ran logs_go shards_go log_journals log_flights shard_journals shard_flights;
+        held = stored content images h logs shards logs' shards' old new ledger places ran logs_go shards_go log_journals log_flights shard_journals shard_flights;
       };
     }
 
 -- ---- what a wave asks of the nodes and of the lanes
 
-module _ {D : Type 0} (count limit : D → ℕ) (h : Header) (logs : List (LogOf D)) (shards : List (ShardOf D)) (ledger : IsLedger h logs shards) where
-  pub nodes_of : AreNodesOf h.shape (sight_at sight logs) (sight_at (sight_of count limit) shards)
+module _ {D : Type 0} (h : Header) (logs shards : List (NodeOf D)) (ledger : IsLedger h logs shards) where
+  pub nodes_of : AreNodesOf h.shape (sight_at sight logs) (sight_at sight shards)
   nodes_of = record {
     logs_are = λ n lt. (ap (λ k. k.shape) (ledger.log_headers n lt), ap (λ k. k.node) (ledger.log_headers n lt));
-    shards_are = are_shards count limit h logs shards ledger;
+    shards_are = are_shards h logs shards ledger;
   }
 
-  pub all_settled : AreChecked count limit h.shape logs shards → AreIdle h.shape (journals_of count limit h.shape logs shards) → (lane : ℕ) → lane < h.shape.coordinators * h.shape.lanes
-      → IsSettled h.shape lane (sight_at sight logs (home_of h.shape lane)) (sight_at (sight_of count limit) shards)
-  all_settled c idle lane lt = fresh_settled_law h.shape c.0 (sight_at sight logs) (sight_at (sight_of count limit) shards) lane (sight_at sight logs (home_of h.shape lane)) (sight_at (sight_of count limit) shards)
+  pub all_settled : AreChecked h.shape logs shards → AreIdle h.shape (journals_of h.shape logs shards) → (lane : ℕ) → lane < h.shape.coordinators * h.shape.lanes
+      → IsSettled h.shape lane (sight_at sight logs (home_of h.shape lane)) (sight_at sight shards)
+  all_settled c idle lane lt = fresh_settled_law h.shape c.0 (sight_at sight logs) (sight_at sight shards) lane (sight_at sight logs (home_of h.shape lane)) (sight_at sight shards)
       ledger.limits lt (λ n low. (nodes_of.logs_are n low).0) c.1 idle (refl, refl) (λ s. refl)
 
 pub all_within : (lanes : List LaneOf) → AreWithin lanes → All (λ x. All IsCompact x.txs) lanes

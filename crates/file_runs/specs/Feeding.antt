@@ -8,23 +8,23 @@ use Rattle.file_runs.specs.Waving.{IsWave}
 use Rattle.lane_sources.specs.Deals.{no_shape}
 
 -- a lane for each of an idle ledger's whose journals are checked, and what the lanes get is within the limits
-pub record CanWave {D : Type 0} (count limit : D → ℕ) (ledger : LedgerOf D) (lanes : List LaneOf) : Type 0 where
+pub record CanWave {D : Type 0} (ledger : LedgerOf D) (lanes : List LaneOf) : Type 0 where
   pub lanes_are : length lanes ≡ ledger.header.shape.coordinators * ledger.header.shape.lanes
-  pub idle : AreIdle ledger.header.shape (journals count limit ledger)
+  pub idle : AreIdle ledger.header.shape (journals ledger)
   pub limits : AreWithin lanes
-  pub checked : IsChecked count limit ledger
+  pub checked : IsChecked ledger
 
 -- before the wave they are those that it begins with, and behind it as a wave leaves them
-abbrev pub Stands : {D : Type 0} → (D → ℕ) → (D → ℕ) → (D → Option (List ℕ)) → (D → List ℕ → Type 0) → LedgerOf D → List LaneOf → LedgerOf D → List LaneOf → Bool → Type 0
-Stands count limit content images before lanes ledger works false = (ledger ≡ before) × (works ≡ lanes) × CanWave count limit before lanes
-Stands count limit content images before lanes ledger works true = IsWave count limit content images before ledger lanes works
+abbrev pub Stands : {D : Type 0} → (D → Option (List ℕ)) → (D → List ℕ → Type 0) → LedgerOf D → List LaneOf → LedgerOf D → List LaneOf → Bool → Type 0
+Stands content images before lanes ledger works false = (ledger ≡ before) × (works ≡ lanes) × CanWave before lanes
+Stands content images before lanes ledger works true = IsWave content images before ledger lanes works
 
 -- and the ledger is there
-pub record IsHeld {D : Type 0} (count limit : D → ℕ) (content : D → Option (List ℕ)) (images : D → List ℕ → Type 0) (before : LedgerOf D) (lanes : List LaneOf)
+pub record IsHeld {D : Type 0} (content : D → Option (List ℕ)) (images : D → List ℕ → Type 0) (before : LedgerOf D) (lanes : List LaneOf)
     (ledger : Option (LedgerOf D)) (works : List LaneOf) (has_run : Bool) : Type 0 where
   pub now : LedgerOf D
   pub there : ledger ≡ Some now
-  pub stands : Stands count limit content images before lanes now works has_run
+  pub stands : Stands content images before lanes now works has_run
 
 -- what stands where no wave is picked
 pub no_ledger : {D : Type 0} → LedgerOf D

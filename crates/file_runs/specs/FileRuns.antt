@@ -17,29 +17,29 @@ use Rattle.file_runs.specs.Endings.{EndsFile}
 use Rattle.file_runs.specs.Telling.{TellsFile}
 
 -- A file's submissions were run over the nodes of a ledger with no open batch: what the ledger is behind it, and what came of it.
-pub record RanFile {D : Type 0} (count limit : D → ℕ) (content : D → Option (List ℕ)) (images : D → List ℕ → Type 0) (verdicts : VerdictsOf) (txs : List FullTx) (before now : Ledger D) (came : Result Wave LaneFault) : Type 0 where
-  pub keeps_ledger : KeepsLedgerOf count limit content images before now
-  pub idle : OnOk came (AreIdle before.header.shape (journals count limit now))
+pub record RanFile {D : Type 0} (content : D → Option (List ℕ)) (images : D → List ℕ → Type 0) (verdicts : VerdictsOf) (txs : List FullTx) (before now : Ledger D) (came : Result Wave LaneFault) : Type 0 where
+  pub keeps_ledger : KeepsLedgerOf content images before now
+  pub idle : OnOk came (AreIdle before.header.shape (journals now))
   -- kept journals have grown and are kept, with these submissions besides
-  pub keeps : OfKept before.header.shape (journals count limit before) (λ mint submissions. StaysKept before.header.shape (journals count limit before) (journals count limit now) mint (submissions ++ txs))
+  pub keeps : OfKept before.header.shape (journals before) (λ mint submissions. StaysKept before.header.shape (journals before) (journals now) mint (submissions ++ txs))
   -- without a fault each lane took what the sound submissions send it, in order, and nothing else was done
-  pub runs : OnOk came (OfKept before.header.shape (journals count limit before) (λ _ _. (sound : FullTx → Bool) → TellsSound verdicts sound → IsFileRun before.header.shape (sent_to before.header.shape sound txs) (journals count limit before) (journals count limit now)))
+  pub runs : OnOk came (OfKept before.header.shape (journals before) (λ _ _. (sound : FullTx → Bool) → TellsSound verdicts sound → IsFileRun before.header.shape (sent_to before.header.shape sound txs) (journals before) (journals now)))
   pub quiet : OnOk came (IsQuiet before → IsQuiet now)
   pub checked : IfOk came (λ w. AreChecked before.header.shape verdicts txs w.checked.items)
   -- and what was decided of each that was sent to its lane
-  pub told : IfOk came (λ w. OfKept before.header.shape (journals count limit before) (λ _ _. TellsFile before.header.shape verdicts txs (journals count limit before) (journals count limit now) w))
+  pub told : IfOk came (λ w. OfKept before.header.shape (journals before) (λ _ _. TellsFile before.header.shape verdicts txs (journals before) (journals now) w))
   -- what is in flight may come next at its node, as before
-  pub flies : OfKept before.header.shape (journals count limit before) (FliesWith before.header.shape txs (journals count limit before) (journals count limit now) (flights count limit before) (flights count limit now))
+  pub flies : OfKept before.header.shape (journals before) (FliesWith before.header.shape txs (journals before) (journals now) (flights before) (flights now))
   -- a Prepare that is in flight was so before, or is that of the next piece of what the file sends to its lane
-  pub launches : Launches before.header.shape (IsSentPiece before.header.shape verdicts txs (journals count limit before) (journals count limit now)) (journals count limit before) (journals count limit now) (flights count limit before) (flights count limit now)
-  pub still : IsChecked count limit now
-  pub grows : (n : ℕ) → IsEnd (journals count limit before n) (journals count limit now n)
-  pub prepared : OnOk came (HavePreparedFile before.header.shape verdicts txs (journals count limit before) (journals count limit now))
+  pub launches : Launches before.header.shape (IsSentPiece before.header.shape verdicts txs (journals before) (journals now)) (journals before) (journals now) (flights before) (flights now)
+  pub still : IsChecked now
+  pub grows : (n : ℕ) → IsEnd (journals before n) (journals now n)
+  pub prepared : OnOk came (HavePreparedFile before.header.shape verdicts txs (journals before) (journals now))
   -- with a fault or without, no lane has prepared anything but the first pieces of what the file sends it
-  pub begun : 0 < before.header.shape.batch → HaveBegunFile before.header.shape verdicts txs (journals count limit before) (journals count limit now)
+  pub begun : 0 < before.header.shape.batch → HaveBegunFile before.header.shape verdicts txs (journals before) (journals now)
   -- a fault has its cause: what an idle lane wants is the Prepare of the next piece of what the file sends it
-  pub fault : IfErr came (IsRunCause before.header.shape (IsSentPiece before.header.shape verdicts txs (journals count limit before) (journals count limit now)) (journals count limit before) (journals count limit now) (HaveFailed (opened count limit now) (faults count limit now)) (MayHold (capacity count limit now)))
+  pub fault : IfErr came (IsRunCause before.header.shape (IsSentPiece before.header.shape verdicts txs (journals before) (journals now)) (journals before) (journals now) (HaveFailed (opened now) (faults now)) (MayHold (capacity now)))
   -- whatever came, each lane is between batches, or its batch lacks a Lock, or the disk of a node that it asks has failed
-  pub rests : AllRest before.header.shape (journals count limit now) (HaveFailed (opened count limit now) (faults count limit now))
+  pub rests : AllRest before.header.shape (journals now) (HaveFailed (opened now) (faults now))
   -- it is that of the least lane that met one: each lesser lane has run all that the file sends it
-  pub least : IfErr came (EndsFile before.header.shape verdicts txs (journals count limit before) (journals count limit now) (HaveFailed (opened count limit now) (faults count limit now)) (MayHold (capacity count limit now)))
+  pub least : IfErr came (EndsFile before.header.shape verdicts txs (journals before) (journals now) (HaveFailed (opened now) (faults now)) (MayHold (capacity now)))

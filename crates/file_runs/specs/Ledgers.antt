@@ -5,8 +5,7 @@ use Rattle.cbdc_model.specs.Records.{Shape, Header, Record}
 use Rattle.cbdc_model.specs.Ranges.{shard_node}
 use Rattle.cbdc_model.specs.After.{After, IsJournal}
 use Rattle.cbdc_model.specs.History.{Minted, header_of}
-use Rattle.coord_log.specs.Logs.{LogOf, sight, HoldsJournal as HoldsLog}
-use Rattle.shard_node.specs.Shards.{ShardOf, sight_of, HoldsJournal as HoldsShard}
+use Rattle.node_journal.specs.Nodes.{NodeOf, sight, HoldsJournal}
 use Rattle.node_ports.specs.Nodes.{sight_at}
 use Rattle.ledger_runs.specs.Keeping.{KeepsLedger}
 use Rattle.run_laws.specs.Runs.{seen_by}
@@ -15,88 +14,84 @@ use Rattle.run_laws.specs.Faults.{opened_by, capacity_by}
 use Rattle.run_laws.specs.Flights.{flying}
 
 -- as many coordinators and shards as the ledger's shape has, each under its own header, with a journal of it
-pub record IsLedger {D : Type 0} (h : Header) (logs : List (LogOf D)) (shards : List (ShardOf D)) : Type 0 where
+pub record IsLedger {D : Type 0} (h : Header) (logs shards : List (NodeOf D)) : Type 0 where
   pub limits : IsWithinLimits h.shape
   pub coordinators : length logs ≡ h.shape.coordinators
   pub shards_are : length shards ≡ h.shape.shards
   pub log_headers : (n : ℕ) → n < h.shape.coordinators → (sight_at sight logs n).header ≡ header_of h.shape h.genesis n
-  pub shard_headers : (s : ℕ) → s < h.shape.shards → (sight_at (sight_of (λ d. 0) (λ d. 0)) shards s).header ≡ header_of h.shape h.genesis (shard_node h.shape s)
+  pub shard_headers : (s : ℕ) → s < h.shape.shards → (sight_at sight shards s).header ≡ header_of h.shape h.genesis (shard_node h.shape s)
   pub log_journals : All (λ l. IsJournal l.header l.journal) logs
   pub shard_journals : All (λ s. IsJournal s.header s.journal) shards
 
 -- what contracts see of a ledger: its header, which is that of node 0, and its nodes
 pub record LedgerOf (D : Type 0) : Type 0 where
   pub header : Header
-  pub logs : List (LogOf D)
-  pub shards : List (ShardOf D)
+  pub logs : List (NodeOf D)
+  pub shards : List (NodeOf D)
 
--- the journals of all nodes, the coordinators first, by the counts of their disks
-abbrev pub journals_of : {D : Type 0} → (D → ℕ) → (D → ℕ) → Shape → List (LogOf D) → List (ShardOf D) → ℕ → List Record
-journals_of count limit K logs shards = seen_by K (sight_at sight logs) (sight_at (sight_of count limit) shards)
+-- the journals of all nodes, the coordinators first
+abbrev pub journals_of : {D : Type 0} → Shape → List (NodeOf D) → List (NodeOf D) → ℕ → List Record
+journals_of K logs shards = seen_by K (sight_at sight logs) (sight_at sight shards)
 
 -- how often the disk of each node has failed
-abbrev pub faults_of : {D : Type 0} → (D → ℕ) → (D → ℕ) → Shape → List (LogOf D) → List (ShardOf D) → ℕ → ℕ
-faults_of count limit K logs shards n =
-    if nat_lt n K.coordinators then (sight_at sight logs n).faults else (sight_at (sight_of count limit) shards (n - K.coordinators)).faults
+abbrev pub faults_of : {D : Type 0} → Shape → List (NodeOf D) → List (NodeOf D) → ℕ → ℕ
+faults_of K logs shards n =
+    if nat_lt n K.coordinators then (sight_at sight logs n).faults else (sight_at sight shards (n - K.coordinators)).faults
 
--- how often it had when the node was opened, and how many bytes it may hold
-abbrev pub opened_of : {D : Type 0} → (D → ℕ) → (D → ℕ) → Shape → List (LogOf D) → List (ShardOf D) → ℕ → ℕ
-opened_of count limit K logs shards = opened_by K (sight_at sight logs) (sight_at (sight_of count limit) shards)
+-- how often it had when the node was opened
+abbrev pub opened_of : {D : Type 0} → Shape → List (NodeOf D) → List (NodeOf D) → ℕ → ℕ
+opened_of K logs shards = opened_by K (sight_at sight logs) (sight_at sight shards)
 
 -- how many bytes it may hold
-abbrev pub capacity_of : {D : Type 0} → (D → ℕ) → (D → ℕ) → Shape → List (LogOf D) → List (ShardOf D) → ℕ → ℕ
-capacity_of count limit K logs shards = capacity_by K (sight_at sight logs) (sight_at (sight_of count limit) shards)
+abbrev pub capacity_of : {D : Type 0} → Shape → List (NodeOf D) → List (NodeOf D) → ℕ → ℕ
+capacity_of K logs shards = capacity_by K (sight_at sight logs) (sight_at sight shards)
 
 -- the record in flight at each node, if there is one
-abbrev pub flights_of : {D : Type 0} → (D → ℕ) → (D → ℕ) → Shape → List (LogOf D) → List (ShardOf D) → ℕ → Option Record
-flights_of count limit K logs shards = flying K (sight_at sight logs) (sight_at (sight_of count limit) shards)
+abbrev pub flights_of : {D : Type 0} → Shape → List (NodeOf D) → List (NodeOf D) → ℕ → Option Record
+flights_of K logs shards = flying K (sight_at sight logs) (sight_at sight shards)
 
--- a coordinator's record in flight may come next there, and a shard's
-abbrev pub IsLogNext : {D : Type 0} → LogOf D → Type 0
-IsLogNext l = IfSome l.flight (After l.header l.journal)
-
--- `flights_of`, `IsLogNext`, `IsShardNext`: the record in flight at each node; a coordinator's may come next there, and a shard's
-abbrev pub IsShardNext : {D : Type 0} → ShardOf D → Type 0
-IsShardNext s = IfSome s.flight (After s.header s.journal)
+-- the node's record in flight, if there is one, may come next there
+abbrev pub FliesNext : {D : Type 0} → NodeOf D → Type 0
+FliesNext n = IfSome n.flight (After n.header n.journal)
 
 -- each record of the journals is after those before it, and caused
-abbrev pub AreChecked : {D : Type 0} → (D → ℕ) → (D → ℕ) → Shape → List (LogOf D) → List (ShardOf D) → Type 0
-AreChecked count limit K logs shards = (m : Minted) × CheckedJournals K m (journals_of count limit K logs shards)
+abbrev pub AreChecked : {D : Type 0} → Shape → List (NodeOf D) → List (NodeOf D) → Type 0
+AreChecked K logs shards = (m : Minted) × CheckedJournals K m (journals_of K logs shards)
 
 -- each node's disk holds its journal
-pub record AreStored {D : Type 0} (content : D → Option (List ℕ)) (images : D → List ℕ → Type 0) (logs : List (LogOf D)) (shards : List (ShardOf D)) : Type 0 where
-  pub logs_are : All (HoldsLog content images) logs
-  pub shards_are : All (HoldsShard content images) shards
+pub record AreStored {D : Type 0} (content : D → Option (List ℕ)) (images : D → List ℕ → Type 0) (logs shards : List (NodeOf D)) : Type 0 where
+  pub logs_are : All (HoldsJournal content images) logs
+  pub shards_are : All (HoldsJournal content images) shards
 
 -- no node has a record in flight
-pub record AreQuiet {D : Type 0} (logs : List (LogOf D)) (shards : List (ShardOf D)) : Type 0 where
+pub record AreQuiet {D : Type 0} (logs shards : List (NodeOf D)) : Type 0 where
   pub logs_are : (n : ℕ) → (sight_at sight logs n).flight ≡ None
-  pub shards_are : (s : ℕ) → (sight_at (sight_of (λ d. 0) (λ d. 0)) shards s).flight ≡ None
+  pub shards_are : (s : ℕ) → (sight_at sight shards s).flight ≡ None
 
 -- ---- a ledger by its own shape
 
-module _ {D : Type 0} (count limit : D → ℕ) where
+module _ {D : Type 0} where
   -- the journal of each node, and the record in flight there, if there is one
   abbrev pub journals : LedgerOf D → ℕ → List Record
-  journals l = journals_of count limit l.header.shape l.logs l.shards
+  journals l = journals_of l.header.shape l.logs l.shards
 
   -- `journals`, `flights`, `faults`, `opened`, `capacity`, `IsChecked`, `IsQuiet`, `IsStored`: the same of a ledger, by its own shape
   abbrev pub flights : LedgerOf D → ℕ → Option Record
-  flights l = flights_of count limit l.header.shape l.logs l.shards
+  flights l = flights_of l.header.shape l.logs l.shards
 
   -- how often the disk of each node has failed, how often it had when the node was opened, and how many bytes it may hold
   abbrev pub faults : LedgerOf D → ℕ → ℕ
-  faults l = faults_of count limit l.header.shape l.logs l.shards
+  faults l = faults_of l.header.shape l.logs l.shards
 
   abbrev pub opened : LedgerOf D → ℕ → ℕ
-  opened l = opened_of count limit l.header.shape l.logs l.shards
+  opened l = opened_of l.header.shape l.logs l.shards
 
   abbrev pub capacity : LedgerOf D → ℕ → ℕ
-  capacity l = capacity_of count limit l.header.shape l.logs l.shards
+  capacity l = capacity_of l.header.shape l.logs l.shards
 
   -- each record of its journals is after those before it, and caused
   abbrev pub IsChecked : LedgerOf D → Type 0
-  IsChecked l = AreChecked count limit l.header.shape l.logs l.shards
+  IsChecked l = AreChecked l.header.shape l.logs l.shards
 
 -- each node's disk holds its journal, and no node has a record in flight
 abbrev pub IsStored : {D : Type 0} → (D → Option (List ℕ)) → (D → List ℕ → Type 0) → LedgerOf D → Type 0
@@ -106,8 +101,8 @@ abbrev pub IsQuiet : {D : Type 0} → LedgerOf D → Type 0
 IsQuiet l = AreQuiet l.logs l.shards
 
 -- what a call keeps of a ledger's nodes
-module _ {D : Type 0} (count limit : D → ℕ) (content : D → Option (List ℕ)) (images : D → List ℕ → Type 0) where
+module _ {D : Type 0} (content : D → Option (List ℕ)) (images : D → List ℕ → Type 0) where
   -- `KeepsLedger` (ledger_runs) of a ledger's nodes: what their disks held they hold
   abbrev pub KeepsLedgerOf : LedgerOf D → LedgerOf D → Type 0
   KeepsLedgerOf before after =
-      KeepsLedger (λ (l : LedgerOf D). l.header.shape) (opened count limit) (faults count limit) (capacity count limit) (IsStored content images) before after
+      KeepsLedger (λ (l : LedgerOf D). l.header.shape) opened faults capacity (IsStored content images) before after

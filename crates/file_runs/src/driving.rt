@@ -3,14 +3,13 @@ ghost use Rattle.std.specs.Prelude.{◌≡◌, ◌<◌, ◌/◌, true, [], ◌�
 ghost use Rattle.cbdc_model.specs.After.{IsJournal};
 ghost use Rattle.cbdc_model.specs.Ranges.{home_of};
 ghost use Rattle.cbdc_model.specs.Slots.{Idle};
-ghost use Rattle.coord_log.specs.Logs.{sight};
+ghost use Rattle.node_journal.specs.Nodes.{sight};
 ghost use Rattle.coord_log.specs.OpenLanes.{open_lane};
-ghost use Rattle.shard_node.specs.Shards.{sight_of};
 ghost use Rattle.node_ports.specs.Nodes.{sight_at};
 ghost use Rattle.lane_laws.specs.Resuming.{IsTakenUp};
 ghost use Rattle.recovery.specs.Open.{IsResumed, IsUnfinished, HasItsOutcomes, IsResumeStopped};
 ghost use Rattle.ledger_runs.specs.Turning.{phase_at, IsLaneOf};
-ghost use Rattle.file_runs.specs.Ledgers.{IsLedger, IsLogNext, IsShardNext, journals_of, AreChecked};
+ghost use Rattle.file_runs.specs.Ledgers.{IsLedger, FliesNext, journals_of, AreChecked};
 ghost use Rattle.file_runs.specs.Steps.{IsStep};
 ghost use Rattle.file_runs.specs.Ones.{IsOneOf};
 ghost use Rattle.recovery.specs.declared.resumed.ResumedBatch.{ResumedBatch as BatchOf};
@@ -37,7 +36,7 @@ pub(crate) fn home(shape: &Shape, lane: LaneId) -> u32
 /// Each coordinator's journal is one of its header, and a record in flight may come next there.
 pub(crate) fn see_logs<D: Disk>(logs: &[CoordLog<D>])
     ensures journals { All (λ l. IsJournal l.header l.journal) logs.now }
-    ensures next { All IsLogNext logs.now }
+    ensures next { All FliesNext logs.now }
 {
     'logs: for log in logs {
         let _records = log.records();
@@ -47,7 +46,7 @@ pub(crate) fn see_logs<D: Disk>(logs: &[CoordLog<D>])
 /// Each shard's journal is one of its header, and a record in flight may come next there.
 pub(crate) fn see_shards<D: Disk>(shards: &[ShardNode<D>])
     ensures journals { All (λ s. IsJournal s.header s.journal) shards.now }
-    ensures next { All IsShardNext shards.now }
+    ensures next { All FliesNext shards.now }
 {
     'shards: for shard in shards {
         let _records = shard.records();
@@ -81,21 +80,21 @@ pub(crate) fn drive_resume<W: Wait, D: Disk, G: Gate>(
     requires lane { IsLaneOf header.now.shape lane }
     requires told { open_lane (sight_at sight ports.old.log.logs.items (home_of header.now.shape lane)).seen lane ≡ Some unfinished.now }
     requires plan { plan ≡ record { shape = header.now.shape; lanes = unfinished.now ∷ [] } }
-    requires checked { AreChecked D.count D.limit header.now.shape ports.old.log.logs.items ports.old.shards.nodes.items }
-    ensures step { IsStep D.count D.limit D.content D.images header.now lane ports.old.log.logs.items ports.old.shards.nodes.items ports.new.log.logs.items ports.new.shards.nodes.items }
+    requires checked { AreChecked header.now.shape ports.old.log.logs.items ports.old.shards.nodes.items }
+    ensures step { IsStep D.content D.images header.now lane ports.old.log.logs.items ports.old.shards.nodes.items ports.new.log.logs.items ports.new.shards.nodes.items }
     ensures taken { OnOk result (IsUnfinished unfinished.now.phase header.now.shape unfinished.now
-        (sight_at sight ports.old.log.logs.items (home_of header.now.shape lane)) (sight_at (sight_of D.count D.limit) ports.old.shards.nodes.items)
+        (sight_at sight ports.old.log.logs.items (home_of header.now.shape lane)) (sight_at sight ports.old.shards.nodes.items)
         → IsTakenUp header.now.shape true unfinished.now.batch
-        (sight_at sight ports.old.log.logs.items (home_of header.now.shape lane)) (sight_at (sight_of D.count D.limit) ports.old.shards.nodes.items)
-        (sight_at sight ports.new.log.logs.items (home_of header.now.shape lane)) (sight_at (sight_of D.count D.limit) ports.new.shards.nodes.items)) }
+        (sight_at sight ports.old.log.logs.items (home_of header.now.shape lane)) (sight_at sight ports.old.shards.nodes.items)
+        (sight_at sight ports.new.log.logs.items (home_of header.now.shape lane)) (sight_at sight ports.new.shards.nodes.items)) }
     ensures resumed { IfOk result (IsResumed unfinished.now) }
     ensures outcomes { IfOk result (λ r. IsUnfinished unfinished.now.phase header.now.shape unfinished.now
-        (sight_at sight ports.old.log.logs.items (home_of header.now.shape lane)) (sight_at (sight_of D.count D.limit) ports.old.shards.nodes.items)
+        (sight_at sight ports.old.log.logs.items (home_of header.now.shape lane)) (sight_at sight ports.old.shards.nodes.items)
         → HasItsOutcomes unfinished.now.phase unfinished.now (sight_at sight ports.new.log.logs.items (home_of header.now.shape lane)).seen r) }
     ensures left { IfErr result (IsResumeStopped header.now.shape true unfinished.now
-        (sight_at sight ports.old.log.logs.items (home_of header.now.shape lane)) (sight_at (sight_of D.count D.limit) ports.old.shards.nodes.items)
-        (sight_at sight ports.new.log.logs.items (home_of header.now.shape lane)) (sight_at (sight_of D.count D.limit) ports.new.shards.nodes.items)) }
-    ensures idle { OnOk result (phase_at header.now.shape (journals_of D.count D.limit header.now.shape ports.new.log.logs.items ports.new.shards.nodes.items) lane ≡ Idle) }
+        (sight_at sight ports.old.log.logs.items (home_of header.now.shape lane)) (sight_at sight ports.old.shards.nodes.items)
+        (sight_at sight ports.new.log.logs.items (home_of header.now.shape lane)) (sight_at sight ports.new.shards.nodes.items)) }
+    ensures idle { OnOk result (phase_at header.now.shape (journals_of header.now.shape ports.new.log.logs.items ports.new.shards.nodes.items) lane ≡ Idle) }
 {
     ports.log.at = home(&header.shape, lane);
     ports.shards.lane = lane;

@@ -43,49 +43,49 @@ pub fn run_files<W: Wait + Threads + Sync, D: Disk + Send, V: Verifier + Sync, G
     options: RunOptions,
     gate: &G,
 ) -> FilesRun<D>
-    requires idle { AreIdle ledger.header.shape (journals D.count D.limit ledger) }
+    requires idle { AreIdle ledger.header.shape (journals ledger) }
     requires short { All (λ txs. All IsShort txs) files.now }
-    requires checked { IsChecked D.count D.limit ledger }
-    ensures keeps_ledger { KeepsLedgerOf D.count D.limit D.content D.images ledger result.ledger }
-    ensures idle { OnOk result.came (AreIdle ledger.header.shape (journals D.count D.limit result.ledger)) }
+    requires checked { IsChecked ledger }
+    ensures keeps_ledger { KeepsLedgerOf D.content D.images ledger result.ledger }
+    ensures idle { OnOk result.came (AreIdle ledger.header.shape (journals result.ledger)) }
 
     // Kept journals have grown and are kept, with the submissions of all files besides.
-    ensures keeps { OfKept ledger.header.shape (journals D.count D.limit ledger)
-        (λ mint submissions. StaysKept ledger.header.shape (journals D.count D.limit ledger) (journals D.count D.limit result.ledger) mint (submissions ++ joined files.now)) }
+    ensures keeps { OfKept ledger.header.shape (journals ledger)
+        (λ mint submissions. StaysKept ledger.header.shape (journals ledger) (journals result.ledger) mint (submissions ++ joined files.now)) }
 
     // Without a fault, where the journals are those at entry with their open batches brought to their end, the files' waves follow.
-    ensures waves { OnOk result.came (OfKept ledger.header.shape (journals D.count D.limit ledger) (λ _ _. (sound : TxOf → Bool) (E : ℕ → List Record)
-        → TellsSound (V.verdict_of verifier.now) sound → IsResumed ledger.header.shape E (journals D.count D.limit ledger) → Waves ledger.header.shape sound files.now E (journals D.count D.limit result.ledger))) }
+    ensures waves { OnOk result.came (OfKept ledger.header.shape (journals ledger) (λ _ _. (sound : TxOf → Bool) (E : ℕ → List Record)
+        → TellsSound (V.verdict_of verifier.now) sound → IsResumed ledger.header.shape E (journals ledger) → Waves ledger.header.shape sound files.now E (journals result.ledger))) }
 
     // And what each wave tells of its submissions.
-    ensures told { IfOk result.came (λ ws. OfKept ledger.header.shape (journals D.count D.limit ledger) (λ _ _. TellFiles ledger.header.shape (V.verdict_of verifier.now) files.now (journals D.count D.limit ledger) (journals D.count D.limit result.ledger) ws.items)) }
+    ensures told { IfOk result.came (λ ws. OfKept ledger.header.shape (journals ledger) (λ _ _. TellFiles ledger.header.shape (V.verdict_of verifier.now) files.now (journals ledger) (journals result.ledger) ws.items)) }
 
     // With a fault or without, files before have been run behind the resuming, and what came behind them is new.
-    ensures cut { OfKept ledger.header.shape (journals D.count D.limit ledger) (λ mint _. (sound : TxOf → Bool) (E : ℕ → List Record)
-        → TellsSound (V.verdict_of verifier.now) sound → IsResumed ledger.header.shape E (journals D.count D.limit ledger) → AreCut ledger.header.shape sound files.now mint E (journals D.count D.limit result.ledger)) }
+    ensures cut { OfKept ledger.header.shape (journals ledger) (λ mint _. (sound : TxOf → Bool) (E : ℕ → List Record)
+        → TellsSound (V.verdict_of verifier.now) sound → IsResumed ledger.header.shape E (journals ledger) → AreCut ledger.header.shape sound files.now mint E (journals result.ledger)) }
 
     ensures quiet { OnOk result.came (IsQuiet ledger → IsQuiet result.ledger) }
     // What is in flight may come next at its node, as before.
-    ensures flies { OfKept ledger.header.shape (journals D.count D.limit ledger) (FliesWith ledger.header.shape (joined files.now) (journals D.count D.limit ledger) (journals D.count D.limit result.ledger) (flights D.count D.limit ledger) (flights D.count D.limit result.ledger)) }
+    ensures flies { OfKept ledger.header.shape (journals ledger) (FliesWith ledger.header.shape (joined files.now) (journals ledger) (journals result.ledger) (flights ledger) (flights result.ledger)) }
 
     // A Prepare that is in flight was so before, or is that of the next piece of what the files send to its lane.
-    ensures launches { Launches ledger.header.shape (IsFilesPiece ledger.header.shape (V.verdict_of verifier.now) files.now (journals D.count D.limit ledger) (journals D.count D.limit result.ledger)) (journals D.count D.limit ledger) (journals D.count D.limit result.ledger) (flights D.count D.limit ledger) (flights D.count D.limit result.ledger) }
+    ensures launches { Launches ledger.header.shape (IsFilesPiece ledger.header.shape (V.verdict_of verifier.now) files.now (journals ledger) (journals result.ledger)) (journals ledger) (journals result.ledger) (flights ledger) (flights result.ledger) }
 
-    ensures still { IsChecked D.count D.limit result.ledger }
-    ensures grows { (n : ℕ) → IsEnd (journals D.count D.limit ledger n) (journals D.count D.limit result.ledger n) }
+    ensures still { IsChecked result.ledger }
+    ensures grows { (n : ℕ) → IsEnd (journals ledger n) (journals result.ledger n) }
 
     // With a fault or without, no lane has prepared anything but the first pieces of what the files send it.
-    ensures begun { 0 < ledger.header.shape.batch → HaveBegunFiles ledger.header.shape (V.verdict_of verifier.now) files.now (journals D.count D.limit ledger) (journals D.count D.limit result.ledger) }
+    ensures begun { 0 < ledger.header.shape.batch → HaveBegunFiles ledger.header.shape (V.verdict_of verifier.now) files.now (journals ledger) (journals result.ledger) }
 
     // A fault has its cause: what an idle lane wants is the Prepare of the next piece of what the files send it.
-    ensures fault { IfErr result.came (IsRunCause ledger.header.shape (IsFilesPiece ledger.header.shape (V.verdict_of verifier.now) files.now (journals D.count D.limit ledger) (journals D.count D.limit result.ledger)) (journals D.count D.limit ledger) (journals D.count D.limit result.ledger)
-        (HaveFailed (opened D.count D.limit result.ledger) (faults D.count D.limit result.ledger)) (MayHold (capacity D.count D.limit result.ledger))) }
+    ensures fault { IfErr result.came (IsRunCause ledger.header.shape (IsFilesPiece ledger.header.shape (V.verdict_of verifier.now) files.now (journals ledger) (journals result.ledger)) (journals ledger) (journals result.ledger)
+        (HaveFailed (opened result.ledger) (faults result.ledger)) (MayHold (capacity result.ledger))) }
 
     // Whatever came, each lane is between batches, or its batch lacks a Lock, or the disk of a node that it asks has failed.
-    ensures rests { AllRest ledger.header.shape (journals D.count D.limit result.ledger) (HaveFailed (opened D.count D.limit result.ledger) (faults D.count D.limit result.ledger)) }
+    ensures rests { AllRest ledger.header.shape (journals result.ledger) (HaveFailed (opened result.ledger) (faults result.ledger)) }
 
     // It is that of the least lane that met one, behind files that have been run: each lesser lane has run all that its file sends it.
-    ensures least { IfErr result.came (EndsFiles ledger.header.shape (V.verdict_of verifier.now) files.now (journals D.count D.limit ledger) (journals D.count D.limit result.ledger) (HaveFailed (opened D.count D.limit result.ledger) (faults D.count D.limit result.ledger)) (MayHold (capacity D.count D.limit result.ledger))) }
+    ensures least { IfErr result.came (EndsFiles ledger.header.shape (V.verdict_of verifier.now) files.now (journals ledger) (journals result.ledger) (HaveFailed (opened result.ledger) (faults result.ledger)) (MayHold (capacity result.ledger))) }
 {
     let Ok(mut waves) = Vec::with_capacity(alloc, files.len()) else {
         return FilesRun {

@@ -1,7 +1,7 @@
 // The nodes of a ledger, lent to the ports of its lanes.
 ghost use Rattle.std.specs.Prelude.{◌≡◌};
 ghost use Rattle.cbdc_model.specs.Ranges.{home_of};
-ghost use Rattle.coord_log.specs.Logs.{sight};
+ghost use Rattle.node_journal.specs.Nodes.{sight};
 ghost use Rattle.coord_log.specs.OpenLanes.{open_lane};
 ghost use Rattle.node_ports.specs.Nodes.{sight_at};
 ghost use Rattle.file_runs.specs.Ledgers.{journals_of, flights_of, faults_of, opened_of, capacity_of, AreChecked, AreStored, AreQuiet};
@@ -78,17 +78,17 @@ impl<'r, W: Wait, D: Disk> LentLedger<'r, W, D> {
 impl<'r, W: Wait, D: Disk> Turns for LentLedger<'r, W, D> {
     ghost shape = { λ l. l.header.shape };
 
-    ghost journals = { λ l. journals_of D.count D.limit l.header.shape l.logs l.shards };
+    ghost journals = { λ l. journals_of l.header.shape l.logs l.shards };
 
-    ghost flights = { λ l. flights_of D.count D.limit l.header.shape l.logs l.shards };
+    ghost flights = { λ l. flights_of l.header.shape l.logs l.shards };
 
-    ghost faults = { λ l. faults_of D.count D.limit l.header.shape l.logs l.shards };
+    ghost faults = { λ l. faults_of l.header.shape l.logs l.shards };
 
-    ghost opened = { λ l. opened_of D.count D.limit l.header.shape l.logs l.shards };
+    ghost opened = { λ l. opened_of l.header.shape l.logs l.shards };
 
-    ghost capacity = { λ l. capacity_of D.count D.limit l.header.shape l.logs l.shards };
+    ghost capacity = { λ l. capacity_of l.header.shape l.logs l.shards };
 
-    ghost checked = { λ l. AreChecked D.count D.limit l.header.shape l.logs l.shards };
+    ghost checked = { λ l. AreChecked l.header.shape l.logs l.shards };
 
     ghost quiet = { λ l. AreQuiet l.logs l.shards };
 

@@ -131,10 +131,10 @@ fn run_dealt<
     gate: &G,
 ) -> FileRun<D>
     requires shape { F.shape ≡ ledger.header.shape }
-    requires idle { AreIdle ledger.header.shape (journals D.count D.limit ledger) }
+    requires idle { AreIdle ledger.header.shape (journals ledger) }
     requires short { All IsShort F.file }
-    requires checked { IsChecked D.count D.limit ledger }
-    ensures { RanFile D.count D.limit D.content D.images F.verdicts F.file ledger result.ledger result.came }
+    requires checked { IsChecked ledger }
+    ensures { RanFile D.content D.images F.verdicts F.file ledger result.ledger result.came }
 {
     let mut feeders = Vec::new(alloc);
     let Ok(works) = works_of(rt, alloc, file, repeats, &mut feeders) else {
@@ -184,10 +184,10 @@ fn run_picked<
     requires shape { F.shape ≡ ledger.header.shape }
     requires file { F.file ≡ txs.now }
     requires verdicts { F.verdicts ≡ V.verdict_of verifier.now }
-    requires idle { AreIdle ledger.header.shape (journals D.count D.limit ledger) }
+    requires idle { AreIdle ledger.header.shape (journals ledger) }
     requires short { All IsShort txs.now }
-    requires checked { IsChecked D.count D.limit ledger }
-    ensures { RanFile D.count D.limit D.content D.images F.verdicts F.file ledger result.ledger result.came }
+    requires checked { IsChecked ledger }
+    ensures { RanFile D.content D.images F.verdicts F.file ledger result.ledger result.came }
 {
     let file: FileOf<'_, V, F> = FileOf::new(txs, verifier, ledger.shape().lane_count());
     run_dealt(rt, alloc, &file, ledger, options.repeats, gate)
@@ -204,10 +204,10 @@ pub fn run_file<W: Wait + Threads + Sync, D: Disk + Send, V: Verifier + Sync, G:
     options: RunOptions,
     gate: &G,
 ) -> FileRun<D>
-    requires idle { AreIdle ledger.header.shape (journals D.count D.limit ledger) }
+    requires idle { AreIdle ledger.header.shape (journals ledger) }
     requires short { All IsShort txs.now }
-    requires checked { IsChecked D.count D.limit ledger }
-    ensures { RanFile D.count D.limit D.content D.images (V.verdict_of verifier.now) txs.now ledger result.ledger result.came }
+    requires checked { IsChecked ledger }
+    ensures { RanFile D.content D.images (V.verdict_of verifier.now) txs.now ledger result.ledger result.came }
 {
     run_picked::<W, D, V, Brand, G>(rt, alloc, ledger, txs, verifier, options, gate)
 }

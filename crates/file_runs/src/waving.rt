@@ -43,11 +43,11 @@ pub fn run_wave<W: Threads + Wait + Sync, D: Disk + Send, X: Source + Send, G: G
     gate: &G,
 ) -> Ledger<D>
     requires count { length lanes.old.items ≡ ledger.header.shape.coordinators * ledger.header.shape.lanes }
-    requires idle { AreIdle ledger.header.shape (journals D.count D.limit ledger) }
+    requires idle { AreIdle ledger.header.shape (journals ledger) }
     requires limits { AreWithin lanes.old.items }
-    requires checked { IsChecked D.count D.limit ledger }
+    requires checked { IsChecked ledger }
     ensures header { result.header ≡ ledger.header }
-    ensures wave { IsWave D.count D.limit D.content D.images ledger result lanes.old.items lanes.new.items }
+    ensures wave { IsWave D.content D.images ledger result lanes.old.items lanes.new.items }
 {
     let Ledger {
         header,

@@ -2,6 +2,7 @@
 use Rattle.std.proofs.Common.{◌≡◌, ◌⊎◌, inl, inr, ◌<◌, ◌≤◌, ◌++◌, ℕ, List, [], length, reverse, Option, Some, None, refl, sym, ap, ◌∙◌, subst, arith}
 use Rattle.std.proofs.lemmas.Bool.{cases_lt}
 use Rattle.std.proofs.lemmas.List.FromFn.{length-map-range_with_len}
+use Rattle.outside.specs.declared.disk.Disk.{Ghosts}
 use Rattle.cbdc_types.specs.Limits.{IsWithinLimits}
 use Rattle.cbdc_types.specs.declared.answer.Answer.{Answer}
 use Rattle.cbdc_types.specs.declared.answer.Answer.TheVariants as answers
@@ -17,7 +18,7 @@ use Rattle.cbdc_model.specs.World.{KeptJournals, AreIdle}
 use Rattle.mem_devices.specs.declared.plain_disk.PlainDisk.{PlainDisk}
 use Rattle.mem_devices.specs.declared.plain_rack.PlainRack.{PlainRack}
 use Rattle.mem_devices.specs.Places.{faults_at}
-use Rattle.mem_devices.specs.PlainRacks.{AllIn, disk_at, bytes_told, bytes_left, room_of, faults_of}
+use Rattle.mem_devices.specs.PlainRacks.{AllIn, disk_at, plain}
 use Rattle.ledger_laws.proofs.Recovery.{idle_law}
 use Rattle.ledger_init.specs.Made.{HoldsFirst, first_of}
 use Rattle.rack_ledgers.proofs.Once.{opens_once_law}
@@ -71,15 +72,15 @@ all_few seed n small =
     omega (arith, small, a, b)
 
 -- the ledger that disks show
-module _ {D : Type 0} (content : D → Option (List ℕ)) (images : D → List ℕ → Type 0) (held : ℕ → Option D) (K : Shape) (mint : List Output) (submissions : List FullTx) (X : ℕ → List Record)
+module _ {D : Type 0} (device : Ghosts D) (held : ℕ → Option D) (K : Shape) (mint : List Output) (submissions : List FullTx) (X : ℕ → List Record)
     (within : IsWithinLimits K) (minted_few : length mint ≤ 1000000) (kept : KeptJournals K mint submissions X) where
-  pub shown : HoldsEach images held K X → ((n : ℕ) → n < node_count K → (d : D) × (held n ≡ Some d) × ((c : List ℕ) × (content d ≡ Some c) × images d c)) → Shows content held K (genesis_id mint) X
+  pub shown : HoldsEach device held K X → ((n : ℕ) → n < node_count K → (d : D) × (held n ≡ Some d) × ((c : List ℕ) × (device.content d ≡ Some c) × device.images d c)) → Shows device held K (genesis_id mint) X
   shown disks tells n inside =
       let t = tells n inside in
       (t.0, t.1, (t.2.0, t.2.1, record { opens = disks n inside t.0 t.1 t.2.0 t.2.2; limits = within; journal = kept_journal K mint within minted_few submissions X kept n inside }))
 
   -- the history that was told is that of its journals
-  module _ (shows : Shows content held K (genesis_id mint) X) (shape : Shape) (rows : List Row) (history : IsToldHistory content held shape (genesis_id mint) rows) where
+  module _ (shows : Shows device held K (genesis_id mint) X) (shape : Shape) (rows : List Row) (history : IsToldHistory device held shape (genesis_id mint) rows) where
     same_at : (n : ℕ) → n < node_count K → n < node_count shape → (header_of shape (genesis_id mint) n ≡ header_of K (genesis_id mint) n) × (journal n (reverse rows) ≡ X n)
     same_at n inside there =
         let s = shows n inside in
@@ -97,7 +98,7 @@ module _ {D : Type 0} (content : D → Option (List ℕ)) (images : D → List �
       | inr past ↦ history.others n (subst (λ k. node_count k ≤ n) (sym shape_is) past) ∙ sym (kept_beyond K mint within minted_few submissions X kept n past)
     ]
 
-  pub verdict_of : Shows content held K (genesis_id mint) X → (handed : List FullTx) (verdict : Verdict) → IsAudited content held mint handed verdict → HasVerdictOf K mint handed X verdict
+  pub verdict_of : Shows device held K (genesis_id mint) X → (handed : List FullTx) (verdict : Verdict) → IsAudited device held mint handed verdict → HasVerdictOf K mint handed X verdict
   verdict_of shows handed verdict audited = record {
     rows = audited.rows;
     journals_are = journals_are shows audited.shape audited.rows audited.history;
@@ -131,43 +132,43 @@ module _ (K : Shape) (seed n : ℕ) (within : IsWithinLimits K) (small : n ≤ 1
 
 module _ (K : Shape) (mint : List Output) (few_coins : length mint ≤ 1000000) (limits : IsWithinLimits K) where
   -- what is in place tells its bytes
-  pub told_there : (rack : PlainRack) → AllIn rack → (n : ℕ) → n < node_count K → (d : PlainDisk) × (disk_at rack n ≡ Some d) × ((c : List ℕ) × (bytes_told d ≡ Some c) × bytes_left d c)
+  pub told_there : (rack : PlainRack) → AllIn rack → (n : ℕ) → n < node_count K → (d : PlainDisk) × (disk_at rack n ≡ Some d) × ((c : List ℕ) × (plain.content d ≡ Some c) × plain.images d c)
   told_there rack all n inside =
       let d = there rack all n (omega (arith, inside, limits.coordinators, limits.shards)) in
       (d.0, d.1, (d.0.bytes.items, refl, refl))
 
   -- the ledger that was made
-  pub made_shown : (old mid : PlainRack) → AreReady K mint old → AllIn mid → ((n : ℕ) → n < node_count K → HoldsFirst bytes_told bytes_left (first_of K mint n) (disk_at old n) (disk_at mid n))
-      → Shows bytes_told (disk_at mid) K (genesis_id mint) (first_journals K mint)
+  pub made_shown : (old mid : PlainRack) → AreReady K mint old → AllIn mid → ((n : ℕ) → n < node_count K → HoldsFirst plain (first_of K mint n) (disk_at old n) (disk_at mid n))
+      → Shows plain (disk_at mid) K (genesis_id mint) (first_journals K mint)
   made_shown old mid ready all holds =
-      first_shown K mint limits few_coins bytes_told bytes_left (disk_at old) (disk_at mid) (λ n inside. (let e = ready.empty n inside in (e.0, e.1, refl))) (λ n inside. (let d = told_there mid all n inside in (d.0, d.1))) holds
+      first_shown K mint limits few_coins plain (disk_at old) (disk_at mid) (λ n inside. (let e = ready.empty n inside in (e.0, e.1, refl))) (λ n inside. (let d = told_there mid all n inside in (d.0, d.1))) holds
 
   -- no node in memory fails
   pub none_rises : (old new : PlainRack) → NoneRises K (faults_at old.misses) (faults_at new.misses)
   none_rises old new n inside = none_rose old.misses new.misses n (omega (arith, inside, limits.coordinators, limits.shards))
 
   -- the disks of a ledger that was made have as much room as before
-  pub room_still : (files : List (List FullTx)) (old mid : PlainRack) → AreReady K mint old → AllIn mid → ((n : ℕ) → n < node_count K → SameRoom room_of (disk_at old n) (disk_at mid n)) → HaveRoom K mint files old → HaveRoom K mint files mid
+  pub room_still : (files : List (List FullTx)) (old mid : PlainRack) → AreReady K mint old → AllIn mid → ((n : ℕ) → n < node_count K → SameRoom plain (disk_at old n) (disk_at mid n)) → HaveRoom K mint files old → HaveRoom K mint files mid
   room_still files old mid ready all rooms ample =
-      more_room K (sound_by all_good) (λ n. limit_at room_of (disk_at old n)) (λ n. limit_at room_of (disk_at mid n)) files (first_journals K mint)
-      (λ n inside. (let was = ready.empty n inside in let is = told_there mid all n inside in omega (arith, ap (limit_at room_of) was.1, ap (limit_at room_of) is.1, rooms n inside was.0 was.1 is.0 is.1))) ample
+      more_room K (sound_by all_good) (λ n. limit_at plain (disk_at old n)) (λ n. limit_at plain (disk_at mid n)) files (first_journals K mint)
+      (λ n inside. (let was = ready.empty n inside in let is = told_there mid all n inside in omega (arith, ap (limit_at plain) was.1, ap (limit_at plain) is.1, rooms n inside was.0 was.1 is.0 is.1))) ample
 
-  module _ (files : List (List FullTx)) (mid new : PlainRack) (shows : Shows bytes_told (disk_at mid) K (genesis_id mint) (first_journals K mint)) (ample : HaveRoom K mint files mid) where
-    ready : ShowsKept bytes_told (disk_at mid) K mint [] (first_journals K mint)
+  module _ (files : List (List FullTx)) (mid new : PlainRack) (shows : Shows plain (disk_at mid) K (genesis_id mint) (first_journals K mint)) (ample : HaveRoom K mint files mid) where
+    ready : ShowsKept plain (disk_at mid) K mint [] (first_journals K mint)
     ready = record { limits = limits; shown = shows; kept = first_kept K mint limits few_coins }
 
     -- its files are run, unless memory runs out
     pub unrun : (a : Answer)
-        → (IsUnresumed bytes_told bytes_left room_of faults_of (disk_at mid) (faults_at mid.misses) (faults_at new.misses) a × AreBack bytes_told bytes_left room_of (faults_at mid.misses) (faults_at new.misses) (disk_at mid) (disk_at new))
-        ⊎ IsLaneFault bytes_told bytes_left room_of (disk_at mid) (disk_at new) (faults_at mid.misses) (faults_at new.misses) (PieceNext all_good files) (EndsRun all_good files) (PiecesPrepared all_good files) files a
+        → (IsUnresumed plain (disk_at mid) (faults_at mid.misses) (faults_at new.misses) a × AreBack plain (faults_at mid.misses) (faults_at new.misses) (disk_at mid) (disk_at new))
+        ⊎ IsLaneFault plain (disk_at mid) (disk_at new) (faults_at mid.misses) (faults_at new.misses) (PieceNext all_good files) (EndsRun all_good files) (PiecesPrepared all_good files) files a
         → a ≡ answers.Memory
     unrun a (inl (inl unopened, back)) =
-        unopened_none bytes_told bytes_left room_of faults_of (disk_at mid) (faults_at mid.misses) (faults_at new.misses) K mint [] (first_journals K mint) ready
-        (ample_rooms K mint [] (first_journals K mint) (λ n. limit_at room_of (disk_at mid n)) limits (first_kept K mint limits few_coins) (sound_by all_good) files ample) (none_rises mid new) None a tt unopened
-    unrun a (inl (inr (inl unsound), back)) = absurd (unsound_none bytes_told (disk_at mid) K mint [] (first_journals K mint) ready bytes_left room_of faults_of a unsound)
+        unopened_none plain (disk_at mid) (faults_at mid.misses) (faults_at new.misses) K mint [] (first_journals K mint) ready
+        (ample_rooms K mint [] (first_journals K mint) (λ n. limit_at plain (disk_at mid n)) limits (first_kept K mint limits few_coins) (sound_by all_good) files ample) (none_rises mid new) None a tt unopened
+    unrun a (inl (inr (inl unsound), back)) = absurd (unsound_none plain (disk_at mid) K mint [] (first_journals K mint) ready a unsound)
     unrun a (inl (inr (inr memory), back)) = memory
     unrun a (inr fault) =
-        run_none bytes_told bytes_left room_of (disk_at mid) (disk_at new) (faults_at mid.misses) (faults_at new.misses) K mint [] (first_journals K mint) ready (none_rises mid new) all_good files ample a fault
+        run_none plain.content plain.images plain.limit (disk_at mid) (disk_at new) (faults_at mid.misses) (faults_at new.misses) K mint [] (first_journals K mint) ready (none_rises mid new) all_good files ample a fault
 
 -- ---- a workload's run and audit
 
@@ -179,12 +180,12 @@ module _ (K : Shape) (seed n : ℕ) where
     is_run : IsWorkloadRun K seed n told.run.exit
     is_run = record { kept = told.run.grown.kept; waves = told.run.waves }
 
-    shows : Shows bytes_told (disk_at rack) K (genesis_id (mint_of seed n)) told.run.exit
-    shows = shown bytes_told bytes_left (disk_at rack) K (mint_of seed n) (all_of seed n) told.run.exit limits (few seed n small) told.run.grown.kept told.run.disks (told_there K (mint_of seed n) (few seed n small) limits rack all)
+    shows : Shows plain (disk_at rack) K (genesis_id (mint_of seed n)) told.run.exit
+    shows = shown plain (disk_at rack) K (mint_of seed n) (all_of seed n) told.run.exit limits (few seed n small) told.run.grown.kept told.run.disks (told_there K (mint_of seed n) (few seed n small) limits rack all)
 
-    has_verdict : (verdict : Verdict) → IsAudited bytes_told (disk_at rack) (mint_of seed n) (all_of seed n) verdict → HasVerdictOf K (mint_of seed n) (all_of seed n) told.run.exit verdict
+    has_verdict : (verdict : Verdict) → IsAudited plain (disk_at rack) (mint_of seed n) (all_of seed n) verdict → HasVerdictOf K (mint_of seed n) (all_of seed n) told.run.exit verdict
     has_verdict verdict audited =
-        verdict_of bytes_told bytes_left (disk_at rack) K (mint_of seed n) (all_of seed n) told.run.exit limits (few seed n small) told.run.grown.kept shows (all_of seed n) verdict audited
+        verdict_of plain (disk_at rack) K (mint_of seed n) (all_of seed n) told.run.exit limits (few seed n small) told.run.grown.kept shows (all_of seed n) verdict audited
 
     idle : AreIdle K told.run.exit
     idle lane low =
@@ -192,12 +193,12 @@ module _ (K : Shape) (seed n : ℕ) where
         ap (λ J. (slot J lane).phase) (last.2 (home_of K lane)) ∙ last.1.idle lane low
 
     -- what a disk holds is within its room
-    fits : (k : ℕ) → k < node_count K → used_of (told.run.exit k) ≤ limit_at room_of (disk_at rack k)
+    fits : (k : ℕ) → k < node_count K → used_of (told.run.exit k) ≤ limit_at plain (disk_at rack k)
     fits k inside =
         let s = shows k inside in
         let d : PlainDisk = s.0 in
         let bytes : length s.2.0 ≡ length d.bytes.items = ap (λ (o : Option (List ℕ)). length (bytes_in o)) (sym s.2.1) in
-        omega (arith, used_within (header_of K (genesis_id (mint_of seed n)) k) (told.run.exit k) s.2.0 s.2.2, bytes, d.within, ap (limit_at room_of) s.1)
+        omega (arith, used_within (header_of K (genesis_id (mint_of seed n)) k) (told.run.exit k) s.2.0 s.2.2, bytes, d.within, ap (limit_at plain) s.1)
       where
         bytes_in : Option (List ℕ) → List ℕ
         bytes_in None = []
@@ -213,7 +214,7 @@ module _ (K : Shape) (seed n : ℕ) where
       audited = has_verdict (Sound totals) audited;
     }
 
-    unsound_why : (place : ℕ) (kind : UnsoundKind) → IsAudited bytes_told (disk_at rack) (mint_of seed n) (all_of seed n) (Unsound place kind) → IsUnsoundWorkload K seed n place kind
+    unsound_why : (place : ℕ) (kind : UnsoundKind) → IsAudited plain (disk_at rack) (mint_of seed n) (all_of seed n) (Unsound place kind) → IsUnsoundWorkload K seed n place kind
     unsound_why place kind audited =
         let v = has_verdict (Unsound place kind) audited in
         record {
@@ -225,7 +226,7 @@ module _ (K : Shape) (seed n : ℕ) where
               (idle_law K (mint_of seed n) (all_of seed n) told.run.exit (omega (arith, limits.some_shard)) (omega (arith, limits.some_lane)) clean told.run.grown.kept idle) place kind v.is;
         }
 
-    wrong_why : (a : Answer) → IsUnsoundBy (IsAudited bytes_told (disk_at rack) (mint_of seed n) (all_of seed n)) a → WhyNoWorkload K seed n a
+    wrong_why : (a : Answer) → IsUnsoundBy (IsAudited plain (disk_at rack) (mint_of seed n) (all_of seed n)) a → WhyNoWorkload K seed n a
     wrong_why answers.Ok is = absurd is
     wrong_why answers.BadWords is = absurd is
     wrong_why (answers.BadInput file at what) is = absurd is
@@ -245,8 +246,8 @@ module _ (K : Shape) (seed n : ℕ) where
     pub unchecked_why : (new : PlainRack) (a : Answer) → IsUnchecked rack new (mint_of seed n) (all_of seed n) a → WhyNoWorkload K seed n a
     unchecked_why new a (inl wrong) = wrong_why a wrong
     unchecked_why new a (inr (inl unopened)) =
-        memory_why a (unopened_none bytes_told bytes_left room_of faults_of (disk_at rack) (faults_at rack.misses) (faults_at new.misses) K (mint_of seed n) (all_of seed n) told.run.exit
-        (record { limits = limits; shown = shows; kept = told.run.grown.kept }) (idle_rooms K (mint_of seed n) (all_of seed n) told.run.exit (λ k. limit_at room_of (disk_at rack k)) limits told.run.grown.kept idle fits)
+        memory_why a (unopened_none plain (disk_at rack) (faults_at rack.misses) (faults_at new.misses) K (mint_of seed n) (all_of seed n) told.run.exit
+        (record { limits = limits; shown = shows; kept = told.run.grown.kept }) (idle_rooms K (mint_of seed n) (all_of seed n) told.run.exit (λ k. limit_at plain (disk_at rack k)) limits told.run.grown.kept idle fits)
         (none_rises K (mint_of seed n) (few seed n small) limits rack new) (Some (genesis_id (mint_of seed n))) a refl unopened)
     unchecked_why new a (inr (inr memory)) = memory_why a memory
 

@@ -3,6 +3,7 @@ use Rattle.std.proofs.Common.{◌≡◌, ◌+◌, ◌-◌, ◌<◌, ◌≤◌, �
 use Rattle.std.specs.Prelude.{All, IsSome}
 use Rattle.std.proofs.lemmas.Bool.{ltb-true, ltb-false}
 use Rattle.std.proofs.lemmas.List.Elements.{All-nil, All-cons, All-head, All-tail}
+use Rattle.outside.specs.declared.disk.Disk.{Ghosts}
 use Rattle.sha2.proofs.Facts256.{length-sha256}
 use Rattle.cbdc_types.specs.Limits.{IsWithinLimits}
 use Rattle.cbdc_model.specs.Records.{Digest, Shape, Header, Record, Row, journal, Genesis, Start}
@@ -122,10 +123,10 @@ module _ (K : Shape) (mint : List Output) (within : IsWithinLimits K) (few : len
   pub first_kept : KeptJournals K mint [] (first_journals K mint)
   first_kept = record { later = []; history = record { ordered = tt; journals_are = λ n. refl }; kept = tt }
 
-  pub first_shown : {D : Type 0} (content : D → Option (List ℕ)) (images : D → List ℕ → Type 0) (before now : ℕ → Option D)
-      → ((n : ℕ) → n < node_count K → (d : D) × (before n ≡ Some d) × IsSome (content d)) → ((n : ℕ) → n < node_count K → (d : D) × (now n ≡ Some d))
-      → ((n : ℕ) → n < node_count K → HoldsFirst content images (first_of K mint n) (before n) (now n)) → Shows content now K (genesis_id mint) (first_journals K mint)
-  first_shown content images before now was is holds n inside =
+  pub first_shown : {D : Type 0} (device : Ghosts D) (before now : ℕ → Option D)
+      → ((n : ℕ) → n < node_count K → (d : D) × (before n ≡ Some d) × IsSome (device.content d)) → ((n : ℕ) → n < node_count K → (d : D) × (now n ≡ Some d))
+      → ((n : ℕ) → n < node_count K → HoldsFirst device (first_of K mint n) (before n) (now n)) → Shows device now K (genesis_id mint) (first_journals K mint)
+  first_shown device before now was is holds n inside =
       let (old, told, some) = was n inside in
       let (d, here) = is n inside in
       let h = holds n inside old told d here some in

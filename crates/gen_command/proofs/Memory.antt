@@ -25,7 +25,7 @@ use Rattle.cbdc_model.specs.Room.{size_of}
 use Rattle.mem_devices.specs.declared.plain_disk.PlainDisk.{PlainDisk}
 use Rattle.mem_devices.specs.declared.plain_rack.PlainRack.{PlainRack}
 use Rattle.mem_devices.specs.Places.{faults_at, disk_in, IsIn}
-use Rattle.mem_devices.specs.PlainRacks.{AllIn, IsEmptyAt, disk_at, bytes_told, room_of}
+use Rattle.mem_devices.specs.PlainRacks.{AllIn, IsEmptyAt, disk_at, plain}
 use Rattle.record_log.specs.Bodies.{body_of}
 use Rattle.gate_journal.specs.Rows.{row}
 use Rattle.rack_ledgers.specs.Blank.{IsInUse}
@@ -72,7 +72,7 @@ module _ (K : Shape) (mint : List Output) (rack : PlainRack) (ready : AreReady K
   few_nodes : (n : ℕ) → n < node_count K → n < 80
   few_nodes n inside = omega (arith, inside, ready.limits.coordinators, ready.limits.shards)
 
-  pub unmade_memory : (a : Answer) → IsUnmade K mint bytes_told room_of (disk_at rack) (faults_at rack.misses) (faults_at now) a → a ≡ answers.Memory
+  pub unmade_memory : (a : Answer) → IsUnmade K mint plain (disk_at rack) (faults_at rack.misses) (faults_at now) a → a ≡ answers.Memory
   unmade_memory answers.Ok why = absurd why
   unmade_memory answers.BadWords why = absurd why
   unmade_memory (answers.BadInput file at kind) why = absurd why
@@ -157,7 +157,7 @@ module _ (K : Shape) (seed n : ℕ) (small : n ≤ 10000) where
 
   pub workload_fits : (rack : PlainRack) → IsWithinLimits K → ((node : ℕ) → node < node_count K → IsEmptyAt rack (4096 + 400 * n) node) → HaveRoom K (mint_of seed n) (files_of seed n) rack
   workload_fits rack limits empty =
-      new_room K (minted (mint_of seed n)) (sound_by all_good) (λ node. limit_at room_of (disk_at rack node)) (files_of seed n) limits small_files (omega (arith, all_many, small)) (
-        (λ node low. (let e = empty node (omega (arith, low)) in omega (arith, all_many, ap (limit_at room_of) e.1, e.3))),
-        (λ node high inside. (let e = empty node inside in omega (arith, all_many, minted_many, minted_few, ap (limit_at room_of) e.1, e.3))),
+      new_room K (minted (mint_of seed n)) (sound_by all_good) (λ node. limit_at plain (disk_at rack node)) (files_of seed n) limits small_files (omega (arith, all_many, small)) (
+        (λ node low. (let e = empty node (omega (arith, low)) in omega (arith, all_many, ap (limit_at plain) e.1, e.3))),
+        (λ node high inside. (let e = empty node inside in omega (arith, all_many, minted_many, minted_few, ap (limit_at plain) e.1, e.3))),
       )

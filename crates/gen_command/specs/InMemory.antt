@@ -9,7 +9,7 @@ use Rattle.cbdc_model.specs.Room.{size_of}
 use Rattle.mem_devices.specs.declared.plain_disk.PlainDisk.{PlainDisk}
 use Rattle.mem_devices.specs.declared.plain_rack.PlainRack.{PlainRack}
 use Rattle.mem_devices.specs.Places.{faults_at}
-use Rattle.mem_devices.specs.PlainRacks.{disk_at, bytes_told, bytes_left, room_of, faults_of}
+use Rattle.mem_devices.specs.PlainRacks.{disk_at, plain}
 use Rattle.run_laws.specs.Ample.{Ample}
 use Rattle.submissions.specs.SoundTest.{sound_by}
 use Rattle.rack_laws.specs.Ready.{limit_at}
@@ -33,11 +33,11 @@ pub record AreReady (K : Shape) (mint : List Output) (rack : PlainRack) : Type 0
 
 -- they have room and stamps for every record that is to come of files
 abbrev pub HaveRoom : Shape → List Output → List (List FullTx) → PlainRack → Type 0
-HaveRoom K mint files rack = Ample K (sound_by all_good) (λ n. limit_at room_of (disk_at rack n)) files (first_journals K mint)
+HaveRoom K mint files rack = Ample K (sound_by all_good) (λ n. limit_at plain (disk_at rack n)) files (first_journals K mint)
 
 -- files were run over the ledger that a mint began in memory, and the run tells what it did
 abbrev pub TellsRunOf : Shape → List Output → List (List FullTx) → PlainRack → Ran → Type 0
-TellsRunOf K mint files rack ran = IsTold bytes_left room_of (disk_at rack) all_good files ran K mint [] (first_journals K mint)
+TellsRunOf K mint files rack ran = IsTold plain (disk_at rack) all_good files ran K mint [] (first_journals K mint)
 
 -- what a workload's run and audit tell is so
 pub record CameTo (K : Shape) (seed n : ℕ) (ran : Ran) (totals : Totals) : Type 0 where
@@ -50,10 +50,10 @@ pub record CameTo (K : Shape) (seed n : ℕ) (ran : Ran) (totals : Totals) : Typ
 
 -- the ledger of a mint was audited with the transactions that were handed in, and is sound with these totals
 abbrev pub IsCheckedSound : PlainRack → List Output → List FullTx → Totals → Type 0
-IsCheckedSound rack mint handed totals = IsAudited bytes_told (disk_at rack) mint handed (Sound totals)
+IsCheckedSound rack mint handed totals = IsAudited plain (disk_at rack) mint handed (Sound totals)
 
 -- it is not: the audit found something wrong, or the ledger could not be opened
 abbrev pub IsUnchecked : PlainRack → PlainRack → List Output → List FullTx → Answer → Type 0
 IsUnchecked old new mint handed answer =
-    IsUnsoundBy (IsAudited bytes_told (disk_at old) mint handed) answer
-    ⊎ WhyUnopened bytes_told bytes_left room_of faults_of (disk_at old) (faults_at old.misses) (faults_at new.misses) mint answer
+    IsUnsoundBy (IsAudited plain (disk_at old) mint handed) answer
+    ⊎ WhyUnopened plain (disk_at old) (faults_at old.misses) (faults_at new.misses) mint answer

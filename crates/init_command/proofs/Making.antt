@@ -2,6 +2,7 @@
 use Rattle.std.proofs.Common.{◌≡◌, ◌<◌, ◌≤◌, ℕ, List, [], length, reverse, Option, Result, Ok, Err, ◌∙◌, ap, sym, subst, refl}
 use Rattle.std.specs.Prelude.{IfOk, OnOk}
 use Rattle.outside.specs.Images.{Tells}
+use Rattle.outside.specs.declared.disk.Disk.{Ghosts}
 use Rattle.cbdc_model.specs.Records.{Shape}
 use Rattle.cbdc_model.specs.Coins.{Output, genesis_id}
 use Rattle.cbdc_model.specs.Clean.{value_out}
@@ -17,13 +18,13 @@ use Rattle.ledger_laws.proofs.FirstJournals.{first_is}
 use Rattle.init_command.specs.Outcomes.{DidInit}
 use Rattle.submission_laws.specs.Files.{first_journals}
 
-module _ {D : Type 0} (files : Text → Option (List ℕ)) (content : D → Option (List ℕ)) (images : D → List ℕ → Type 0) (limit : D → ℕ) (before now : ℕ → Option D) (shape : Shape) (file : FileWord) (mint : List Output)
+module _ {D : Type 0} (files : Text → Option (List ℕ)) (device : Ghosts D) (before now : ℕ → Option D) (shape : Shape) (file : FileWord) (mint : List Output)
     (read : Tells (files file.name.now) (λ c. mint_of_file c ≡ Ok mint)) where
-  pub made_did : {E : Type 0} (r : Result Made E) → IfOk r (λ m. (m.coins ≡ length mint) × (m.total ≡ value_out mint) × (m.genesis ≡ genesis_id mint)) → OnOk r (MayBeMade shape mint content before)
-      → OnOk r ((n : ℕ) → n < node_count shape → HasPlaceFor shape mint limit before n)
-      → OnOk r ((n : ℕ) → n < node_count shape → HoldsFirst content images (first_of shape mint n) (before n) (now n))
-      → OnOk r ((n : ℕ) → n < node_count shape → SameRoom limit (before n) (now n)) → ((n : ℕ) → node_count shape ≤ n → now n ≡ before n)
-      → IfOk r (λ m. DidInit files content images limit before now (λ text. init_text m.coins m.total m.genesis ≡ text) shape file)
+  pub made_did : {E : Type 0} (r : Result Made E) → IfOk r (λ m. (m.coins ≡ length mint) × (m.total ≡ value_out mint) × (m.genesis ≡ genesis_id mint)) → OnOk r (MayBeMade shape mint device before)
+      → OnOk r ((n : ℕ) → n < node_count shape → HasPlaceFor shape mint device before n)
+      → OnOk r ((n : ℕ) → n < node_count shape → HoldsFirst device (first_of shape mint n) (before n) (now n))
+      → OnOk r ((n : ℕ) → n < node_count shape → SameRoom device (before n) (now n)) → ((n : ℕ) → node_count shape ≤ n → now n ≡ before n)
+      → IfOk r (λ m. DidInit files device before now (λ text. init_text m.coins m.total m.genesis ≡ text) shape file)
   made_did (Ok m) made was places holds rooms outside = record {
     mint = mint;
     read = read;

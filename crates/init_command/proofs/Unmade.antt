@@ -2,6 +2,7 @@
 use Rattle.std.proofs.Common.{◌≡◌, ◌⊎◌, inr, ℕ, List, Option, Result, Ok, Err, refl}
 use Rattle.std.specs.Prelude.{IfErr}
 use Rattle.outside.specs.Images.{Tells}
+use Rattle.outside.specs.declared.disk.Disk.{Ghosts}
 use Rattle.line_text.specs.Lines.{Text}
 use Rattle.cbdc_types.specs.declared.answer.Answer.{Answer}
 use Rattle.cbdc_types.specs.declared.answer.Answer.TheVariants as answers
@@ -14,30 +15,30 @@ use Rattle.command_answers.specs.Left.{IsBeforeDisks}
 use Rattle.init_command.specs.Outcomes.{InitLeaves}
 
 -- of these answers a ledger that is not made gives one alone
-too_much_alone : {D : Type 0} (K : Shape) (mint : List Output) (content : D → Option (List ℕ)) (limit : D → ℕ) (held : ℕ → Option D) (before now : ℕ → ℕ) (P : Type 0) (a : Answer)
-    → IsUnmade K mint content limit held before now a → ((total : ℕ) → a ≡ answers.TooMuch total → P) → IsBeforeDisks a → P
-too_much_alone K mint content limit held before now P answers.Ok un same is = absurd is
-too_much_alone K mint content limit held before now P answers.BadWords un same is = absurd un
-too_much_alone K mint content limit held before now P (answers.BadInput file at kind) un same is = absurd un
-too_much_alone K mint content limit held before now P (answers.TooMuch total) un same is = same total refl
-too_much_alone K mint content limit held before now P (answers.NotReady k) un same is = absurd is
-too_much_alone K mint content limit held before now P (answers.Foreign k kept asked) un same is = absurd is
-too_much_alone K mint content limit held before now P (answers.NotEmpty k) un same is = absurd is
-too_much_alone K mint content limit held before now P (answers.Full k used need capacity) un same is = absurd is
-too_much_alone K mint content limit held before now P (answers.Unsound place kind) un same is = absurd is
-too_much_alone K mint content limit held before now P (answers.ClockEnd k stamp) un same is = absurd is
-too_much_alone K mint content limit held before now P (answers.Damaged k at) un same is = absurd is
-too_much_alone K mint content limit held before now P (answers.ReadFault file) un same is = absurd un
-too_much_alone K mint content limit held before now P answers.WriteFault un same is = absurd is
-too_much_alone K mint content limit held before now P (answers.DiskFault k) un same is = absurd is
-too_much_alone K mint content limit held before now P answers.Memory un same is = absurd is
+too_much_alone : {D : Type 0} (K : Shape) (mint : List Output) (device : Ghosts D) (held : ℕ → Option D) (before now : ℕ → ℕ) (P : Type 0) (a : Answer)
+    → IsUnmade K mint device held before now a → ((total : ℕ) → a ≡ answers.TooMuch total → P) → IsBeforeDisks a → P
+too_much_alone K mint device held before now P answers.Ok un same is = absurd is
+too_much_alone K mint device held before now P answers.BadWords un same is = absurd un
+too_much_alone K mint device held before now P (answers.BadInput file at kind) un same is = absurd un
+too_much_alone K mint device held before now P (answers.TooMuch total) un same is = same total refl
+too_much_alone K mint device held before now P (answers.NotReady k) un same is = absurd is
+too_much_alone K mint device held before now P (answers.Foreign k kept asked) un same is = absurd is
+too_much_alone K mint device held before now P (answers.NotEmpty k) un same is = absurd is
+too_much_alone K mint device held before now P (answers.Full k used need capacity) un same is = absurd is
+too_much_alone K mint device held before now P (answers.Unsound place kind) un same is = absurd is
+too_much_alone K mint device held before now P (answers.ClockEnd k stamp) un same is = absurd is
+too_much_alone K mint device held before now P (answers.Damaged k at) un same is = absurd is
+too_much_alone K mint device held before now P (answers.ReadFault file) un same is = absurd un
+too_much_alone K mint device held before now P answers.WriteFault un same is = absurd is
+too_much_alone K mint device held before now P (answers.DiskFault k) un same is = absurd is
+too_much_alone K mint device held before now P answers.Memory un same is = absurd is
 
-pub unmade_same : {D T : Type 0} (K : Shape) (mint : List Output) (content : D → Option (List ℕ)) (limit : D → ℕ) (held : ℕ → Option D) (before now : ℕ → ℕ) (P : Type 0) (r : Result T Answer)
-    → IfErr r (IsUnmade K mint content limit held before now) → IfErr r (λ e. (total : ℕ) → e ≡ answers.TooMuch total → P) → IfErr r (λ e. IsBeforeDisks e → P)
-unmade_same K mint content limit held before now P (Ok made) un same = tt
-unmade_same K mint content limit held before now P (Err e) un same = too_much_alone K mint content limit held before now P e un same
+pub unmade_same : {D T : Type 0} (K : Shape) (mint : List Output) (device : Ghosts D) (held : ℕ → Option D) (before now : ℕ → ℕ) (P : Type 0) (r : Result T Answer)
+    → IfErr r (IsUnmade K mint device held before now) → IfErr r (λ e. (total : ℕ) → e ≡ answers.TooMuch total → P) → IfErr r (λ e. IsBeforeDisks e → P)
+unmade_same K mint device held before now P (Ok made) un same = tt
+unmade_same K mint device held before now P (Err e) un same = too_much_alone K mint device held before now P e un same
 
-pub unmade_left : {D T : Type 0} (files : Text → Option (List ℕ)) (content : D → Option (List ℕ)) (images : D → List ℕ → Type 0) (limit : D → ℕ) (before now : ℕ → Option D) (disks_before disks_now : ℕ → ℕ) (shape : Shape) (file : FileWord) (mint : List Output) (P : Type 0) (r : Result T Answer)
-    → Tells (files file.name.now) (λ c. mint_of_file c ≡ Ok mint) → IfErr r (IsLeft shape mint content images limit before now disks_before disks_now) → IfErr r (λ e. P ⊎ InitLeaves files content images limit before now disks_before disks_now shape file e)
-unmade_left files content images limit before now disks_before disks_now shape file mint P (Ok made) read left = tt
-unmade_left files content images limit before now disks_before disks_now shape file mint P (Err e) read left = inr (mint, read, left)
+pub unmade_left : {D T : Type 0} (files : Text → Option (List ℕ)) (device : Ghosts D) (before now : ℕ → Option D) (disks_before disks_now : ℕ → ℕ) (shape : Shape) (file : FileWord) (mint : List Output) (P : Type 0) (r : Result T Answer)
+    → Tells (files file.name.now) (λ c. mint_of_file c ≡ Ok mint) → IfErr r (IsLeft shape mint device before now disks_before disks_now) → IfErr r (λ e. P ⊎ InitLeaves files device before now disks_before disks_now shape file e)
+unmade_left files device before now disks_before disks_now shape file mint P (Ok made) read left = tt
+unmade_left files device before now disks_before disks_now shape file mint P (Err e) read left = inr (mint, read, left)

@@ -25,11 +25,11 @@ fn make<I: Inbox, R: Rack>(
     rack: &mut R,
 ) -> Result<Made, Answer>
     requires { (n : ℕ) → R.can_take rack.old n }
-    ensures made { IfOk result (λ m. DidInit (I.file inbox.old) R.Disk.content R.Disk.images R.Disk.limit (R.held rack.old) (R.held rack.new) (λ text. init_text m.coins m.total m.genesis ≡ text) shape.now file.now) }
-    ensures why { IfErr result (WhyNoInit (I.file inbox.old) (I.count inbox.old) (I.count inbox.new) R.Disk.content R.Disk.limit (R.held rack.old) (R.count rack.old) (R.count rack.new) shape.now file.now) }
+    ensures made { IfOk result (λ m. DidInit (I.file inbox.old) R.Disk.Disk (R.held rack.old) (R.held rack.new) (λ text. init_text m.coins m.total m.genesis ≡ text) shape.now file.now) }
+    ensures why { IfErr result (WhyNoInit (I.file inbox.old) (I.count inbox.old) (I.count inbox.new) R.Disk.Disk (R.held rack.old) (R.count rack.old) (R.count rack.new) shape.now file.now) }
     ensures fault { IfErr result (IsFault (λ place. place ≡ file.now.place) (FileRose (I.count inbox.old) (I.count inbox.new) file.now)) }
     ensures untouched { IfErr result (λ e. IsBeforeDisks e → rack.new ≡ rack.old) }
-    ensures left { IfErr result (λ e. (rack.new ≡ rack.old) ⊎ InitLeaves (I.file inbox.old) R.Disk.content R.Disk.images R.Disk.limit (R.held rack.old) (R.held rack.new) (R.count rack.old) (R.count rack.new) shape.now file.now e) }
+    ensures left { IfErr result (λ e. (rack.new ≡ rack.old) ⊎ InitLeaves (I.file inbox.old) R.Disk.Disk (R.held rack.old) (R.held rack.new) (R.count rack.old) (R.count rack.new) shape.now file.now e) }
     ensures files { (name : Text) → I.file inbox.new name ≡ I.file inbox.old name }
     ensures back { (n : ℕ) → R.can_take rack.new n }
 {
@@ -63,12 +63,12 @@ pub fn init<I: Inbox, R: Rack, O: Sink>(
 ) -> Answer
     requires { (n : ℕ) → R.can_take rack.old n }
     ensures cause { IsDone (λ place. place ≡ file.now.place) (FileRose (I.count inbox.old) (I.count inbox.new) file.now) (Rose (O.count out.old) (O.count out.new)) result }
-    ensures did { IsWell result → DidInit (I.file inbox.old) R.Disk.content R.Disk.images R.Disk.limit (R.held rack.old) (R.held rack.new) (IsPrinted (O.taken out.old) (O.taken out.new) result) shape.now file.now }
-    ensures why { IsTold (WhyNoInit (I.file inbox.old) (I.count inbox.old) (I.count inbox.new) R.Disk.content R.Disk.limit (R.held rack.old) (R.count rack.old) (R.count rack.new) shape.now file.now) result }
+    ensures did { IsWell result → DidInit (I.file inbox.old) R.Disk.Disk (R.held rack.old) (R.held rack.new) (IsPrinted (O.taken out.old) (O.taken out.new) result) shape.now file.now }
+    ensures why { IsTold (WhyNoInit (I.file inbox.old) (I.count inbox.old) (I.count inbox.new) R.Disk.Disk (R.held rack.old) (R.count rack.old) (R.count rack.new) shape.now file.now) result }
     ensures silent { IsSilent (O.taken out.old) (O.taken out.new) result }
     ensures written_later { O.count out.old ≤ O.count out.new }
     ensures untouched { IsBeforeDisks result → rack.new ≡ rack.old }
-    ensures left { (IsWell result → ⊥) → (rack.new ≡ rack.old) ⊎ InitLeaves (I.file inbox.old) R.Disk.content R.Disk.images R.Disk.limit (R.held rack.old) (R.held rack.new) (R.count rack.old) (R.count rack.new) shape.now file.now result }
+    ensures left { (IsWell result → ⊥) → (rack.new ≡ rack.old) ⊎ InitLeaves (I.file inbox.old) R.Disk.Disk (R.held rack.old) (R.held rack.new) (R.count rack.old) (R.count rack.new) shape.now file.now result }
     ensures files { (name : Text) → I.file inbox.new name ≡ I.file inbox.old name }
     ensures back { (n : ℕ) → R.can_take rack.new n }
 {

@@ -7,7 +7,7 @@ use Rattle.cbdc_model.specs.Sights.{Sight}
 use Rattle.ledger_runs.specs.Lanes.{LaneOf}
 use Rattle.node_lock.specs.declared.lock.Guarded.{Guarded}
 use Rattle.node_lock.specs.declared.seat.Seat.{Seat}
-use Rattle.node_ports.specs.Nodes.{IsLogHeld}
+use Rattle.node_ports.specs.Nodes.{IsNodeHeld}
 use Rattle.port_sets.specs.declared.coordinators.SharedLog.{SharedLog}
 use Rattle.port_sets.specs.declared.locking.SharedShard.{SharedShard}
 use Rattle.thread_laws.specs.Running.{LaneRan}
@@ -23,7 +23,7 @@ pub record AreNodesOf (K : Shape) (logs shards : ℕ → Sight) : Type 0 where
 
 -- what stays true of a node under its wrapper, whatever is asked of it
 abbrev pub log_goes : {D : Type 0} → (D → Option (List ℕ)) → (D → List ℕ → Type 0) → SharedLog D → SharedLog D → Type 0
-log_goes content images a b = IsLogHeld content images a.node → IsLogHeld content images b.node
+log_goes content images a b = IsNodeHeld content images a.node → IsNodeHeld content images b.node
 
 -- `log_goes`, `shard_goes`: what stays true of a node under its wrapper: of a coordinator, that its disk holds its journal, if it did; of a shard,
 -- what its type keeps

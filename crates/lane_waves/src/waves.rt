@@ -3,8 +3,8 @@ ghost use Rattle.std.specs.Prelude.{◌≡◌, ◌≤◌, ◌<◌, ◌*◌, ℕ,
 ghost use Rattle.cbdc_types.specs.Limits.{IsWithinLimits};
 ghost use Rattle.cbdc_model.specs.Grammar.{IsCompact};
 ghost use Rattle.cbdc_model.specs.Ranges.{home_of};
-ghost use Rattle.coord_log.specs.Logs.{sight};
-ghost use Rattle.node_ports.specs.Nodes.{sight_at, IsLogHeld};
+ghost use Rattle.node_journal.specs.Nodes.{sight};
+ghost use Rattle.node_ports.specs.Nodes.{sight_at, IsNodeHeld};
 ghost use Rattle.lane_driver.specs.Stops.{IsSettled};
 ghost use Rattle.port_sets.specs.Nodes.{log_sight, shard_sight};
 ghost use Rattle.lane_waves.specs.NodeRows.{AreRows, AreLocked, AreStill, AreLeft};
@@ -410,7 +410,7 @@ pub fn wave<
     requires limits { All (λ x. All IsCompact x.txs) lanes.old.items }
     requires lanes_many { length lanes.old.items ≡ shape.now.coordinators * shape.now.lanes }
     ensures ran { WaveRan shape.now (sight_at sight nodes.logs.items) (sight_at S.sight nodes.shards.items) (sight_at sight result.logs.items) (sight_at S.sight result.shards.items) lanes.old.items lanes.new.items }
-    ensures logs_go { WentOn sight (λ a b. IsLogHeld D.content D.images a → IsLogHeld D.content D.images b) nodes.logs.items result.logs.items }
+    ensures logs_go { WentOn sight (λ a b. IsNodeHeld D.content D.images a → IsNodeHeld D.content D.images b) nodes.logs.items result.logs.items }
     ensures shards_go { WentOn S.sight S.goes nodes.shards.items result.shards.items }
 {
     see_logs(nodes.logs.as_slice());

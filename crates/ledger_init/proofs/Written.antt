@@ -1,5 +1,6 @@
 -- The first records, written from the last node on.
 use Rattle.std.proofs.Common.{◌≡◌, ◌≢◌, ◌⊎◌, inl, inr, ℕ, suc, ◌+◌, ◌≤◌, ◌<◌, List, [], ◌∷◌, ◌++◌, length, Option, Some, refl, sym, ◌∙◌, ap, subst, arith, append_assoc, length-append}
+use Rattle.outside.specs.declared.disk.Disk.{Ghosts}
 use Rattle.cbdc_types.specs.declared.answer.Answer.{Answer}
 use Rattle.cbdc_model.specs.Records.{Record}
 use Rattle.rack_ledgers.specs.Places.{EachFrom}
@@ -24,13 +25,13 @@ stops W F P Q front rest whole x node place last so_far keeps fails waits =
       behind = subst (λ (k : ℕ). EachFrom Q k so_far.more) longer kept;
     }
 
-module _ {D : Type 0} (content : D → Option (List ℕ)) (images : D → List ℕ → Type 0) (limit count : D → ℕ) where
-  pub done_still : (first : Record) (given : D) (old new : Option D) → new ≡ old → IsDone content images limit first given old → IsDone content images limit first given new
-  done_still first given old new same is = subst (λ (h : Option D). IsDone content images limit first given h) (sym same) is
+module _ {D : Type 0} (device : Ghosts D) where
+  pub done_still : (first : Record) (given : D) (old new : Option D) → new ≡ old → IsDone device first given old → IsDone device first given new
+  done_still first given old new same is = subst (λ (h : Option D). IsDone device first given h) (sym same) is
 
-  pub stopped_still : (node : ℕ) (first : Record) (a : Answer) (now later : ℕ) (given : D) (old new : Option D) → new ≡ old → now ≤ later → IsStopped content images limit count node first a now given old → IsStopped content images limit count node first a later given new
+  pub stopped_still : (node : ℕ) (first : Record) (a : Answer) (now later : ℕ) (given : D) (old new : Option D) → new ≡ old → now ≤ later → IsStopped device node first a now given old → IsStopped device node first a later given new
   stopped_still node first a now later given old new same le is = record {
-    safe = subst (λ (h : Option D). OfTold h (IsSafe content images node first a given)) (sym same) is.safe;
+    safe = subst (λ (h : Option D). OfTold h (IsSafe device node first a given)) (sym same) is.safe;
     refusal = is.refusal;
-    opening = opening_later node (count given) (count given) now later a (omega arith) le is.opening;
+    opening = opening_later node (device.count given) (device.count given) now later a (omega arith) le is.opening;
   }

@@ -2,6 +2,7 @@
 use Rattle.std.specs.Prelude.{◌≡◌, ◌≢◌, ◌⊎◌, ◌+◌, ◌^◌, ◌≤◌, ◌<◌, ℕ, List, [], ◌∷◌, length, Option, IsSome}
 use Rattle.outside.specs.Counts.{Rose}
 use Rattle.outside.specs.Images.{Tells}
+use Rattle.outside.specs.declared.disk.Disk.{Ghosts}
 use Rattle.cbdc_types.specs.declared.answer.Answer.{Answer}
 use Rattle.cbdc_types.specs.declared.answer.Answer.TheVariants as answers
 use Rattle.cbdc_model.specs.Records.{Shape, Record}
@@ -26,53 +27,53 @@ abbrev pub first_of : Shape → List Output → ℕ → Record
 first_of K mint n = first_record K (minted mint) n
 
 -- where the disk told its content, it now holds this record alone, and so does whatever a crash may leave of it
-abbrev pub HoldsFirst : {D : Type 0} → (D → Option (List ℕ)) → (D → List ℕ → Type 0) → Record → Option D → Option D → Type 0
-HoldsFirst content images first old new = OfTold old (λ was. OfTold new (λ now. IsSome (content was) → Holds (content now) (images now) (9 + length (body_of first)) (first ∷ [])))
+abbrev pub HoldsFirst : {D : Type 0} → Ghosts D → Record → Option D → Option D → Type 0
+HoldsFirst device first old new = OfTold old (λ was. OfTold new (λ now. IsSome (device.content was) → Holds (device.content now) (device.images now) (9 + length (body_of first)) (first ∷ [])))
 
 -- where the disk told its content, a crash leaves nothing but what has the property, by what it might have left before
-abbrev pub LeavesBut : {D : Type 0} → (D → Option (List ℕ)) → (D → List ℕ → Type 0) → ((List ℕ → Type 0) → List ℕ → Type 0) → Option D → Option D → Type 0
-LeavesBut content images P old new = OfTold old (λ was. OfTold new (λ now. IsSome (content was) → (c : List ℕ) → images now c → P (images was) c))
+abbrev pub LeavesBut : {D : Type 0} → Ghosts D → ((List ℕ → Type 0) → List ℕ → Type 0) → Option D → Option D → Type 0
+LeavesBut device P old new = OfTold old (λ was. OfTold new (λ now. IsSome (device.content was) → (c : List ℕ) → device.images now c → P (device.images was) c))
 
 -- the node's disk tells that it is in use, or that it is not
-abbrev pub ToldInUse : {D : Type 0} → (D → Option (List ℕ)) → (ℕ → Option D) → ℕ → Type 0
-ToldInUse content held n = OfTold (held n) (λ was. Tells (content was) (IsInUse n))
+abbrev pub ToldInUse : {D : Type 0} → Ghosts D → (ℕ → Option D) → ℕ → Type 0
+ToldInUse device held n = OfTold (held n) (λ was. Tells (device.content was) (IsInUse n))
 
 -- `ToldInUse`, `ToldUnused`: the node's disk tells that it is in use, or that it is not
-abbrev pub ToldUnused : {D : Type 0} → (D → Option (List ℕ)) → (ℕ → Option D) → ℕ → Type 0
-ToldUnused content held n = OfTold (held n) (λ was. Tells (content was) (IsUnused n))
+abbrev pub ToldUnused : {D : Type 0} → Ghosts D → (ℕ → Option D) → ℕ → Type 0
+ToldUnused device held n = OfTold (held n) (λ was. Tells (device.content was) (IsUnused n))
 
 -- the mint's values fit, and no node's disk is in use
-pub record MayBeMade {D : Type 0} (K : Shape) (mint : List Output) (content : D → Option (List ℕ)) (held : ℕ → Option D) : Type 0 where
+pub record MayBeMade {D : Type 0} (K : Shape) (mint : List Output) (device : Ghosts D) (held : ℕ → Option D) : Type 0 where
   pub fits : value_out mint < 2 ^ 64
-  pub unused : (n : ℕ) → n < node_count K → ToldUnused content held n
+  pub unused : (n : ℕ) → n < node_count K → ToldUnused device held n
 
 -- this node is in use, and is the first one
-pub record IsFirstInUse {D : Type 0} (K : Shape) (mint : List Output) (content : D → Option (List ℕ)) (held : ℕ → Option D) (node : ℕ) : Type 0 where
+pub record IsFirstInUse {D : Type 0} (K : Shape) (mint : List Output) (device : Ghosts D) (held : ℕ → Option D) (node : ℕ) : Type 0 where
   pub fits : value_out mint < 2 ^ 64
   pub inside : node < node_count K
-  pub in_use : ToldInUse content held node
-  pub before : (n : ℕ) → n < node → ToldUnused content held n
+  pub in_use : ToldInUse device held node
+  pub before : (n : ℕ) → n < node → ToldUnused device held n
 
 -- there is room for the node's first record and a closing gate
-abbrev pub HasPlaceFor : {D : Type 0} → Shape → List Output → (D → ℕ) → (ℕ → Option D) → ℕ → Type 0
-HasPlaceFor K mint limit held n = OfTold (held n) (λ was. size_of (first_of K mint n) + 1 ≤ limit was)
+abbrev pub HasPlaceFor : {D : Type 0} → Shape → List Output → Ghosts D → (ℕ → Option D) → ℕ → Type 0
+HasPlaceFor K mint device held n = OfTold (held n) (λ was. size_of (first_of K mint n) + 1 ≤ device.limit was)
 
 -- this node has no room for its first record, and is the last one
-pub record IsLastFull {D : Type 0} (K : Shape) (mint : List Output) (limit : D → ℕ) (held : ℕ → Option D) (node need capacity : ℕ) : Type 0 where
+pub record IsLastFull {D : Type 0} (K : Shape) (mint : List Output) (device : Ghosts D) (held : ℕ → Option D) (node need capacity : ℕ) : Type 0 where
   pub inside : node < node_count K
   pub need_is : need ≡ size_of (first_of K mint node) + 1
-  pub capacity_is : OfTold (held node) (λ was. capacity ≡ limit was)
+  pub capacity_is : OfTold (held node) (λ was. capacity ≡ device.limit was)
   pub passes : capacity < need
-  pub above : (n : ℕ) → node < n → n < node_count K → HasPlaceFor K mint limit held n
+  pub above : (n : ℕ) → node < n → n < node_count K → HasPlaceFor K mint device held n
 
 -- why a ledger was not made of these disks, whose counts of faults were and are these
-abbrev pub IsUnmade : {D : Type 0} → Shape → List Output → (D → Option (List ℕ)) → (D → ℕ) → (ℕ → Option D) → (ℕ → ℕ) → (ℕ → ℕ) → Answer → Type 0
-IsUnmade K mint content limit held before now (answers.TooMuch total) = (total ≡ value_out mint) × (2 ^ 64 ≤ total)
-IsUnmade K mint content limit held before now (answers.NotEmpty n) = IsFirstInUse K mint content held n
-IsUnmade K mint content limit held before now (answers.Full n used need capacity) = MayBeMade K mint content held × (used ≡ 0) × IsLastFull K mint limit held n need capacity
-IsUnmade K mint content limit held before now (answers.DiskFault n) = (value_out mint < 2 ^ 64) × (n < node_count K) × Rose (before n) (now n) × ((m : ℕ) → m < n → ToldUnused content held m)
-IsUnmade K mint content limit held before now answers.Memory = Unit {0}
-IsUnmade K mint content limit held before now other = ⊥
+abbrev pub IsUnmade : {D : Type 0} → Shape → List Output → Ghosts D → (ℕ → Option D) → (ℕ → ℕ) → (ℕ → ℕ) → Answer → Type 0
+IsUnmade K mint device held before now (answers.TooMuch total) = (total ≡ value_out mint) × (2 ^ 64 ≤ total)
+IsUnmade K mint device held before now (answers.NotEmpty n) = IsFirstInUse K mint device held n
+IsUnmade K mint device held before now (answers.Full n used need capacity) = MayBeMade K mint device held × (used ≡ 0) × IsLastFull K mint device held n need capacity
+IsUnmade K mint device held before now (answers.DiskFault n) = (value_out mint < 2 ^ 64) × (n < node_count K) × Rose (before n) (now n) × ((m : ℕ) → m < n → ToldUnused device held m)
+IsUnmade K mint device held before now answers.Memory = Unit {0}
+IsUnmade K mint device held before now other = ⊥
 
 -- ---- what is left of the disks of a ledger that was not made
 
@@ -86,17 +87,17 @@ IsOfNode k other = ⊥
 -- no node was in use (`MayBeMade`), and the writing of first records, from the highest node down, stopped at this one, of which the answer speaks:
 -- the disks of the nodes below it are unchanged, those above it hold their first records, and a crash leaves of its own no first record, what it
 -- might have left before, or, where the disk failed, the new one alone
-pub record StoppedAt {D : Type 0} (K : Shape) (mint : List Output) (content : D → Option (List ℕ)) (images : D → List ℕ → Type 0) (limit : D → ℕ) (before now : ℕ → Option D) (answer : Answer) (k : ℕ) : Type 0 where
-  pub was : MayBeMade K mint content before
+pub record StoppedAt {D : Type 0} (K : Shape) (mint : List Output) (device : Ghosts D) (before now : ℕ → Option D) (answer : Answer) (k : ℕ) : Type 0 where
+  pub was : MayBeMade K mint device before
   pub inside : k < node_count K
   pub told : IsOfNode k answer
-  pub below : (n : ℕ) → n < k → IsUnchanged content images limit (before n) (now n)
-  pub begun : LeavesBut content images (λ was. IsBegun was (first_of K mint k)) (before k) (now k)
-  pub emptied : answer ≢ answers.DiskFault k → LeavesBut content images IsEmptied (before k) (now k)
-  pub above : (n : ℕ) → k < n → n < node_count K → HoldsFirst content images (first_of K mint n) (before n) (now n)
+  pub below : (n : ℕ) → n < k → IsUnchanged device (before n) (now n)
+  pub begun : LeavesBut device (λ was. IsBegun was (first_of K mint k)) (before k) (now k)
+  pub emptied : answer ≢ answers.DiskFault k → LeavesBut device IsEmptied (before k) (now k)
+  pub above : (n : ℕ) → k < n → n < node_count K → HoldsFirst device (first_of K mint n) (before n) (now n)
   pub outside : (n : ℕ) → node_count K ≤ n → now n ≡ before n
 
 -- all disks are as they were read, or the writing stopped at a node
-abbrev pub IsLeft : {D : Type 0} → Shape → List Output → (D → Option (List ℕ)) → (D → List ℕ → Type 0) → (D → ℕ) → (ℕ → Option D) → (ℕ → Option D) → (ℕ → ℕ) → (ℕ → ℕ) → Answer → Type 0
-IsLeft K mint content images limit before now disks_before disks_now answer =
-    AreBack content images limit disks_before disks_now before now ⊎ ((k : ℕ) × StoppedAt K mint content images limit before now answer k)
+abbrev pub IsLeft : {D : Type 0} → Shape → List Output → Ghosts D → (ℕ → Option D) → (ℕ → Option D) → (ℕ → ℕ) → (ℕ → ℕ) → Answer → Type 0
+IsLeft K mint device before now disks_before disks_now answer =
+    AreBack device disks_before disks_now before now ⊎ ((k : ℕ) × StoppedAt K mint device before now answer k)

@@ -1,5 +1,6 @@
 -- What is on the disks that nodes are made of, by their places, while the first records are written from the last node on.
 use Rattle.std.specs.Prelude.{◌≡◌, ◌≢◌, ◌+◌, ◌≤◌, ℕ, suc, List, [], ◌∷◌, ◌++◌, length, Option, IsSome}
+use Rattle.outside.specs.declared.disk.Disk.{Ghosts}
 use Rattle.cbdc_types.specs.declared.answer.Answer.{Answer}
 use Rattle.cbdc_types.specs.declared.answer.Answer.TheVariants as answers
 use Rattle.cbdc_model.specs.Records.{Compact, Record}
@@ -16,30 +17,30 @@ abbrev pub minted_by : Compact → Minted
 minted_by t = record { id = t.id; hashes = t.outputs }
 
 -- where a disk that was given told its content, it now holds this record alone, and so does whatever a crash may leave of it
-abbrev pub HoldsOf : {D : Type 0} → (D → Option (List ℕ)) → (D → List ℕ → Type 0) → Record → D → D → Type 0
-HoldsOf content images first given now = IsSome (content given) → Holds (content now) (images now) (9 + length (body_of first)) (first ∷ [])
+abbrev pub HoldsOf : {D : Type 0} → Ghosts D → Record → D → D → Type 0
+HoldsOf device first given now = IsSome (device.content given) → Holds (device.content now) (device.images now) (9 + length (body_of first)) (first ∷ [])
 
 -- where a disk that was given told its content, a crash leaves nothing but what has the property, by what it might have left then
-abbrev pub LeavesOf : {D : Type 0} → (D → Option (List ℕ)) → (D → List ℕ → Type 0) → ((List ℕ → Type 0) → List ℕ → Type 0) → D → D → Type 0
-LeavesOf content images P given now = IsSome (content given) → (c : List ℕ) → images now c → P (images given) c
+abbrev pub LeavesOf : {D : Type 0} → Ghosts D → ((List ℕ → Type 0) → List ℕ → Type 0) → D → D → Type 0
+LeavesOf device P given now = IsSome (device.content given) → (c : List ℕ) → device.images now c → P (device.images given) c
 
 -- a crash leaves no more than what was there or this record; and no more than what was there unless the disk failed
-pub record IsSafe {D : Type 0} (content : D → Option (List ℕ)) (images : D → List ℕ → Type 0) (node : ℕ) (first : Record) (answer : Answer) (given now : D) : Type 0 where
-  pub begun : LeavesOf content images (λ before. IsBegun before first) given now
-  pub emptied : answer ≢ answers.DiskFault node → LeavesOf content images IsEmptied given now
+pub record IsSafe {D : Type 0} (device : Ghosts D) (node : ℕ) (first : Record) (answer : Answer) (given now : D) : Type 0 where
+  pub begun : LeavesOf device (λ before. IsBegun before first) given now
+  pub emptied : answer ≢ answers.DiskFault node → LeavesOf device IsEmptied given now
 
 -- this node's disk holds its first record, for which it has room, and has as much as it had
-pub record IsDone {D : Type 0} (content : D → Option (List ℕ)) (images : D → List ℕ → Type 0) (limit : D → ℕ) (first : Record) (given : D) (held : Option D) : Type 0 where
-  pub holds : OfTold held (HoldsOf content images first given)
-  pub begun : OfTold held (LeavesOf content images (λ before. IsBegun before first) given)
-  pub room : first_need first ≤ limit given
-  pub same : OfTold held (λ now. limit now ≡ limit given)
+pub record IsDone {D : Type 0} (device : Ghosts D) (first : Record) (given : D) (held : Option D) : Type 0 where
+  pub holds : OfTold held (HoldsOf device first given)
+  pub begun : OfTold held (LeavesOf device (λ before. IsBegun before first) given)
+  pub room : first_need first ≤ device.limit given
+  pub same : OfTold held (λ now. device.limit now ≡ device.limit given)
 
 -- this node's disk did not take its first record, and why
-pub record IsStopped {D : Type 0} (content : D → Option (List ℕ)) (images : D → List ℕ → Type 0) (limit count : D → ℕ) (node : ℕ) (first : Record) (answer : Answer) (now : ℕ) (given : D) (held : Option D) : Type 0 where
-  pub safe : OfTold held (IsSafe content images node first answer given)
-  pub refusal : IsUnwritten node (limit given) first answer
-  pub opening : IsOpening node (count given) now answer
+pub record IsStopped {D : Type 0} (device : Ghosts D) (node : ℕ) (first : Record) (answer : Answer) (now : ℕ) (given : D) (held : Option D) : Type 0 where
+  pub safe : OfTold held (IsSafe device node first answer given)
+  pub refusal : IsUnwritten node (device.limit given) first answer
+  pub opening : IsOpening node (device.count given) now answer
 
 -- the writing stopped at one of the items: those behind it are done, and those before it are as they were
 pub record StopsAt {X : Type 0} (Waits Fails Done : ℕ → X → Type 0) (whole : List X) : Type 0 where

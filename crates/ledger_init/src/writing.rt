@@ -48,9 +48,9 @@ fn write_disk<D: Disk>(
     node: NodeId,
     disk: D,
 ) -> Wrote<D>
-    ensures written { OnOk result.result (HoldsOf D.content D.images (first_record shape.now (minted_by genesis.now) node) disk result.disk) }
-    ensures begun { LeavesOf D.content D.images (λ before. IsBegun before (first_record shape.now (minted_by genesis.now) node)) disk result.disk }
-    ensures emptied { IfErr result.result (λ e. e ≢ Answer.DiskFault node → LeavesOf D.content D.images IsEmptied disk result.disk) }
+    ensures written { OnOk result.result (HoldsOf D.Disk (first_record shape.now (minted_by genesis.now) node) disk result.disk) }
+    ensures begun { LeavesOf D.Disk (λ before. IsBegun before (first_record shape.now (minted_by genesis.now) node)) disk result.disk }
+    ensures emptied { IfErr result.result (λ e. e ≢ Answer.DiskFault node → LeavesOf D.Disk IsEmptied disk result.disk) }
     ensures room { OnOk result.result (first_need (first_record shape.now (minted_by genesis.now) node) ≤ D.limit disk) }
     ensures refusal { IfErr result.result (IsUnwritten node (D.limit disk) (first_record shape.now (minted_by genesis.now) node)) }
     ensures fault { IfErr result.result (IsOpening node (D.count disk) (D.count result.disk)) }
@@ -81,8 +81,8 @@ fn write_at<R: Rack>(
     disk: R::Disk,
 ) -> Result<(), Answer>
     requires { (k : ℕ) → R.Disk.count disk ≤ k → R.can_put rack.old node k }
-    ensures done { OnOk result (IsDone R.Disk.content R.Disk.images R.Disk.limit (first_record shape.now (minted_by genesis.now) node) disk (R.held rack.new node)) }
-    ensures stopped { IfErr result (λ e. IsStopped R.Disk.content R.Disk.images R.Disk.limit R.Disk.count node (first_record shape.now (minted_by genesis.now) node) e
+    ensures done { OnOk result (IsDone R.Disk.Disk (first_record shape.now (minted_by genesis.now) node) disk (R.held rack.new node)) }
+    ensures stopped { IfErr result (λ e. IsStopped R.Disk.Disk node (first_record shape.now (minted_by genesis.now) node) e
         (R.count rack.new node) disk (R.held rack.new node)) }
     ensures others_held { (n : ℕ) → n ≢ node → R.held rack.new n ≡ R.held rack.old n }
     ensures back { R.can_take rack.new node }
@@ -106,11 +106,11 @@ pub(crate) fn write_firsts<R: Rack>(
     requires few { length blanks.items < 2 ^ 32 }
     requires out { EachFrom (MayReturn (λ b. R.Disk.count b.disk) (R.can_put rack.old)) 0 blanks.items }
     ensures done { OnOk result (EachFrom
-        (λ n b. IsDone R.Disk.content R.Disk.images R.Disk.limit (first_record shape.now (minted_by genesis.now) n) b.disk (R.held rack.new n)) 0 blanks.items) }
+        (λ n b. IsDone R.Disk.Disk (first_record shape.now (minted_by genesis.now) n) b.disk (R.held rack.new n)) 0 blanks.items) }
     ensures stopped { IfErr result (λ e. StopsAt
         (λ n b. OfTold (R.held rack.new n) (λ now. now ≡ b.disk))
-        (λ n b. IsStopped R.Disk.content R.Disk.images R.Disk.limit R.Disk.count n (first_record shape.now (minted_by genesis.now) n) e (R.count rack.new n) b.disk (R.held rack.new n))
-        (λ n b. IsDone R.Disk.content R.Disk.images R.Disk.limit (first_record shape.now (minted_by genesis.now) n) b.disk (R.held rack.new n)) blanks.items) }
+        (λ n b. IsStopped R.Disk.Disk n (first_record shape.now (minted_by genesis.now) n) e (R.count rack.new n) b.disk (R.held rack.new n))
+        (λ n b. IsDone R.Disk.Disk (first_record shape.now (minted_by genesis.now) n) b.disk (R.held rack.new n)) blanks.items) }
     ensures others_held { (n : ℕ) → length blanks.items ≤ n → R.held rack.new n ≡ R.held rack.old n }
     ensures back { (n : ℕ) → n < length blanks.items → R.can_take rack.new n }
     ensures others_in { (n : ℕ) → length blanks.items ≤ n → R.can_take rack.old n → R.can_take rack.new n }

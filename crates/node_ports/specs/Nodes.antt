@@ -6,8 +6,7 @@ use Rattle.cbdc_model.specs.Due.{open_batch}
 use Rattle.cbdc_model.specs.After.{IsJournal}
 use Rattle.cbdc_model.specs.Sights.{Sight}
 use Rattle.lane_driver.specs.Told.{KeepsOthers}
-use Rattle.coord_log.specs.Logs.{LogOf, HoldsJournal as HoldsLog}
-use Rattle.shard_node.specs.Shards.{ShardOf, HoldsJournal as HoldsShard}
+use Rattle.node_journal.specs.Nodes.{NodeOf, HoldsJournal}
 
 -- a node that isn't there: its ledger has no lanes
 abbrev pub no_node : Sight
@@ -26,23 +25,14 @@ sight_at sight [] n = no_node
 sight_at sight (x ∷ xs) zero = sight x
 sight_at sight (x ∷ xs) (suc n) = sight_at sight xs n
 
--- the coordinator's journal is one of its header, and its disk holds it
-pub record IsLogHeld {D : Type 0} (content : D → Option (List ℕ)) (images : D → List ℕ → Type 0) (l : LogOf D) : Type 0 where
-  pub journal : IsJournal l.header l.journal
-  pub held : HoldsLog content images l
-
--- a shard's journal is one of its header, and its disk holds it
-pub record IsShardHeld {D : Type 0} (content : D → Option (List ℕ)) (images : D → List ℕ → Type 0) (s : ShardOf D) : Type 0 where
-  pub journal : IsJournal s.header s.journal
-  pub held : HoldsShard content images s
+-- the node's journal is one of its header, and its disk holds it
+pub record IsNodeHeld {D : Type 0} (content : D → Option (List ℕ)) (images : D → List ℕ → Type 0) (n : NodeOf D) : Type 0 where
+  pub journal : IsJournal n.header n.journal
+  pub held : HoldsJournal content images n
 
 -- all of them
-abbrev pub AreLogsHeld : {D : Type 0} → (D → Option (List ℕ)) → (D → List ℕ → Type 0) → List (LogOf D) → Type 0
-AreLogsHeld content images ls = All (IsLogHeld content images) ls
-
--- with all shards
-abbrev pub AreShardsHeld : {D : Type 0} → (D → Option (List ℕ)) → (D → List ℕ → Type 0) → List (ShardOf D) → Type 0
-AreShardsHeld content images ss = All (IsShardHeld content images) ss
+abbrev pub AreNodesHeld : {D : Type 0} → (D → Option (List ℕ)) → (D → List ℕ → Type 0) → List (NodeOf D) → Type 0
+AreNodesHeld content images nodes = All (IsNodeHeld content images) nodes
 
 -- the coordinator's other lanes are as before
 abbrev pub KeepsRest : Sight → Sight → ℕ → Type 0

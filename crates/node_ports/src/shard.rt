@@ -5,8 +5,8 @@ ghost use Rattle.cbdc_model.specs.Grammar.{IsReply};
 ghost use Rattle.cbdc_model.specs.Due.{lock_due, finish_due, forget_due};
 ghost use Rattle.cbdc_model.specs.Sights.{Told};
 ghost use Rattle.lane_driver.specs.Told.{IsStamp, IsStillNode};
-ghost use Rattle.shard_node.specs.Shards.{sight_of};
-ghost use Rattle.node_ports.specs.Nodes.{IsShardHeld};
+ghost use Rattle.node_journal.specs.Nodes.{sight};
+ghost use Rattle.node_ports.specs.Nodes.{IsNodeHeld};
 
 use cbdc_types::{FinishCall, ForgetCall, LaneId, LockCall, NodeFault, NodeId, Replied, Stamp};
 use lane_driver::ShardPort;
@@ -33,11 +33,11 @@ const FORGET: u8 = 4;
 /// Locks a part for a batch at a shard, by what is seen of it.
 pub fn lock_at<D: Disk>(node: &mut ShardNode<D>, call: &LockCall) -> Result<Replied, NodeFault>
     requires { IsLockCall node.old.header call.now }
-    ensures answer { Told true call.now.batch.lane true (lock_due node.old.header.shape (D.limit node.old.disk) call.now) (sight_of D.count D.limit node.old) (sight_of D.count D.limit node.new) result }
+    ensures answer { Told true call.now.batch.lane true (lock_due node.old.header.shape node.old.capacity call.now) (sight node.old) (sight node.new) result }
     ensures told { IfOk result (λ a. IsStamp a.stamp × All (IsReply node.old.header.shape) a.replies) }
-    ensures node { IsStillNode (sight_of D.count D.limit node.old) (sight_of D.count D.limit node.new) }
-    ensures later { D.count node.old.disk ≤ D.count node.new.disk }
-    ensures holds { IsShardHeld D.content D.images node.old → IsShardHeld D.content D.images node.new }
+    ensures node { IsStillNode (sight node.old) (sight node.new) }
+    ensures later { node.old.faults ≤ node.new.faults }
+    ensures holds { IsNodeHeld D.content D.images node.old → IsNodeHeld D.content D.images node.new }
 {
     let _header = node.header();
     node.lock(call)
@@ -46,11 +46,11 @@ pub fn lock_at<D: Disk>(node: &mut ShardNode<D>, call: &LockCall) -> Result<Repl
 /// Applies a locked batch at a shard, by what is seen of it.
 pub fn finish_at<D: Disk>(node: &mut ShardNode<D>, call: &FinishCall) -> Result<Stamp, NodeFault>
     requires { IsFinishCall node.old.header call.now }
-    ensures answer { Told true call.now.batch.lane false (finish_due call.now) (sight_of D.count D.limit node.old) (sight_of D.count D.limit node.new) result }
+    ensures answer { Told true call.now.batch.lane false (finish_due call.now) (sight node.old) (sight node.new) result }
     ensures told { IfOk result IsStamp }
-    ensures node { IsStillNode (sight_of D.count D.limit node.old) (sight_of D.count D.limit node.new) }
-    ensures later { D.count node.old.disk ≤ D.count node.new.disk }
-    ensures holds { IsShardHeld D.content D.images node.old → IsShardHeld D.content D.images node.new }
+    ensures node { IsStillNode (sight node.old) (sight node.new) }
+    ensures later { node.old.faults ≤ node.new.faults }
+    ensures holds { IsNodeHeld D.content D.images node.old → IsNodeHeld D.content D.images node.new }
 {
     let _header = node.header();
     node.finish(call)
@@ -59,11 +59,11 @@ pub fn finish_at<D: Disk>(node: &mut ShardNode<D>, call: &FinishCall) -> Result<
 /// Forgets an applied batch at a shard, by what is seen of it.
 pub fn forget_at<D: Disk>(node: &mut ShardNode<D>, call: &ForgetCall) -> Result<Stamp, NodeFault>
     requires { IsForgetCall node.old.header call.now }
-    ensures answer { Told true call.now.batch.lane false (forget_due call.now) (sight_of D.count D.limit node.old) (sight_of D.count D.limit node.new) result }
+    ensures answer { Told true call.now.batch.lane false (forget_due call.now) (sight node.old) (sight node.new) result }
     ensures told { IfOk result IsStamp }
-    ensures node { IsStillNode (sight_of D.count D.limit node.old) (sight_of D.count D.limit node.new) }
-    ensures later { D.count node.old.disk ≤ D.count node.new.disk }
-    ensures holds { IsShardHeld D.content D.images node.old → IsShardHeld D.content D.images node.new }
+    ensures node { IsStillNode (sight node.old) (sight node.new) }
+    ensures later { node.old.faults ≤ node.new.faults }
+    ensures holds { IsNodeHeld D.content D.images node.old → IsNodeHeld D.content D.images node.new }
 {
     let _header = node.header();
     node.forget(call)
@@ -85,15 +85,15 @@ impl<'r, 'n, W: Wait, D: Disk> NodeShard<'r, 'n, W, D> {
 }
 
 impl<'r, 'n, W: Wait, D: Disk> ShardPort for NodeShard<'r, 'n, W, D> {
-    ghost sight = { λ p. sight_of D.count D.limit p.shard.now };
+    ghost sight = { λ p. sight p.shard.now };
 
     ghost at = { λ p. p.shard.ghost_name };
 
     ghost alone = { true };
 
-    ghost faults = { λ p. D.count p.shard.now.disk };
+    ghost faults = { λ p. p.shard.now.faults };
 
-    ghost holds = { λ p. IsShardHeld D.content D.images p.shard.now };
+    ghost holds = { λ p. IsNodeHeld D.content D.images p.shard.now };
 
     ghost serves = { λ p l. Unit {0} };
 

@@ -5,8 +5,8 @@ ghost use Rattle.cbdc_model.specs.Grammar.{IsReply};
 ghost use Rattle.cbdc_model.specs.Due.{lock_due, finish_due, forget_due};
 ghost use Rattle.cbdc_model.specs.Sights.{Told};
 ghost use Rattle.lane_driver.specs.Told.{IsStamp, KeepNodes};
-ghost use Rattle.shard_node.specs.Shards.{sight_of};
-ghost use Rattle.node_ports.specs.Nodes.{sight_at, AreShardsHeld};
+ghost use Rattle.node_journal.specs.Nodes.{sight};
+ghost use Rattle.node_ports.specs.Nodes.{sight_at, AreNodesHeld};
 
 use crate::shard::NodeShard;
 use cbdc_types::{FinishCall, ForgetCall, LaneId, LockCall, NodeFault, NodeId, Replied, Stamp};
@@ -32,14 +32,14 @@ impl<'r, W: Wait, D: Disk> NodeShards<'r, W, D> {
         gate: &G,
     ) -> Result<Replied, NodeFault>
         requires place { shard < length self.old.nodes.items }
-        requires call { IsLockCall (sight_at (sight_of D.count D.limit) self.old.nodes.items shard).header call.now }
-        ensures answer { Told true call.now.batch.lane true (lock_due (sight_at (sight_of D.count D.limit) self.old.nodes.items shard).header.shape (sight_at (sight_of D.count D.limit) self.old.nodes.items shard).capacity call.now) (sight_at (sight_of D.count D.limit) self.old.nodes.items shard) (sight_at (sight_of D.count D.limit) self.new.nodes.items shard) result }
-        ensures told { IfOk result (λ a. IsStamp a.stamp × All (IsReply (sight_at (sight_of D.count D.limit) self.old.nodes.items shard).header.shape) a.replies) }
-        ensures elsewhere { (n : ℕ) → n ≢ shard → sight_at (sight_of D.count D.limit) self.new.nodes.items n ≡ sight_at (sight_of D.count D.limit) self.old.nodes.items n }
-        ensures nodes { KeepNodes (sight_at (sight_of D.count D.limit) self.old.nodes.items) (sight_at (sight_of D.count D.limit) self.new.nodes.items) }
+        requires call { IsLockCall (sight_at sight self.old.nodes.items shard).header call.now }
+        ensures answer { Told true call.now.batch.lane true (lock_due (sight_at sight self.old.nodes.items shard).header.shape (sight_at sight self.old.nodes.items shard).capacity call.now) (sight_at sight self.old.nodes.items shard) (sight_at sight self.new.nodes.items shard) result }
+        ensures told { IfOk result (λ a. IsStamp a.stamp × All (IsReply (sight_at sight self.old.nodes.items shard).header.shape) a.replies) }
+        ensures elsewhere { (n : ℕ) → n ≢ shard → sight_at sight self.new.nodes.items n ≡ sight_at sight self.old.nodes.items n }
+        ensures nodes { KeepNodes (sight_at sight self.old.nodes.items) (sight_at sight self.new.nodes.items) }
         ensures count { length self.new.nodes.items ≡ length self.old.nodes.items }
-        ensures later { (n : ℕ) → (sight_at (sight_of D.count D.limit) self.old.nodes.items n).faults ≤ (sight_at (sight_of D.count D.limit) self.new.nodes.items n).faults }
-        ensures holds { AreShardsHeld D.content D.images self.old.nodes.items → AreShardsHeld D.content D.images self.new.nodes.items }
+        ensures later { (n : ℕ) → (sight_at sight self.old.nodes.items n).faults ≤ (sight_at sight self.new.nodes.items n).faults }
+        ensures holds { AreNodesHeld D.content D.images self.old.nodes.items → AreNodesHeld D.content D.images self.new.nodes.items }
     {
         let mut port = NodeShard {
             rt: self.rt,
@@ -57,14 +57,14 @@ impl<'r, W: Wait, D: Disk> NodeShards<'r, W, D> {
         gate: &G,
     ) -> Result<Stamp, NodeFault>
         requires place { shard < length self.old.nodes.items }
-        requires call { IsFinishCall (sight_at (sight_of D.count D.limit) self.old.nodes.items shard).header call.now }
-        ensures answer { Told true call.now.batch.lane false (finish_due call.now) (sight_at (sight_of D.count D.limit) self.old.nodes.items shard) (sight_at (sight_of D.count D.limit) self.new.nodes.items shard) result }
+        requires call { IsFinishCall (sight_at sight self.old.nodes.items shard).header call.now }
+        ensures answer { Told true call.now.batch.lane false (finish_due call.now) (sight_at sight self.old.nodes.items shard) (sight_at sight self.new.nodes.items shard) result }
         ensures told { IfOk result IsStamp }
-        ensures elsewhere { (n : ℕ) → n ≢ shard → sight_at (sight_of D.count D.limit) self.new.nodes.items n ≡ sight_at (sight_of D.count D.limit) self.old.nodes.items n }
-        ensures nodes { KeepNodes (sight_at (sight_of D.count D.limit) self.old.nodes.items) (sight_at (sight_of D.count D.limit) self.new.nodes.items) }
+        ensures elsewhere { (n : ℕ) → n ≢ shard → sight_at sight self.new.nodes.items n ≡ sight_at sight self.old.nodes.items n }
+        ensures nodes { KeepNodes (sight_at sight self.old.nodes.items) (sight_at sight self.new.nodes.items) }
         ensures count { length self.new.nodes.items ≡ length self.old.nodes.items }
-        ensures later { (n : ℕ) → (sight_at (sight_of D.count D.limit) self.old.nodes.items n).faults ≤ (sight_at (sight_of D.count D.limit) self.new.nodes.items n).faults }
-        ensures holds { AreShardsHeld D.content D.images self.old.nodes.items → AreShardsHeld D.content D.images self.new.nodes.items }
+        ensures later { (n : ℕ) → (sight_at sight self.old.nodes.items n).faults ≤ (sight_at sight self.new.nodes.items n).faults }
+        ensures holds { AreNodesHeld D.content D.images self.old.nodes.items → AreNodesHeld D.content D.images self.new.nodes.items }
     {
         let mut port = NodeShard {
             rt: self.rt,
@@ -82,14 +82,14 @@ impl<'r, W: Wait, D: Disk> NodeShards<'r, W, D> {
         gate: &G,
     ) -> Result<Stamp, NodeFault>
         requires place { shard < length self.old.nodes.items }
-        requires call { IsForgetCall (sight_at (sight_of D.count D.limit) self.old.nodes.items shard).header call.now }
-        ensures answer { Told true call.now.batch.lane false (forget_due call.now) (sight_at (sight_of D.count D.limit) self.old.nodes.items shard) (sight_at (sight_of D.count D.limit) self.new.nodes.items shard) result }
+        requires call { IsForgetCall (sight_at sight self.old.nodes.items shard).header call.now }
+        ensures answer { Told true call.now.batch.lane false (forget_due call.now) (sight_at sight self.old.nodes.items shard) (sight_at sight self.new.nodes.items shard) result }
         ensures told { IfOk result IsStamp }
-        ensures elsewhere { (n : ℕ) → n ≢ shard → sight_at (sight_of D.count D.limit) self.new.nodes.items n ≡ sight_at (sight_of D.count D.limit) self.old.nodes.items n }
-        ensures nodes { KeepNodes (sight_at (sight_of D.count D.limit) self.old.nodes.items) (sight_at (sight_of D.count D.limit) self.new.nodes.items) }
+        ensures elsewhere { (n : ℕ) → n ≢ shard → sight_at sight self.new.nodes.items n ≡ sight_at sight self.old.nodes.items n }
+        ensures nodes { KeepNodes (sight_at sight self.old.nodes.items) (sight_at sight self.new.nodes.items) }
         ensures count { length self.new.nodes.items ≡ length self.old.nodes.items }
-        ensures later { (n : ℕ) → (sight_at (sight_of D.count D.limit) self.old.nodes.items n).faults ≤ (sight_at (sight_of D.count D.limit) self.new.nodes.items n).faults }
-        ensures holds { AreShardsHeld D.content D.images self.old.nodes.items → AreShardsHeld D.content D.images self.new.nodes.items }
+        ensures later { (n : ℕ) → (sight_at sight self.old.nodes.items n).faults ≤ (sight_at sight self.new.nodes.items n).faults }
+        ensures holds { AreNodesHeld D.content D.images self.old.nodes.items → AreNodesHeld D.content D.images self.new.nodes.items }
     {
         let mut port = NodeShard {
             rt: self.rt,
@@ -102,15 +102,15 @@ impl<'r, W: Wait, D: Disk> NodeShards<'r, W, D> {
 }
 
 impl<'r, W: Wait, D: Disk, G: Gate> PortSet<G> for NodeShards<'r, W, D> {
-    ghost sights = { λ p n. sight_at (sight_of D.count D.limit) p.nodes.items n };
+    ghost sights = { λ p n. sight_at sight p.nodes.items n };
 
     ghost alone = { true };
 
     ghost count = { λ p. length p.nodes.items };
 
-    ghost faults = { λ p n. (sight_at (sight_of D.count D.limit) p.nodes.items n).faults };
+    ghost faults = { λ p n. (sight_at sight p.nodes.items n).faults };
 
-    ghost holds = { λ p. AreShardsHeld D.content D.images p.nodes.items };
+    ghost holds = { λ p. AreNodesHeld D.content D.images p.nodes.items };
 
     ghost serves = { λ p l. Unit {0} };
 

@@ -9,8 +9,7 @@ use Rattle.cbdc_model.specs.Sights.{Sight}
 use Rattle.lane_laws.specs.Batches.{Settled}
 use Rattle.lane_driver.specs.Told.{IsLane, AreShardsOf}
 use Rattle.lane_driver.specs.Stops.{IsSettled}
-use Rattle.coord_log.specs.Logs.{LogOf, sight}
-use Rattle.shard_node.specs.Shards.{ShardOf, sight_of}
+use Rattle.node_journal.specs.Nodes.{NodeOf, sight}
 use Rattle.node_ports.specs.Nodes.{sight_at}
 use Rattle.node_rows.specs.Resting.{number_in, AllRest, LogRests, MayRun}
 
@@ -42,7 +41,7 @@ none_later kind lane k (r ∷ J) b all same high =
 
 -- ---- a list of nodes, by their places
 
-log_at : {D : Type 0} (logs : List (LogOf D)) (n : ℕ) (l : LogOf D) → n < length logs → l ≡ get_or logs n l → sight_at sight logs n ≡ sight l
+log_at : {D : Type 0} (logs : List (NodeOf D)) (n : ℕ) (l : NodeOf D) → n < length logs → l ≡ get_or logs n l → sight_at sight logs n ≡ sight l
 log_at [] n l inside e = absurd (omega (arith, inside))
 log_at (x ∷ xs) zero l inside e = ap sight (sym e)
 log_at (x ∷ xs) (suc n) l inside e = log_at xs n l (omega (arith, inside)) e
@@ -53,26 +52,26 @@ record Rested (lane k stamp : ℕ) (I : Sight) : Type 0 where
   pub stamp_is : slot_stamp I.seen lane ≤ stamp
   pub numbers : All (λ r. number_in lane r ≤ k) I.seen
 
-module _ {D : Type 0} (count limit : D → ℕ) (K : Shape) (lane k stamp : ℕ) where
-  rested : (nodes : List (ShardOf D)) (n s : ℕ) → AllRest K lane k stamp n nodes → Rested lane k stamp (sight_at (sight_of count limit) nodes s)
+module _ {D : Type 0} (K : Shape) (lane k stamp : ℕ) where
+  rested : (nodes : List (NodeOf D)) (n s : ℕ) → AllRest K lane k stamp n nodes → Rested lane k stamp (sight_at sight nodes s)
   rested [] n s all = record { idle = refl; number = omega arith; stamp_is = omega arith; numbers = All-nil (λ r. number_in lane r ≤ k) }
   rested (x ∷ xs) n zero all = record { idle = all.0.idle; number = all.0.number; stamp_is = all.0.stamp_is; numbers = all.0.numbers }
   rested (x ∷ xs) n (suc s) all = rested xs (suc n) s all.1
 
-  placed : (nodes : List (ShardOf D)) (n s : ℕ) → AllRest K lane k stamp n nodes → s < length nodes
-      → ((sight_at (sight_of count limit) nodes s).header.shape ≡ K) × ((sight_at (sight_of count limit) nodes s).header.node ≡ K.coordinators + (n + s))
+  placed : (nodes : List (NodeOf D)) (n s : ℕ) → AllRest K lane k stamp n nodes → s < length nodes
+      → ((sight_at sight nodes s).header.shape ≡ K) × ((sight_at sight nodes s).header.node ≡ K.coordinators + (n + s))
   placed [] n s all low = absurd (omega (arith, low))
   placed (x ∷ xs) n zero all low = (all.0.shape, omega (arith, all.0.node))
   placed (x ∷ xs) n (suc s) all low = let p = placed xs (suc n) s all.1 (omega (arith, low)) in (p.0, omega (arith, p.1))
 
 -- ---- the nodes of a ledger
 
-module _ {D : Type 0} (count limit : D → ℕ) (K : Shape) (lane k : ℕ) (l : LogOf D) (nodes : List (ShardOf D))
+module _ {D : Type 0} (K : Shape) (lane k : ℕ) (l : NodeOf D) (nodes : List (NodeOf D))
     (log : LogRests K lane k l) (rest : AllRest K lane k (last_stamp l.journal) 0 nodes) where
-  are_shards : length nodes ≡ K.shards → AreShardsOf K (sight_at (sight_of count limit) nodes)
-  are_shards as_many s low = let p = placed count limit K lane k (last_stamp l.journal) nodes 0 s rest (omega (arith, low, as_many)) in (p.0, omega (arith, p.1))
+  are_shards : length nodes ≡ K.shards → AreShardsOf K (sight_at sight nodes)
+  are_shards as_many s low = let p = placed K lane k (last_stamp l.journal) nodes 0 s rest (omega (arith, low, as_many)) in (p.0, omega (arith, p.1))
 
-  settled : Settled K lane k (sight l) (sight_at (sight_of count limit) nodes)
+  settled : Settled K lane k (sight l) (sight_at sight nodes)
   settled = record {
     home = log.home;
     shape = log.shape;
@@ -82,22 +81,22 @@ module _ {D : Type 0} (count limit : D → ℕ) (K : Shape) (lane k : ℕ) (l : 
     shard_number = λ s. (at s).number;
     shard_stamp = λ s. (at s).stamp_is;
     fresh_log = λ kind b same high. none_later kind lane k l.journal b log.numbers same high;
-    fresh_shard = λ s kind b same high. none_later kind lane k (sight_at (sight_of count limit) nodes s).seen b (at s).numbers same high;
+    fresh_shard = λ s kind b same high. none_later kind lane k (sight_at sight nodes s).seen b (at s).numbers same high;
   }
     where
-      at : (s : ℕ) → Rested lane k (last_stamp l.journal) (sight_at (sight_of count limit) nodes s)
-      at s = rested count limit K lane k (last_stamp l.journal) nodes 0 s rest
+      at : (s : ℕ) → Rested lane k (last_stamp l.journal) (sight_at sight nodes s)
+      at s = rested K lane k (last_stamp l.journal) nodes 0 s rest
 
 -- where the coordinator's log stands at its place
-pub rests : {D : Type 0} (K : Shape) (lane k at : ℕ) (l : LogOf D) (logs : List (LogOf D)) (nodes : List (ShardOf D))
+pub rests : {D : Type 0} (K : Shape) (lane k at : ℕ) (l : NodeOf D) (logs nodes : List (NodeOf D))
     → at < length logs → l ≡ get_or logs at l → LogRests K lane k l → length nodes ≡ K.shards → AllRest K lane k (last_stamp l.journal) 0 nodes → MayRun K lane at logs nodes
 rests K lane k at l logs nodes inside stands log as_many rest = record {
   lane_is = subst (λ (I : Sight). IsLane I.header lane) here (subst (λ (H : Shape). (lane < H.coordinators * H.lanes) × (l.header.node ≡ home_of H lane)) (sym log.shape) (log.inside, log.node));
   shape = subst (λ (I : Sight). I.header.shape ≡ K) here log.shape;
   idle = subst (λ (I : Sight). (slot I.seen lane).phase ≡ Idle) here (ap (λ s. s.phase) log.idle);
   as_many = as_many;
-  ledger = λ count limit. are_shards count limit K lane k l nodes log rest as_many;
-  settled = λ count limit. subst (λ (I : Sight). IsSettled K lane I (sight_at (sight_of count limit) nodes)) here (k, settled count limit K lane k l nodes log rest);
+  ledger = are_shards K lane k l nodes log rest as_many;
+  settled = subst (λ (I : Sight). IsSettled K lane I (sight_at sight nodes)) here (k, settled K lane k l nodes log rest);
 }
   where
     here : sight l ≡ sight_at sight logs at

@@ -5,8 +5,7 @@ use Rattle.cbdc_model.specs.Slots.{slot, slot_stamp, Idle}
 use Rattle.cbdc_model.specs.Ranges.{home_of}
 use Rattle.lane_driver.specs.Told.{IsLane, AreShardsOf}
 use Rattle.lane_driver.specs.Stops.{IsSettled}
-use Rattle.coord_log.specs.Logs.{LogOf, sight}
-use Rattle.shard_node.specs.Shards.{ShardOf, sight_of}
+use Rattle.node_journal.specs.Nodes.{NodeOf, sight}
 use Rattle.node_ports.specs.Nodes.{sight_at}
 
 -- the number of a record's batch, 0 of a first record and of another lane's
@@ -22,7 +21,7 @@ number_in lane (Discard stamp b) = if b.lane == lane then b.number else 0
 number_in lane (Done stamp b) = if b.lane == lane then b.number else 0
 
 -- at a shard of this place, whose last record of the lane has a stamp no later than that
-pub record RestsAt {D : Type 0} (K : Shape) (lane k stamp s : ℕ) (n : ShardOf D) : Type 0 where
+pub record RestsAt {D : Type 0} (K : Shape) (lane k stamp s : ℕ) (n : NodeOf D) : Type 0 where
   pub shape : n.header.shape ≡ K
   pub node : n.header.node ≡ K.coordinators + s
   pub idle : (slot n.journal lane).phase ≡ Idle
@@ -31,12 +30,12 @@ pub record RestsAt {D : Type 0} (K : Shape) (lane k stamp s : ℕ) (n : ShardOf 
   pub numbers : All (λ r. number_in lane r ≤ k) n.journal
 
 -- at all shards, of which the first has this place
-abbrev pub AllRest : {D : Type 0} → Shape → ℕ → ℕ → ℕ → ℕ → List (ShardOf D) → Type 0
+abbrev pub AllRest : {D : Type 0} → Shape → ℕ → ℕ → ℕ → ℕ → List (NodeOf D) → Type 0
 AllRest K lane k stamp s [] = Unit {0}
 AllRest K lane k stamp s (n ∷ ns) = RestsAt K lane k stamp s n × AllRest K lane k stamp (suc s) ns
 
 -- at its coordinator, where its last batch has this number
-pub record LogRests {D : Type 0} (K : Shape) (lane k : ℕ) (l : LogOf D) : Type 0 where
+pub record LogRests {D : Type 0} (K : Shape) (lane k : ℕ) (l : NodeOf D) : Type 0 where
   pub shape : l.header.shape ≡ K
   pub node : l.header.node ≡ home_of K lane
   pub home : home_of K lane < K.coordinators
@@ -45,10 +44,10 @@ pub record LogRests {D : Type 0} (K : Shape) (lane k : ℕ) (l : LogOf D) : Type
   pub numbers : All (λ r. number_in lane r ≤ k) l.journal
 
 -- a lane may be run over these nodes of a ledger, its coordinator at this place: it rests at all of them
-pub record MayRun {D : Type 0} (K : Shape) (lane at : ℕ) (logs : List (LogOf D)) (nodes : List (ShardOf D)) : Type 0 where
+pub record MayRun {D : Type 0} (K : Shape) (lane at : ℕ) (logs nodes : List (NodeOf D)) : Type 0 where
   pub lane_is : IsLane (sight_at sight logs at).header lane
   pub shape : (sight_at sight logs at).header.shape ≡ K
   pub idle : (slot (sight_at sight logs at).seen lane).phase ≡ Idle
   pub as_many : length nodes ≡ K.shards
-  pub ledger : (count limit : D → ℕ) → AreShardsOf K (sight_at (sight_of count limit) nodes)
-  pub settled : (count limit : D → ℕ) → IsSettled K lane (sight_at sight logs at) (sight_at (sight_of count limit) nodes)
+  pub ledger : AreShardsOf K (sight_at sight nodes)
+  pub settled : IsSettled K lane (sight_at sight logs at) (sight_at sight nodes)

@@ -1,6 +1,6 @@
 -- What contracts see of the nodes that lanes share.
 use Rattle.cbdc_model.specs.Sights.{Sight}
-use Rattle.coord_log.specs.Logs.{sight as log_seen}
+use Rattle.node_journal.specs.Nodes.{sight as log_seen}
 use Rattle.port_sets.specs.declared.locking.SharedShard.{SharedShard}
 use Rattle.port_sets.specs.declared.coordinators.SharedLog.{SharedLog}
 

@@ -3,8 +3,8 @@ ghost use Rattle.std.specs.Prelude.{◌≡◌, ◌↔◌, ◌≤◌, ℕ, true, 
 ghost use Rattle.cbdc_model.specs.Grammar.{HasSize, IsCompact};
 ghost use Rattle.cbdc_model.specs.Slots.{slot, Idle, InPrepare, InCommit, InDiscard};
 ghost use Rattle.lane_driver.specs.Told.{IsLane, IsStamp, AreReplies};
-ghost use Rattle.coord_log.specs.Logs.{sight as log_sight};
-ghost use Rattle.node_ports.specs.Nodes.{IsLogHeld};
+ghost use Rattle.node_journal.specs.Nodes.{sight as log_sight};
+ghost use Rattle.node_ports.specs.Nodes.{IsNodeHeld};
 ghost use Rattle.node_lock.specs.Moving.{Moves};
 ghost use Rattle.port_sets.specs.Giving.{Gives};
 ghost use Rattle.port_sets.specs.Logs.{lane_of, txs_at, may_be_asked, gives_of, Decides, prepare_owed, discard_owed, done_owed, good_prepare, good_discard, good_done};
@@ -51,7 +51,7 @@ fn prepare<D: Disk>(
     requires limits { All IsCompact txs.now }
     ensures gives { Gives lane true (prepare_owed lane txs.now) (good_prepare lane txs.now) (log_sight log.old) (log_sight log.new) result }
     ensures moves { Moves lane (log_sight log.old) (log_sight log.new) }
-    ensures goes { IsLogHeld D.content D.images log.old → IsLogHeld D.content D.images log.new }
+    ensures goes { IsNodeHeld D.content D.images log.old → IsNodeHeld D.content D.images log.new }
 {
     let _records = log.records();
     prepare_at(log, lane, txs)
@@ -69,7 +69,7 @@ fn decide<D: Disk>(
     requires room { length (txs_at log.old.journal lane) ≤ vec_capacity out.old }
     ensures gives { Decides lane replies.now (log_sight log.old) (log_sight log.new) out.new.items result }
     ensures moves { Moves lane (log_sight log.old) (log_sight log.new) }
-    ensures goes { IsLogHeld D.content D.images log.old → IsLogHeld D.content D.images log.new }
+    ensures goes { IsNodeHeld D.content D.images log.old → IsNodeHeld D.content D.images log.new }
 {
     let _records = log.records();
     decide_at(log, lane, replies, out)
@@ -81,7 +81,7 @@ fn discard<D: Disk>(log: &mut CoordLog<D>, lane: LaneId, cause: Stamp) -> Result
     requires cause { IsStamp cause }
     ensures gives { Gives lane false (discard_owed lane cause) (good_discard lane) (log_sight log.old) (log_sight log.new) result }
     ensures moves { Moves lane (log_sight log.old) (log_sight log.new) }
-    ensures goes { IsLogHeld D.content D.images log.old → IsLogHeld D.content D.images log.new }
+    ensures goes { IsNodeHeld D.content D.images log.old → IsNodeHeld D.content D.images log.new }
 {
     let _records = log.records();
     discard_at(log, lane, cause)
@@ -93,7 +93,7 @@ fn done<D: Disk>(log: &mut CoordLog<D>, lane: LaneId, cause: Stamp) -> Result<St
     requires cause { IsStamp cause }
     ensures gives { Gives lane false (done_owed lane cause) (good_done lane) (log_sight log.old) (log_sight log.new) result }
     ensures moves { Moves lane (log_sight log.old) (log_sight log.new) }
-    ensures goes { IsLogHeld D.content D.images log.old → IsLogHeld D.content D.images log.new }
+    ensures goes { IsNodeHeld D.content D.images log.old → IsNodeHeld D.content D.images log.new }
 {
     let _records = log.records();
     done_at(log, lane, cause)
@@ -102,7 +102,7 @@ fn done<D: Disk>(log: &mut CoordLog<D>, lane: LaneId, cause: Stamp) -> Result<St
 impl<D: Disk> Sighted for SharedLog<D> {
     ghost sight = { λ n. log_sight n.node };
 
-    ghost goes = { λ a b. IsLogHeld D.content D.images a.node → IsLogHeld D.content D.images b.node };
+    ghost goes = { λ a b. IsNodeHeld D.content D.images a.node → IsNodeHeld D.content D.images b.node };
 
     fn count(&self) -> usize {
         self.node.records().len()

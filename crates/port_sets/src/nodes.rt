@@ -3,8 +3,8 @@ ghost use Rattle.std.specs.Prelude.{◌≡◌, ◌↔◌, ◌≤◌, true, false
 ghost use Rattle.cbdc_model.specs.Calls.{IsLockCall, IsFinishCall, IsForgetCall};
 ghost use Rattle.cbdc_model.specs.Sights.{Sight};
 ghost use Rattle.cbdc_model.specs.Status.{status};
-ghost use Rattle.shard_node.specs.Shards.{sight_of};
-ghost use Rattle.node_ports.specs.Nodes.{IsShardHeld};
+ghost use Rattle.node_journal.specs.Nodes.{sight};
+ghost use Rattle.node_ports.specs.Nodes.{IsNodeHeld};
 ghost use Rattle.port_sets.specs.Giving.{Gives};
 ghost use Rattle.port_sets.specs.Shards.{lock_owed, finish_owed, forget_owed, good_reply, good_stamp};
 
@@ -70,9 +70,9 @@ pub trait Shard {
 }
 
 impl<D: Disk> Shard for ShardNode<D> {
-    ghost sight = { sight_of D.count D.limit };
+    ghost sight = { sight };
 
-    ghost goes = { λ a b. IsShardHeld D.content D.images a → IsShardHeld D.content D.images b };
+    ghost goes = { λ a b. IsNodeHeld D.content D.images a → IsNodeHeld D.content D.images b };
 
     fn header(&self) -> &Header {
         ShardNode::header(self)

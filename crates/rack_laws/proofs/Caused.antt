@@ -1,6 +1,7 @@
 -- Each record of a kept ledger that a rack shows is caused.
 use Rattle.std.proofs.Common.{◌≡◌, inl, inr, ℕ, zero, suc, ◌≤◌, ◌<◌, List, [], ◌∷◌, ◌++◌, reverse, Option, sym, ap, ◌∙◌, subst, arith}
 use Rattle.std.proofs.lemmas.Bool.{cases_lt}
+use Rattle.outside.specs.declared.disk.Disk.{Ghosts}
 use Rattle.cbdc_types.specs.declared.answer.Answer.{Answer}
 use Rattle.cbdc_model.specs.Records.{Digest, Shape, Header, Compact, Record, Row, journal}
 use Rattle.cbdc_model.specs.Coins.{Output, FullTx, genesis_id}
@@ -41,11 +42,11 @@ pub kept_beyond : (K : Shape) (mint : List Output) (submissions : List FullTx) (
 kept_beyond K mint submissions E kept n past =
     sym (kept.history.journals_are n) ∙ none_beyond K (minted mint) (IsProperCompact submissions) kept.later (steady K (minted mint) (IsProperCompact submissions) kept.later kept.kept) n past
 
-module _ {D : Type 0} (content : D → Option (List ℕ)) (held : ℕ → Option D) (K : Shape) (mint : List Output) (submissions : List FullTx) (E : ℕ → List Record) (ready : ShowsKept content held K mint submissions E) where
+module _ {D : Type 0} (device : Ghosts D) (held : ℕ → Option D) (K : Shape) (mint : List Output) (submissions : List FullTx) (E : ℕ → List Record) (ready : ShowsKept device held K mint submissions E) where
   -- rows that the disks tell have these journals
-  module _ (shape : Shape) (genesis : Digest) (rows : List Row) (told : IsToldHistory content held shape genesis rows) where
+  module _ (shape : Shape) (genesis : Digest) (rows : List Row) (told : IsToldHistory device held shape genesis rows) where
     pub told_at : (n : ℕ) → n < node_count K → n < node_count shape → (header_of shape genesis n ≡ header_of K (genesis_id mint) n) × (journal n (reverse rows) ≡ E n)
-    told_at n inside there = opens_to content held K mint submissions E ready n (header_of shape genesis n) (journal n (reverse rows)) inside (told.opened n there)
+    told_at n inside there = opens_to device held K mint submissions E ready n (header_of shape genesis n) (journal n (reverse rows)) inside (told.opened n there)
 
     pub told_header : header_of shape genesis 0 ≡ header_of K (genesis_id mint) 0
     told_header = let own = ready.limits in let theirs = told.limits in (told_at 0 (omega (arith, own.some_coordinator)) (omega (arith, theirs.some_coordinator))).0
@@ -67,11 +68,11 @@ module _ {D : Type 0} (content : D → Option (List ℕ)) (held : ℕ → Option
     pub told_caused : AllCaused K (reverse rows)
     told_caused = let kept : KeptJournals K mint submissions E = ready.kept in subst (AllCaused K) (sym told_rows) (steady_caused K (minted mint) (IsProperCompact submissions) kept.later kept.kept)
 
-  pub unsound_none : (images : D → List ℕ → Type 0) (limit count : D → ℕ) (answer : Answer) → IsUnsound content images limit count held answer → ⊥
-  unsound_none images limit count answer unsound =
+  pub unsound_none : (answer : Answer) → IsUnsound device held answer → ⊥
+  unsound_none answer unsound =
       let rows : List Row = unsound.uncaused.rows in
-      let told : IsToldHistory content held unsound.header.shape unsound.header.genesis unsound.uncaused.rows
-      = told_history content images limit count held unsound.header unsound.logs unsound.shards unsound.opened unsound.uncaused.rows unsound.uncaused.merged in
+      let told : IsToldHistory device held unsound.header.shape unsound.header.genesis unsound.uncaused.rows
+      = told_history device held unsound.header unsound.logs unsound.shards unsound.opened unsound.uncaused.rows unsound.uncaused.merged in
       let shape : unsound.header.shape ≡ K = told_shape unsound.header.shape unsound.header.genesis unsound.uncaused.rows told in
       let all : AllCaused K (reverse unsound.uncaused.rows) = told_caused unsound.header.shape unsound.header.genesis unsound.uncaused.rows told in
       none_uncaused unsound.header.shape unsound.uncaused.rows unsound.place (subst (λ (s : Shape). AllCaused s (reverse unsound.uncaused.rows)) (sym shape) all) unsound.uncaused.first

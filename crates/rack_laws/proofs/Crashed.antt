@@ -3,6 +3,7 @@ use Rattle.std.proofs.Common.{◌≡◌, ◌⊎◌, inl, inr, ℕ, ◌<◌, true
 use Rattle.std.proofs.lemmas.Bool.{ltb-true, ltb-false}
 use Rattle.std.proofs.lemmas.Grind.{reverse_onto}
 use Rattle.std.proofs.lemmas.List.{map-append}
+use Rattle.outside.specs.declared.disk.Disk.{Ghosts}
 use Rattle.cbdc_model.specs.Records.{Shape, Record}
 use Rattle.cbdc_model.specs.Coins.{Output, FullTx}
 use Rattle.cbdc_model.specs.Lanes.{IsEnd}
@@ -20,9 +21,9 @@ use Rattle.rack_laws.specs.Shown.{node_count, AreLeft, OpenTo}
 bodies_more : (r : Record) (J : List Record) → bodies_of (reverse J) ++ body_of r ∷ [] ≡ bodies_of (reverse (r ∷ J))
 bodies_more r J = sym (ap (λ rs. map body_of rs) (reverse_onto J r []) ∙ map-append body_of (reverse J) (r ∷ []))
 
-module _ {D : Type 0} (images : D → List ℕ → Type 0) (held : ℕ → Option D) (K : Shape) (mint : List Output) (submissions : List FullTx) (J : ℕ → List Record) (flights : ℕ → Option Record)
-    (may : AllMayCome K mint submissions J flights) (keeps : (n : ℕ) → n < node_count K → OfTold (held n) (λ d. (c : List ℕ) → images d c → OpensToEither (reverse (J n)) (flights n) c))
-    (contents : ℕ → List ℕ) (left : AreLeft images held K contents) where
+module _ {D : Type 0} (device : Ghosts D) (held : ℕ → Option D) (K : Shape) (mint : List Output) (submissions : List FullTx) (J : ℕ → List Record) (flights : ℕ → Option Record)
+    (may : AllMayCome K mint submissions J flights) (keeps : (n : ℕ) → n < node_count K → OfTold (held n) (λ d. (c : List ℕ) → device.images d c → OpensToEither (reverse (J n)) (flights n) c))
+    (contents : ℕ → List ℕ) (left : AreLeft device held K contents) where
   -- the journal that a node's image opens to: it is that of the node, or stands before what may come next there
   record Left (n : ℕ) : Type 0 where
     now : List Record

@@ -1,6 +1,7 @@
 -- A rack over which work can be done.
 use Rattle.std.specs.Prelude.{ℕ, ◌+◌, ◌≤◌, ◌<◌, Bool, List, Option, Some, None}
 use Rattle.outside.specs.Counts.{Rose}
+use Rattle.outside.specs.declared.disk.Disk.{Ghosts}
 use Rattle.cbdc_types.specs.Limits.{IsWithinLimits}
 use Rattle.cbdc_model.specs.Records.{Shape, Record}
 use Rattle.cbdc_model.specs.Coins.{Output, FullTx, genesis_id}
@@ -11,14 +12,14 @@ use Rattle.run_laws.specs.Ample.{Ample}
 use Rattle.rack_laws.specs.Shown.{node_count, Shows}
 
 -- how many bytes a disk that is told of may hold
-abbrev pub limit_at : {D : Type 0} → (D → ℕ) → Option D → ℕ
-limit_at limit None = 0
-limit_at limit (Some d) = limit d
+abbrev pub limit_at : {D : Type 0} → Ghosts D → Option D → ℕ
+limit_at device None = 0
+limit_at device (Some d) = device.limit d
 
 -- each node's disk of the ledger tells its content, which opens to its journal, and the journals are kept
-pub record ShowsKept {D : Type 0} (content : D → Option (List ℕ)) (held : ℕ → Option D) (K : Shape) (mint : List Output) (submissions : List FullTx) (E : ℕ → List Record) : Type 0 where
+pub record ShowsKept {D : Type 0} (device : Ghosts D) (held : ℕ → Option D) (K : Shape) (mint : List Output) (submissions : List FullTx) (E : ℕ → List Record) : Type 0 where
   pub limits : IsWithinLimits K
-  pub shown : Shows content held K (genesis_id mint) E
+  pub shown : Shows device held K (genesis_id mint) E
   pub kept : KeptJournals K mint submissions E
 
 -- each node's disk has room for its journal and for what is kept for its open batches
@@ -31,11 +32,11 @@ NoneRises K before now = (n : ℕ) → n < node_count K → Rose (before n) (now
 
 -- the disks show a kept ledger, have room and stamps for every record that is still to come of these files, of which these submissions are sound, and
 -- none of its nodes' counts of faults rises
-pub record IsReady {D : Type 0} (content : D → Option (List ℕ)) (limit : D → ℕ) (held : ℕ → Option D) (before now : ℕ → ℕ) (sound : FullTx → Bool) (files : List (List FullTx)) : Type 0 where
+pub record IsReady {D : Type 0} (device : Ghosts D) (held : ℕ → Option D) (before now : ℕ → ℕ) (sound : FullTx → Bool) (files : List (List FullTx)) : Type 0 where
   pub shape : Shape
   pub mint : List Output
   pub submissions : List FullTx
   pub journals : ℕ → List Record
-  pub shows : ShowsKept content held shape mint submissions journals
-  pub ample : Ample shape sound (λ n. limit_at limit (held n)) files journals
+  pub shows : ShowsKept device held shape mint submissions journals
+  pub ample : Ample shape sound (λ n. limit_at device (held n)) files journals
   pub steady : NoneRises shape before now

@@ -1,5 +1,6 @@
 -- Ledgers as racks show and store them.
 use Rattle.std.specs.Prelude.{◌≡◌, ℕ, ◌+◌, ◌<◌, ◌≤◌, List, reverse, Option, Some, IfSome}
+use Rattle.outside.specs.declared.disk.Disk.{Ghosts}
 use Rattle.cbdc_types.specs.Limits.{IsWithinLimits}
 use Rattle.cbdc_model.specs.Records.{Digest, Shape, Record}
 use Rattle.cbdc_model.specs.Coins.{Output, FullTx, genesis_id}
@@ -8,8 +9,7 @@ use Rattle.cbdc_model.specs.World.{KeptJournals}
 use Rattle.cbdc_model.specs.Room.{kept_room, need_of}
 use Rattle.cbdc_model.specs.Due.{used_of}
 use Rattle.record_log.specs.Held.{OpensTo, OpensToEither}
-use Rattle.coord_log.specs.Logs.{LogOf}
-use Rattle.shard_node.specs.Shards.{ShardOf}
+use Rattle.node_journal.specs.Nodes.{NodeOf}
 use Rattle.rack_ledgers.specs.Racked.{OfTold}
 use Rattle.rack_ledgers.specs.Refused.{IsNodeJournal}
 
@@ -17,52 +17,44 @@ abbrev pub node_count : Shape → ℕ
 node_count K = K.coordinators + K.shards
 
 -- the rack tells each node's disk, and its content opens to this journal of the ledger
-abbrev pub Shows : {D : Type 0} → (D → Option (List ℕ)) → (ℕ → Option D) → Shape → Digest → (ℕ → List Record) → Type 0
-Shows {D} content held K genesis J = (n : ℕ) → n < node_count K
-    → (d : D) × (held n ≡ Some d) × ((c : List ℕ) × (content d ≡ Some c) × IsNodeJournal (header_of K genesis n) (J n) c)
+abbrev pub Shows : {D : Type 0} → Ghosts D → (ℕ → Option D) → Shape → Digest → (ℕ → List Record) → Type 0
+Shows {D} device held K genesis J = (n : ℕ) → n < node_count K
+    → (d : D) × (held n ≡ Some d) × ((c : List ℕ) × (device.content d ≡ Some c) × IsNodeJournal (header_of K genesis n) (J n) c)
 
 -- whatever a crash may leave of a node's disk that is told opens to this journal of the ledger
-abbrev pub Stores : {D : Type 0} → (D → List ℕ → Type 0) → (ℕ → Option D) → Shape → Digest → (ℕ → List Record) → Type 0
-Stores images held K genesis J = (n : ℕ) → n < node_count K → OfTold (held n) (λ d. (c : List ℕ) → images d c → IsNodeJournal (header_of K genesis n) (J n) c)
+abbrev pub Stores : {D : Type 0} → Ghosts D → (ℕ → Option D) → Shape → Digest → (ℕ → List Record) → Type 0
+Stores device held K genesis J = (n : ℕ) → n < node_count K → OfTold (held n) (λ d. (c : List ℕ) → device.images d c → IsNodeJournal (header_of K genesis n) (J n) c)
 
 -- of whatever ledger the rack shows whose journals are kept (of whatever mint and submissions), this holds
-abbrev pub OfShown : {D : Type 0} → (D → Option (List ℕ)) → (ℕ → Option D) → (Shape → List Output → List FullTx → (ℕ → List Record) → Type 0) → Type 0
-OfShown content held P = (K : Shape) (mint : List Output) (submissions : List FullTx) (J : ℕ → List Record)
-    → IsWithinLimits K → Shows content held K (genesis_id mint) J → KeptJournals K mint submissions J → P K mint submissions J
+abbrev pub OfShown : {D : Type 0} → Ghosts D → (ℕ → Option D) → (Shape → List Output → List FullTx → (ℕ → List Record) → Type 0) → Type 0
+OfShown device held P = (K : Shape) (mint : List Output) (submissions : List FullTx) (J : ℕ → List Record)
+    → IsWithinLimits K → Shows device held K (genesis_id mint) J → KeptJournals K mint submissions J → P K mint submissions J
 
 -- whatever a crash may leave of a node's disk that is told opens to this journal, with one record more or without
-abbrev pub KeepsEach : {D : Type 0} → (D → List ℕ → Type 0) → (ℕ → Option D) → Shape → (ℕ → List Record) → Type 0
-KeepsEach images held K X = (n : ℕ) → n < node_count K
-    → (flight : Option Record) × OfTold (held n) (λ d. (c : List ℕ) → images d c → OpensToEither (reverse (X n)) flight c)
+abbrev pub KeepsEach : {D : Type 0} → Ghosts D → (ℕ → Option D) → Shape → (ℕ → List Record) → Type 0
+KeepsEach device held K X = (n : ℕ) → n < node_count K
+    → (flight : Option Record) × OfTold (held n) (λ d. (c : List ℕ) → device.images d c → OpensToEither (reverse (X n)) flight c)
 
 -- whatever a crash may leave of a node's disk that is told opens to exactly this journal
-abbrev pub HoldsEach : {D : Type 0} → (D → List ℕ → Type 0) → (ℕ → Option D) → Shape → (ℕ → List Record) → Type 0
-HoldsEach images held K X = (n : ℕ) → n < node_count K → OfTold (held n) (λ d. (c : List ℕ) → images d c → OpensTo (reverse (X n)) c)
+abbrev pub HoldsEach : {D : Type 0} → Ghosts D → (ℕ → Option D) → Shape → (ℕ → List Record) → Type 0
+HoldsEach device held K X = (n : ℕ) → n < node_count K → OfTold (held n) (λ d. (c : List ℕ) → device.images d c → OpensTo (reverse (X n)) c)
 
 -- one image of each node's disk that is told: what a crash may leave of them
-abbrev pub AreLeft : {D : Type 0} → (D → List ℕ → Type 0) → (ℕ → Option D) → Shape → (ℕ → List ℕ) → Type 0
-AreLeft images held K contents = (n : ℕ) → n < node_count K → OfTold (held n) (λ d. images d (contents n))
+abbrev pub AreLeft : {D : Type 0} → Ghosts D → (ℕ → Option D) → Shape → (ℕ → List ℕ) → Type 0
+AreLeft device held K contents = (n : ℕ) → n < node_count K → OfTold (held n) (λ d. device.images d (contents n))
 
 -- those open to these journals
 abbrev pub OpenTo : {D : Type 0} → (ℕ → Option D) → Shape → (ℕ → List ℕ) → (ℕ → List Record) → Type 0
 OpenTo held K contents X = (n : ℕ) → n < node_count K → OfTold (held n) (λ d. OpensTo (reverse (X n)) (contents n))
 
--- a coordinator's disk, and a shard's, has room for its journal and for what is kept for its open batches
-abbrev pub LogHasRoom : {D : Type 0} → (D → ℕ) → LogOf D → Type 0
-LogHasRoom limit l = used_of l.journal + kept_room l.header.shape l.journal ≤ limit l.disk
+-- a node has room for its journal and for what is kept for its open batches
+abbrev pub NodeHasRoom : {D : Type 0} → NodeOf D → Type 0
+NodeHasRoom n = used_of n.journal + kept_room n.header.shape n.journal ≤ n.capacity
 
--- `LogHasRoom`, `ShardHasRoom`: a coordinator's disk, and a shard's, has room for its journal and for what is kept for its open batches
-abbrev pub ShardHasRoom : {D : Type 0} → (D → ℕ) → ShardOf D → Type 0
-ShardHasRoom limit s = used_of s.journal + kept_room s.header.shape s.journal ≤ limit s.disk
+-- a record in flight there had the room that it needs
+abbrev pub NodeFits : {D : Type 0} → NodeOf D → Type 0
+NodeFits n = IfSome n.flight (λ r. used_of n.journal + need_of n.header.shape n.journal r ≤ n.capacity)
 
--- what is in flight there had room
-abbrev pub LogFits : {D : Type 0} → (D → ℕ) → LogOf D → Type 0
-LogFits limit l = IfSome l.flight (λ r. used_of l.journal + need_of l.header.shape l.journal r ≤ limit l.disk)
-
--- `LogFits`, `ShardFits`: a record in flight there had the room that it needs
-abbrev pub ShardFits : {D : Type 0} → (D → ℕ) → ShardOf D → Type 0
-ShardFits limit s = IfSome s.flight (λ r. used_of s.journal + need_of s.header.shape s.journal r ≤ limit s.disk)
-
--- so has each disk that is told, by these journals of its ledger's nodes
-abbrev pub HaveRoom : {D : Type 0} → (D → ℕ) → (ℕ → Option D) → Shape → (ℕ → List Record) → Type 0
-HaveRoom limit held K X = (n : ℕ) → n < node_count K → OfTold (held n) (λ d. used_of (X n) + kept_room K (X n) ≤ limit d)
+-- each disk that is told has room for its node's journal, of these, and for what is kept for its open batches
+abbrev pub HaveRoom : {D : Type 0} → Ghosts D → (ℕ → Option D) → Shape → (ℕ → List Record) → Type 0
+HaveRoom device held K X = (n : ℕ) → n < node_count K → OfTold (held n) (λ d. used_of (X n) + kept_room K (X n) ≤ device.limit d)

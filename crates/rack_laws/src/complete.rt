@@ -8,31 +8,32 @@ ghost use Rattle.rack_ledgers.specs.Caused.{IsUnsound};
 ghost use Rattle.rack_laws.specs.Openings.{NodeOpensLaw};
 ghost use Rattle.rack_laws.specs.Ready.{HasKeptRoom, NoneRises, ShowsKept, limit_at};
 ghost use Rattle.rack_laws.specs.Small.{NewRoomLaw};
-ghost use Rattle.rack_ledgers.specs.Asked.{IsCoordinator, IsShardNode};
+ghost use Rattle.coord_log.specs.Opening.{IsCoord};
+ghost use Rattle.shard_node.specs.Opening.{IsShardHeader};
 ghost use Rattle.rack_ledgers.specs.Ledgers.{IsUnopened, IsUnopenedBy};
 
 use outside::Rack;
 
 /// A disk that holds its node's journal, with the room that it needs, is refused for no reason but that it failed, or that memory ran out.
 pub fn node_opens_law()
-    ensures coordinator { NodeOpensLaw IsCoordinator }
-    ensures shard { NodeOpensLaw IsShardNode }
+    ensures coordinator { NodeOpensLaw IsCoord }
+    ensures shard { NodeOpensLaw IsShardHeader }
 {}
 
 /// The nodes of a kept ledger that a rack showed open, where they have room and no count of theirs rises, unless memory runs out; and each
 /// of its records is caused.
 pub fn ledger_opens_law<R: Rack>(old: &R, new: &R)
     ensures opens { (K : Shape) (mint : List Output) (submissions : List FullTx) (E : ℕ → List Record) (answer : Told)
-        → ShowsKept R.Disk.content (R.held old.now) K mint submissions E → HasKeptRoom K E (λ n. limit_at R.Disk.limit (R.held old.now n))
+        → ShowsKept R.Disk.Disk (R.held old.now) K mint submissions E → HasKeptRoom K E (λ n. limit_at R.Disk.Disk (R.held old.now n))
         → NoneRises K (R.count old.now) (R.count new.now)
-        → IsUnopened R.Disk.content R.Disk.images R.Disk.limit R.Disk.count (R.held old.now) (R.count old.now) (R.count new.now) answer → answer ≡ Memory }
+        → IsUnopened R.Disk.Disk (R.held old.now) (R.count old.now) (R.count new.now) answer → answer ≡ Memory }
     ensures minted { (K : Shape) (mint : List Output) (submissions : List FullTx) (E : ℕ → List Record) (answer : Told)
-        → ShowsKept R.Disk.content (R.held old.now) K mint submissions E → HasKeptRoom K E (λ n. limit_at R.Disk.limit (R.held old.now n))
+        → ShowsKept R.Disk.Disk (R.held old.now) K mint submissions E → HasKeptRoom K E (λ n. limit_at R.Disk.Disk (R.held old.now n))
         → NoneRises K (R.count old.now) (R.count new.now)
-        → IsUnopenedBy R.Disk.content R.Disk.images R.Disk.limit R.Disk.count (R.held old.now) (R.count old.now) (R.count new.now) (Some (genesis_id mint)) answer → answer ≡ Memory }
+        → IsUnopenedBy R.Disk.Disk (R.held old.now) (R.count old.now) (R.count new.now) (Some (genesis_id mint)) answer → answer ≡ Memory }
     ensures caused { (K : Shape) (mint : List Output) (submissions : List FullTx) (E : ℕ → List Record) (answer : Told)
-        → ShowsKept R.Disk.content (R.held old.now) K mint submissions E
-        → IsUnsound R.Disk.content R.Disk.images R.Disk.limit R.Disk.count (R.held old.now) answer → ⊥ }
+        → ShowsKept R.Disk.Disk (R.held old.now) K mint submissions E
+        → IsUnsound R.Disk.Disk (R.held old.now) answer → ⊥ }
 {}
 
 /// A new ledger has room and stamps for small transactions, by so many bytes for each.

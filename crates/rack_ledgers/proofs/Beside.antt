@@ -4,6 +4,7 @@ use Rattle.std.specs.Prelude.{slice_index_or}
 use Rattle.std.specs.List.{All}
 use Rattle.std.proofs.lemmas.List.Elements.{All-nil, All-cons}
 use Rattle.outside.specs.Images.{Tells}
+use Rattle.outside.specs.declared.disk.Disk.{Ghosts}
 use Rattle.cbdc_types.specs.declared.answer.Answer.{Answer}
 use Rattle.cbdc_model.specs.Records.{Header}
 use Rattle.rack_ledgers.specs.Places.{EachFrom, MayReturn, IsOutside}
@@ -48,68 +49,68 @@ count_of (slots.Refused x e ∷ xs) are = absurd are
 count_of (slots.Gone ∷ xs) are = absurd are
 
 -- the disks that were taken wait
-pub all_wait : {D N : Type 0} (count : D → ℕ) (held : ℕ → Option D) (before : ℕ → ℕ) (first : ℕ) (xs : List (Slot D N)) → EachFrom (IsTaken count held before) first xs → All IsWaiting xs
-all_wait count held before first [] taken = All-nil IsWaiting
-all_wait count held before first (slots.Waiting n d ∷ xs) taken = All-cons IsWaiting (slots.Waiting n d) xs tt (all_wait count held before (suc first) xs taken.1)
-all_wait count held before first (slots.Opened x ∷ xs) taken = absurd taken.0
-all_wait count held before first (slots.Refused d e ∷ xs) taken = absurd taken.0
-all_wait count held before first (slots.Gone ∷ xs) taken = absurd taken.0
+pub all_wait : {D N : Type 0} (device : Ghosts D) (held : ℕ → Option D) (before : ℕ → ℕ) (first : ℕ) (xs : List (Slot D N)) → EachFrom (IsTaken device held before) first xs → All IsWaiting xs
+all_wait device held before first [] taken = All-nil IsWaiting
+all_wait device held before first (slots.Waiting n d ∷ xs) taken = All-cons IsWaiting (slots.Waiting n d) xs tt (all_wait device held before (suc first) xs taken.1)
+all_wait device held before first (slots.Opened x ∷ xs) taken = absurd taken.0
+all_wait device held before first (slots.Refused d e ∷ xs) taken = absurd taken.0
+all_wait device held before first (slots.Gone ∷ xs) taken = absurd taken.0
 
-module _ {D N : Type 0} (count : D → ℕ) (disk_of : N → D) where
-  pub faults_of : (s : Slot D N) (d : D) → IsDiskIn disk_of s d → faults_in count disk_of s ≡ count d
-  faults_of (slots.Waiting n x) d is = ap count (sym is)
-  faults_of (slots.Opened x) d is = ap count (sym is)
-  faults_of (slots.Refused x e) d is = ap count (sym is)
+module _ {D N : Type 0} (device : Ghosts D) (disk_of : N → D) where
+  pub faults_of : (s : Slot D N) (d : D) → IsDiskIn disk_of s d → faults_in device disk_of s ≡ device.count d
+  faults_of (slots.Waiting n x) d is = ap device.count (sym is)
+  faults_of (slots.Opened x) d is = ap device.count (sym is)
+  faults_of (slots.Refused x e) d is = ap device.count (sym is)
   faults_of slots.Gone d is = absurd is
 
   -- the disk that is there may be put back, and there is one
-  pub may_put : (can_put : ℕ → ℕ → Type 0) (n : ℕ) (s : Slot D N) (d : D) → IsDiskIn disk_of s d → MayPut count disk_of can_put n s → can_put n (count d)
-  may_put can_put n (slots.Waiting m x) d is may = may (count d) (omega (arith, ap count is))
-  may_put can_put n (slots.Opened x) d is may = may (count d) (omega (arith, ap count is))
-  may_put can_put n (slots.Refused x e) d is may = may (count d) (omega (arith, ap count is))
+  pub may_put : (can_put : ℕ → ℕ → Type 0) (n : ℕ) (s : Slot D N) (d : D) → IsDiskIn disk_of s d → MayPut device disk_of can_put n s → can_put n (device.count d)
+  may_put can_put n (slots.Waiting m x) d is may = may (device.count d) (omega (arith, ap device.count is))
+  may_put can_put n (slots.Opened x) d is may = may (device.count d) (omega (arith, ap device.count is))
+  may_put can_put n (slots.Refused x e) d is may = may (device.count d) (omega (arith, ap device.count is))
   may_put can_put n slots.Gone d is may = absurd is
 
-  pub has_disk : (can_put : ℕ → ℕ → Type 0) (n : ℕ) (s : Slot D N) → MayPut count disk_of can_put n s → HasDisk s
+  pub has_disk : (can_put : ℕ → ℕ → Type 0) (n : ℕ) (s : Slot D N) → MayPut device disk_of can_put n s → HasDisk s
   has_disk can_put n (slots.Waiting m x) may = tt
   has_disk can_put n (slots.Opened x) may = tt
   has_disk can_put n (slots.Refused x e) may = tt
   has_disk can_put n slots.Gone may = may
 
-  pub may_still : (could can : ℕ → ℕ → Type 0) (n : ℕ) (s : Slot D N) → ((k : ℕ) → could n k → can n k) → MayPut count disk_of could n s → MayPut count disk_of can n s
+  pub may_still : (could can : ℕ → ℕ → Type 0) (n : ℕ) (s : Slot D N) → ((k : ℕ) → could n k → can n k) → MayPut device disk_of could n s → MayPut device disk_of can n s
   may_still could can n (slots.Waiting m x) keeps may = λ k le. keeps k (may k le)
   may_still could can n (slots.Opened x) keeps may = λ k le. keeps k (may k le)
   may_still could can n (slots.Refused x e) keeps may = λ k le. keeps k (may k le)
   may_still could can n slots.Gone keeps may = may
 
   -- so may the disks of the nodes
-  pub each_out : (can_put : ℕ → ℕ → Type 0) (first : ℕ) (xs : List (Slot D N)) → AreOpen xs → EachFrom (MayPut count disk_of can_put) first xs → EachFrom (MayReturn (λ y. count (disk_of y)) can_put) first (nodes_in xs)
+  pub each_out : (can_put : ℕ → ℕ → Type 0) (first : ℕ) (xs : List (Slot D N)) → AreOpen xs → EachFrom (MayPut device disk_of can_put) first xs → EachFrom (MayReturn (λ y. device.count (disk_of y)) can_put) first (nodes_in xs)
   each_out can_put first [] are may = tt
   each_out can_put first (slots.Opened x ∷ xs) are may = (may.0, each_out can_put (suc first) xs are may.1)
   each_out can_put first (slots.Waiting m x ∷ xs) are may = absurd are
   each_out can_put first (slots.Refused x e ∷ xs) are may = absurd are
   each_out can_put first (slots.Gone ∷ xs) are may = absurd are
 
-module _ {D N : Type 0} (content : D → Option (List ℕ)) (images : D → List ℕ → Type 0) (limit count : D → ℕ) (disk_of : N → D) (opens : N → List ℕ → Type 0) (fits : ℕ → Option Header → N → Type 0) (refusals : Answer → Type 0) (refused : ℕ → Option Header → ℕ → List ℕ → Answer → Type 0) (h : Header) where
+module _ {D N : Type 0} (device : Ghosts D) (disk_of : N → D) (opens : N → List ℕ → Type 0) (fits : ℕ → Option Header → N → Type 0) (refusals : Answer → Type 0) (refused : ℕ → Option Header → ℕ → List ℕ → Answer → Type 0) (h : Header) where
   abbrev Came : Slot D N → Slot D N → Type 0
-  Came = CameOf content images limit count disk_of opens fits refusals refused h
+  Came = CameOf device disk_of opens fits refusals refused h
 
   abbrev Opens : (ℕ → Option D) → (ℕ → ℕ) → ℕ → N → Type 0
-  Opens = OpensAt content images limit count disk_of opens fits refusals refused h
+  Opens = OpensAt device disk_of opens fits refusals refused h
 
   abbrev Fails : (ℕ → Option D) → (ℕ → ℕ) → (ℕ → ℕ) → ℕ → Answer → Type 0
-  Fails = FailsAt content images limit count disk_of opens fits refusals refused h
+  Fails = FailsAt device disk_of opens fits refusals refused h
 
   abbrev At : (ℕ → Option D) → (ℕ → ℕ) → ℕ → Slot D N → Type 0
-  At = CameAt content images limit count disk_of opens fits refusals refused h
+  At = CameAt device disk_of opens fits refusals refused h
 
   -- of a disk that was taken
-  pub came_at : (held : ℕ → Option D) (before : ℕ → ℕ) (n : ℕ) (s t : Slot D N) → Came s t → IsTaken count held before n s → At held before n t
+  pub came_at : (held : ℕ → Option D) (before : ℕ → ℕ) (n : ℕ) (s t : Slot D N) → Came s t → IsTaken device held before n s → At held before n t
   came_at held before n (slots.Waiting m d) t came taken = record { disk = d; taken = taken.1; came = subst (λ (k : ℕ). Came (slots.Waiting k d) t) taken.0 came }
   came_at held before n (slots.Opened x) t came taken = absurd taken
   came_at held before n (slots.Refused d e) t came taken = absurd taken
   came_at held before n slots.Gone t came taken = absurd taken
 
-  pub came_put : (can_put : ℕ → ℕ → Type 0) (n : ℕ) (s t : Slot D N) → Came s t → MayPut count disk_of can_put n s → MayPut count disk_of can_put n t
+  pub came_put : (can_put : ℕ → ℕ → Type 0) (n : ℕ) (s t : Slot D N) → Came s t → MayPut device disk_of can_put n s → MayPut device disk_of can_put n t
   came_put can_put n (slots.Waiting m d) (slots.Opened x) came may = λ k le. may k (le_trans came.since le)
   came_put can_put n (slots.Waiting m d) (slots.Refused x e) came may = λ k le. may k (le_trans came.later le)
   came_put can_put n (slots.Waiting m d) (slots.Waiting k x) came may = absurd came
@@ -119,31 +120,31 @@ module _ {D N : Type 0} (content : D → Option (List ℕ)) (images : D → List
   came_put can_put n slots.Gone t came may = absurd came
 
   -- a node that was opened, and one that was refused
-  opens_at : (held : ℕ → Option D) (before : ℕ → ℕ) (n : ℕ) (x : N) (d : D) → IsTakenDisk count held before n d → IsOpenOn content images limit count disk_of opens fits refusals refused h n d x → Opens held before n x
+  opens_at : (held : ℕ → Option D) (before : ℕ → ℕ) (n : ℕ) (x : N) (d : D) → IsTakenDisk device held before n d → IsOpenOn device disk_of opens fits refusals refused h n d x → Opens held before n x
   opens_at held before n x d taken is =
-      ((is.asked, le_trans taken.counted is.since), λ was told. subst (λ (y : D). IsOpened content images limit disk_of opens y x) (taken.told was told) is.opened)
+      ((is.asked, le_trans taken.counted is.since), λ was told. subst (λ (y : D). IsOpened device disk_of opens y x) (taken.told was told) is.opened)
 
-  fails_at : (held : ℕ → Option D) (before now : ℕ → ℕ) (n : ℕ) (e : Answer) (was is : D) → IsTakenDisk count held before n was → IsRefusedOn content images limit count disk_of opens fits refusals refused h n was is e → count is ≤ now n → Fails held before now n e
+  fails_at : (held : ℕ → Option D) (before now : ℕ → ℕ) (n : ℕ) (e : Answer) (was is : D) → IsTakenDisk device held before n was → IsRefusedOn device disk_of opens fits refusals refused h n was is e → device.count is ≤ now n → Fails held before now n e
   fails_at held before now n e was is taken why le = (
-    (why.kind, opening_later n (before n) (count was) (count is) (now n) e taken.counted le why.fault),
-    λ d told. subst (λ (y : D). Tells (content y) (λ c. refused n (Some h) (limit y) c e)) (taken.told d told) why.cause,
+    (why.kind, opening_later n (before n) (device.count was) (device.count is) (now n) e taken.counted le why.fault),
+    λ d told. subst (λ (y : D). Tells (device.content y) (λ c. refused n (Some h) (device.limit y) c e)) (taken.told d told) why.cause,
   )
 
   -- its disk is back
-  back_at : (held new : ℕ → Option D) (before now : ℕ → ℕ) (n : ℕ) (s : Slot D N) → At held before n s → OfTold (new n) (IsDiskIn disk_of s) × (faults_in count disk_of s ≤ now n)
-      → IsBack content images limit (before n) (now n) (held n) (new n)
-  back_at held new before now n (slots.Opened x) at put = back_opened content images limit (before n) (now n) disk_of opens (held n) (new n) x (opens_at held before n x at.disk at.taken at.came).1 put.0
+  back_at : (held new : ℕ → Option D) (before now : ℕ → ℕ) (n : ℕ) (s : Slot D N) → At held before n s → OfTold (new n) (IsDiskIn disk_of s) × (faults_in device disk_of s ≤ now n)
+      → IsBack device (before n) (now n) (held n) (new n)
+  back_at held new before now n (slots.Opened x) at put = back_opened device (before n) (now n) disk_of opens (held n) (new n) x (opens_at held before n x at.disk at.taken at.came).1 put.0
   back_at held new before now n (slots.Refused is e) at put = λ was told d is_now.
-      let whole : IsReturned content images limit (before n) (now n) at.disk is = record { read = at.came.back.read; same = λ none. at.came.back.same (rose_not at.taken.counted put.1 none) } in
-      subst (λ (y : D). IsReturned content images limit (before n) (now n) y d) (at.taken.told was told) (subst (λ (y : D). IsReturned content images limit (before n) (now n) at.disk y) (sym (put.0 d is_now)) whole)
+      let whole : IsReturned device (before n) (now n) at.disk is = record { read = at.came.back.read; same = λ none. at.came.back.same (rose_not at.taken.counted put.1 none) } in
+      subst (λ (y : D). IsReturned device (before n) (now n) y d) (at.taken.told was told) (subst (λ (y : D). IsReturned device (before n) (now n) at.disk y) (sym (put.0 d is_now)) whole)
   back_at held new before now n (slots.Waiting m d) at put = absurd at.came
   back_at held new before now n slots.Gone at put = absurd at.came
 
-  pub each_back : (held new : ℕ → Option D) (before now : ℕ → ℕ) (first : ℕ) (xs : List (Slot D N)) → EachFrom (At held before) first xs → EachFrom (λ n s. OfTold (new n) (IsDiskIn disk_of s)) first xs → EachFrom (λ n s. faults_in count disk_of s ≤ now n) first xs
-      → (n : ℕ) → first ≤ n → n < first + length xs → IsBack content images limit (before n) (now n) (held n) (new n)
+  pub each_back : (held new : ℕ → Option D) (before now : ℕ → ℕ) (first : ℕ) (xs : List (Slot D N)) → EachFrom (At held before) first xs → EachFrom (λ n s. OfTold (new n) (IsDiskIn disk_of s)) first xs → EachFrom (λ n s. faults_in device disk_of s ≤ now n) first xs
+      → (n : ℕ) → first ≤ n → n < first + length xs → IsBack device (before n) (now n) (held n) (new n)
   each_back held new before now first xs came put counted =
-      each_two (At held before) (λ n s. OfTold (new n) (IsDiskIn disk_of s) × (faults_in count disk_of s ≤ now n)) (λ n. IsBack content images limit (before n) (now n) (held n) (new n)) first xs
-      (λ n s at is. back_at held new before now n s at is) came (each_both (λ n s. OfTold (new n) (IsDiskIn disk_of s)) (λ n s. faults_in count disk_of s ≤ now n) first xs put counted)
+      each_two (At held before) (λ n s. OfTold (new n) (IsDiskIn disk_of s) × (faults_in device disk_of s ≤ now n)) (λ n. IsBack device (before n) (now n) (held n) (new n)) first xs
+      (λ n s at is. back_at held new before now n s at is) came (each_both (λ n s. OfTold (new n) (IsDiskIn disk_of s)) (λ n s. faults_in device disk_of s ≤ now n) first xs put counted)
 
   -- none was refused: all are open
   pub are_open : (held : ℕ → Option D) (before : ℕ → ℕ) (first : ℕ) (xs : List (Slot D N)) → EachFrom (At held before) first xs → AreNotRefused xs → AreOpen xs
@@ -161,7 +162,7 @@ module _ {D N : Type 0} (content : D → Option (List ℕ)) (images : D → List
   each_open held before first (slots.Gone ∷ xs) came are = absurd are
 
   -- the first that was refused
-  pub refused_first : (held : ℕ → Option D) (before now : ℕ → ℕ) (first end : ℕ) (xs : List (Slot D N)) (e : Answer) → first + length xs ≤ end → EachFrom (At held before) first xs → EachFrom (λ n s. faults_in count disk_of s ≤ now n) first xs
+  pub refused_first : (held : ℕ → Option D) (before now : ℕ → ℕ) (first end : ℕ) (xs : List (Slot D N)) (e : Answer) → first + length xs ≤ end → EachFrom (At held before) first xs → EachFrom (λ n s. faults_in device disk_of s ≤ now n) first xs
       → IsFirstRefusal xs e → FailsFirst (Opens held before) (Fails held before now) first end e
   refused_first held before now first end [] e inside came counted is = absurd is
   refused_first held before now first end (slots.Opened x ∷ xs) e inside came counted is =

@@ -2,6 +2,7 @@
 use Rattle.std.proofs.Common.{◌≡◌, ◌<◌, ◌+◌, ◌++◌, ◌∷◌, [], ℕ, List, reverse, Option, inl, inr, sym, ◌∙◌, ap, append_assoc, subst, arith}
 use Rattle.std.proofs.lemmas.Bool.{cases_lt}
 use Rattle.std.proofs.lemmas.List.{reverse-append}
+use Rattle.outside.specs.declared.disk.Disk.{Ghosts}
 use Rattle.cbdc_types.specs.declared.answer.Answer.{Answer}
 use Rattle.cbdc_model.specs.Records.{Digest, Shape, Row, journal}
 use Rattle.cbdc_model.specs.History.{header_of}
@@ -12,8 +13,8 @@ use Rattle.rack_ledgers.specs.Caused.{IsToldHistory, IsCausedLedger, IsUnsound}
 use Rattle.rack_ledgers.specs.RefusalLaws.{AllTell}
 use Rattle.rack_ledgers.proofs.CausedTold.{told_history}
 
-module _ {D : Type 0} (content : D → Option (List ℕ)) (held : ℕ → Option D) (K L : Shape) (g k : Digest) (rows more : List Row)
-    (one : IsToldHistory content held K g rows) (other : IsToldHistory content held L k more) (tell : AllTell content held K) where
+module _ {D : Type 0} (device : Ghosts D) (held : ℕ → Option D) (K L : Shape) (g k : Digest) (rows more : List Row)
+    (one : IsToldHistory device held K g rows) (other : IsToldHistory device held L k more) (tell : AllTell device held K) where
   same_at : (n : ℕ) → n < K.coordinators + K.shards → n < L.coordinators + L.shards → (header_of K g n ≡ header_of L k n) × (journal n (reverse rows) ≡ journal n (reverse more))
   same_at n low low' =
       let t = tell n low in
@@ -47,10 +48,10 @@ none_uncaused K rows place all first =
     ∙ append_assoc (reverse first.after) (first.row ∷ []) (reverse first.before) in
     first.uncaused (caused_behind K (reverse first.after) (first.row ∷ reverse first.before) (subst (AllCaused K) turned all)).0
 
-pub not_both : {D : Type 0} (content : D → Option (List ℕ)) (images : D → List ℕ → Type 0) (limit count : D → ℕ) (held : ℕ → Option D) (caused : IsCausedLedger content held) (a : Answer)
-    → AllTell content held caused.shape → IsUnsound content images limit count held a → ⊥
-not_both content images limit count held caused a tell un =
-    let theirs = told_history content images limit count held un.header un.logs un.shards un.opened un.uncaused.rows un.uncaused.merged in
-    let shape = same_shape content held caused.shape un.header.shape caused.genesis un.header.genesis caused.rows un.uncaused.rows caused.history theirs tell in
-    let rows = same_rows content held caused.shape un.header.shape caused.genesis un.header.genesis caused.rows un.uncaused.rows caused.history theirs tell in
+pub not_both : {D : Type 0} (device : Ghosts D) (held : ℕ → Option D) (caused : IsCausedLedger device held) (a : Answer)
+    → AllTell device held caused.shape → IsUnsound device held a → ⊥
+not_both device held caused a tell un =
+    let theirs = told_history device held un.header un.logs un.shards un.opened un.uncaused.rows un.uncaused.merged in
+    let shape = same_shape device held caused.shape un.header.shape caused.genesis un.header.genesis caused.rows un.uncaused.rows caused.history theirs tell in
+    let rows = same_rows device held caused.shape un.header.shape caused.genesis un.header.genesis caused.rows un.uncaused.rows caused.history theirs tell in
     none_uncaused un.header.shape un.uncaused.rows un.place (subst (λ (K : Shape). AllCaused K (reverse un.uncaused.rows)) shape (subst (AllCaused caused.shape) rows caused.caused)) un.uncaused.first

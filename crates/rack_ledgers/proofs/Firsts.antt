@@ -5,16 +5,17 @@ use Rattle.gate_journal.specs.Formatting.{IsEmptied}
 use Rattle.gate_journal.specs.Stands.{StandsFor}
 use Rattle.outside.specs.Images.{Leaves}
 use Rattle.outside.proofs.Moments.{goes_further, weakened}
+use Rattle.outside.specs.declared.disk.Disk.{Ghosts}
 use Rattle.rack_ledgers.specs.First.{IsStored}
 
-module _ {D : Type 0} (tells : D → Bool) (moment : D → ℕ) (since : D → ℕ → List ℕ → Type 0) (content : D → Option (List ℕ)) (images : D → List ℕ → Type 0) where
+module _ {D : Type 0} (tells : D → Bool) (moment : D → ℕ) (since : D → ℕ → List ℕ → Type 0) (device : Ghosts D) where
   -- an append behind a call that changes nothing of the disk
   pub appended : (old mid new : D) (gate : ℕ) (body : List ℕ) → mid ≡ old → gate ≡ 0
-      → (StandsFor (content mid) (images mid) gate [] → Leaves tells moment since images mid new (OpensWithOrWithout [] body))
-      → StandsFor (content old) (images old) 0 [] → Leaves tells moment since images old new (OpensWithOrWithout [] body)
+      → (StandsFor (device.content mid) (device.images mid) gate [] → Leaves tells moment since device.images mid new (OpensWithOrWithout [] body))
+      → StandsFor (device.content old) (device.images old) 0 [] → Leaves tells moment since device.images old new (OpensWithOrWithout [] body)
   appended old mid new gate body same at leaves stands =
-      let here : StandsFor (content old) (images old) gate [] = subst (λ (n : ℕ). StandsFor (content old) (images old) n []) (sym at) stands in
-      subst (λ (d : D). Leaves tells moment since images d new (OpensWithOrWithout [] body)) same (leaves (subst (λ (d : D). StandsFor (content d) (images d) gate []) (sym same) here))
+      let here : StandsFor (device.content old) (device.images old) gate [] = subst (λ (n : ℕ). StandsFor (device.content old) (device.images old) n []) (sym at) stands in
+      subst (λ (d : D). Leaves tells moment since device.images d new (OpensWithOrWithout [] body)) same (leaves (subst (λ (d : D). StandsFor (device.content d) (device.images d) gate []) (sym same) here))
 
 -- a journal of no body has no first row
 none_stored : (before : List ℕ → Type 0) (body bytes : List ℕ) → OpensWithOrWithout [] body bytes → IsStored before body bytes
@@ -24,8 +25,8 @@ none_stored before body bytes opens = ⊎_elim
     opens
 
 -- a body behind a disk that was made ready for it
-pub formatted : {D : Type 0} (tells : D → Bool) (moment : D → ℕ) (since : D → ℕ → List ℕ → Type 0) (images : D → List ℕ → Type 0) (old mid new : D) (body : List ℕ) → Leaves tells moment since images old mid (IsEmptied (images old))
-    → Leaves tells moment since images mid new (OpensWithOrWithout [] body) → Leaves tells moment since images old new (IsStored (images old) body)
-formatted tells moment since images old mid new body first second =
-    goes_further tells moment since images old mid new (IsEmptied (images old)) (IsStored (images old) body) first
-    (weakened tells moment since images mid new (OpensWithOrWithout [] body) (IsStored (images old) body) second (λ c is. none_stored (images old) body c is)) (λ c is. inl is)
+pub formatted : {D : Type 0} (tells : D → Bool) (moment : D → ℕ) (since : D → ℕ → List ℕ → Type 0) (device : Ghosts D) (old mid new : D) (body : List ℕ) → Leaves tells moment since device.images old mid (IsEmptied (device.images old))
+    → Leaves tells moment since device.images mid new (OpensWithOrWithout [] body) → Leaves tells moment since device.images old new (IsStored (device.images old) body)
+formatted tells moment since device old mid new body first second =
+    goes_further tells moment since device.images old mid new (IsEmptied (device.images old)) (IsStored (device.images old) body) first
+    (weakened tells moment since device.images mid new (OpensWithOrWithout [] body) (IsStored (device.images old) body) second (λ c is. none_stored (device.images old) body c is)) (λ c is. inl is)

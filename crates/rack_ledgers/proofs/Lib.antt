@@ -12,6 +12,8 @@ pub mod Blanks
 pub mod Refusals
 pub mod Places
 pub mod Opened
+pub mod EachNode
+pub mod OwnJournals
 pub mod LedgerBacks
 pub mod Lacks
 pub mod Beside

@@ -1,60 +1,24 @@
 -- A node's disk is refused in one way at most.
-use Rattle.std.proofs.Common.{◌≡◌, ◌+◌, ◌<◌, ℕ, List, [], ◌∷◌, ◌++◌, length, reverse, refl, sym, ap, ap₂, ◌∙◌, subst, arith}
+use Rattle.std.proofs.Common.{◌≡◌, ℕ, List, [], ◌∷◌, ◌++◌, length, reverse, refl, sym, ap, ap₂, ◌∙◌, subst, arith}
 use Rattle.cbdc_types.specs.Limits.{IsWithinLimits}
-use Rattle.cbdc_types.specs.declared.calls.NodeOpenFault.{NodeOpenFault}
 use Rattle.cbdc_types.specs.declared.calls.NodeOpenFault.TheVariants.{DiskFault, NotReady, OtherKind, Damaged, Full, Memory}
 use Rattle.cbdc_model.specs.Records.{Header, Record, Genesis, Lock, Finish, Forget, Start, Prepare, Commit, Discard, Done}
-use Rattle.cbdc_model.specs.Grammar.{IsInGrammar, IsShard}
-use Rattle.cbdc_model.specs.After.{After, IsJournal}
+use Rattle.cbdc_model.specs.Grammar.{IsInGrammar}
 use Rattle.cbdc_model.specs.Room.{kept_room}
 use Rattle.cbdc_model.specs.Due.{used_of}
 use Rattle.record_log.specs.Bodies.{body_of}
 use Rattle.record_log.specs.Exact.{IsFirst as BeginsJournal}
 use Rattle.gate_journal.specs.Rows.{filling, row, rows}
 use Rattle.gate_journal.proofs.Once.{tail_is, row_once}
-use Rattle.record_log.specs.Held.{bodies_of, OpensTo, CutsOff, HasRow, HasNoRecord}
+use Rattle.record_log.specs.Held.{bodies_of, HasRow}
 use Rattle.record_log.proofs.LogSizes.{body_small, first_small}
-use Rattle.shard_node.specs.Opening.{IsStart, IsShardJournal, IsNoShard}
-use Rattle.coord_log.specs.Opening.{IsCoord, IsGenesis, IsCoordJournal, IsNoCoord}
+use Rattle.node_journal.specs.Opening.{IsJournalOf, IsDamagedAt, IsNoNodeOf}
+use Rattle.shard_node.specs.Opening.{IsShardHeader, IsStart}
+use Rattle.coord_log.specs.Opening.{IsCoord, IsGenesis}
 use Rattle.rack_ledgers.proofs.Once.{same_record}
+use Rattle.rack_ledgers.proofs.Refusals.{start_first, genesis_first}
 use Rattle.rack_ledgers.proofs.Fronts.{Begins, Fronts, split, journal_begins, one_journal, has_first, whole_fronts, damaged_fronts, whole_or_cut}
 use Rattle.rack_ledgers.specs.Refusals.{OneRefusal, NoRefusal, OneRefusalLaw, NoRefusalLaw}
-
--- ---- nodes of a kind, by their headers
-
--- the bytes open to this journal of such a node
-record IsNodeJournal (Mine : Header → Type 0) (h : Header) (J : List Record) (bytes : List ℕ) : Type 0 where
-  opens : OpensTo (reverse J) bytes
-  limits : IsWithinLimits h.shape
-  journal : IsJournal h J
-  mine : Mine h
-
--- behind a journal of such a node stands an open gate at this place, and no whole row of a next record
-record IsDamagedAt (Mine : Header → Type 0) (at : ℕ) (bytes : List ℕ) : Type 0 where
-  header : Header
-  journal : List Record
-  limits : IsWithinLimits header.shape
-  is : IsJournal header journal
-  mine : Mine header
-  cut : CutsOff (After header journal) (reverse journal) at bytes
-
--- the bytes open to a journal of such a node, and its bytes with those that are kept for its batches pass the capacity
-record IsTooFull (Mine : Header → Type 0) (used need capacity : ℕ) (bytes : List ℕ) : Type 0 where
-  header : Header
-  journal : List Record
-  is : IsNodeJournal Mine header journal bytes
-  used_is : used ≡ used_of journal
-  need_is : need ≡ kept_room header.shape journal
-  passes : capacity < used + need
-
--- why a disk with these bytes and so much room is no such node, where the first records of the other kind are these
-abbrev IsNoNode : (Header → Type 0) → (Record → Type 0) → ℕ → List ℕ → NodeOpenFault → Type 0
-IsNoNode Mine Other limit bytes DiskFault = Unit {0}
-IsNoNode Mine Other limit bytes NotReady = HasNoRecord bytes
-IsNoNode Mine Other limit bytes OtherKind = HasRow Other bytes
-IsNoNode Mine Other limit bytes (Damaged at) = IsDamagedAt Mine at bytes
-IsNoNode Mine Other limit bytes (Full used need capacity) = (capacity ≡ limit) × IsTooFull Mine used need capacity bytes
-IsNoNode Mine Other limit bytes Memory = Unit {0}
 
 same_full : (used used' need need' capacity capacity' : ℕ) → used ≡ used' → need ≡ need' → capacity ≡ capacity' → Full used need capacity ≡ Full used' need' capacity'
 same_full used used' need need' capacity capacity' one two three = cc
@@ -78,13 +42,13 @@ module _ (Mine : Header → Type 0) (Other : Record → Type 0) (other_first : (
 
   -- ---- the refusals
 
-  shut_fronts : (h : Header) (J : List Record) (bytes : List ℕ) → (is : IsNodeJournal Mine h J bytes) → Fronts h J is.opens.rest bytes
+  shut_fronts : (h : Header) (J : List Record) (bytes : List ℕ) → (is : IsJournalOf Mine h J bytes) → Fronts h J is.opens.rest bytes
   shut_fronts h J bytes is = whole_fronts h J bytes is.limits is.journal is.opens
 
   cut_fronts : (at : ℕ) (bytes : List ℕ) → (is : IsDamagedAt Mine at bytes) → Fronts is.header is.journal is.cut.rest bytes
   cut_fronts at bytes is = damaged_fronts is.header is.journal at bytes is.limits is.is is.cut
 
-  never_both : (h : Header) (J : List Record) (at : ℕ) (bytes : List ℕ) → IsNodeJournal Mine h J bytes → IsDamagedAt Mine at bytes → ⊥
+  never_both : (h : Header) (J : List Record) (at : ℕ) (bytes : List ℕ) → IsJournalOf Mine h J bytes → IsDamagedAt Mine at bytes → ⊥
   never_both h J at bytes whole cut = whole_or_cut h cut.header J cut.journal at bytes whole.limits whole.journal whole.opens cut.limits cut.is cut.cut
 
   one_place : (at other : ℕ) (bytes : List ℕ) → IsDamagedAt Mine at bytes → IsDamagedAt Mine other bytes → at ≡ other
@@ -92,7 +56,7 @@ module _ (Mine : Header → Type 0) (Other : Record → Type 0) (other_first : (
       let both = one_journal one.header two.header one.journal two.journal one.cut.rest two.cut.rest bytes (cut_fronts at bytes one) (cut_fronts other bytes two) in
       one.cut.place ∙ ap (λ (l : List Record). length (rows (bodies_of (reverse l)))) both.1.0 ∙ sym two.cut.place
 
-  one_full : (limit used used' need need' capacity capacity' : ℕ) (bytes : List ℕ) → IsNoNode Mine Other limit bytes (Full used need capacity) → IsNoNode Mine Other limit bytes (Full used' need' capacity') → Full used need capacity ≡ Full used' need' capacity'
+  one_full : (limit used used' need need' capacity capacity' : ℕ) (bytes : List ℕ) → IsNoNodeOf Mine Other limit bytes (Full used need capacity) → IsNoNodeOf Mine Other limit bytes (Full used' need' capacity') → Full used need capacity ≡ Full used' need' capacity'
   one_full limit used used' need need' capacity capacity' bytes one two =
       let first = one.1 in
       let second = two.1 in
@@ -100,7 +64,7 @@ module _ (Mine : Header → Type 0) (Other : Record → Type 0) (other_first : (
       same_full used used' need need' capacity capacity' (first.used_is ∙ ap used_of both.1.0 ∙ sym second.used_is)
       (first.need_is ∙ ap₂ (λ (h : Header) (l : List Record). kept_room h.shape l) both.0 both.1.0 ∙ sym second.need_is) (one.0 ∙ sym two.0)
 
-  one_refusal : OneRefusal (IsNoNode Mine Other)
+  one_refusal : OneRefusal (IsNoNodeOf Mine Other)
   one_refusal limit bytes DiskFault f told told' one two = absurd told
   one_refusal limit bytes Memory f told told' one two = absurd told
   one_refusal limit bytes NotReady DiskFault told told' one two = absurd told'
@@ -113,50 +77,36 @@ module _ (Mine : Header → Type 0) (Other : Record → Type 0) (other_first : (
   one_refusal limit bytes OtherKind Memory told told' one two = absurd told'
   one_refusal limit bytes OtherKind NotReady told told' one two = absurd (two (other_begins bytes one))
   one_refusal limit bytes OtherKind OtherKind told told' one two = refl
-  one_refusal limit bytes OtherKind (Damaged at) told told' one two = absurd (not_other two.header two.journal two.cut.rest bytes two.mine (cut_fronts at bytes two) one)
-  one_refusal limit bytes OtherKind (Full used need capacity) told told' one two = absurd (not_other two.1.header two.1.journal two.1.is.opens.rest bytes two.1.is.mine (shut_fronts two.1.header two.1.journal bytes two.1.is) one)
+  one_refusal limit bytes OtherKind (Damaged at) told told' one two = absurd (not_other two.header two.journal two.cut.rest bytes two.kind (cut_fronts at bytes two) one)
+  one_refusal limit bytes OtherKind (Full used need capacity) told told' one two = absurd (not_other two.1.header two.1.journal two.1.is.opens.rest bytes two.1.is.kind (shut_fronts two.1.header two.1.journal bytes two.1.is) one)
   one_refusal limit bytes (Damaged at) DiskFault told told' one two = absurd told'
   one_refusal limit bytes (Damaged at) Memory told told' one two = absurd told'
   one_refusal limit bytes (Damaged at) NotReady told told' one two = absurd (two (has_first one.header one.journal one.cut.rest bytes (cut_fronts at bytes one)))
-  one_refusal limit bytes (Damaged at) OtherKind told told' one two = absurd (not_other one.header one.journal one.cut.rest bytes one.mine (cut_fronts at bytes one) two)
+  one_refusal limit bytes (Damaged at) OtherKind told told' one two = absurd (not_other one.header one.journal one.cut.rest bytes one.kind (cut_fronts at bytes one) two)
   one_refusal limit bytes (Damaged at) (Damaged other) told told' one two = ap (λ (n : ℕ). Damaged n) (one_place at other bytes one two)
   one_refusal limit bytes (Damaged at) (Full used need capacity) told told' one two = absurd (never_both two.1.header two.1.journal at bytes two.1.is one)
   one_refusal limit bytes (Full used need capacity) DiskFault told told' one two = absurd told'
   one_refusal limit bytes (Full used need capacity) Memory told told' one two = absurd told'
   one_refusal limit bytes (Full used need capacity) NotReady told told' one two = absurd (two (has_first one.1.header one.1.journal one.1.is.opens.rest bytes (shut_fronts one.1.header one.1.journal bytes one.1.is)))
-  one_refusal limit bytes (Full used need capacity) OtherKind told told' one two = absurd (not_other one.1.header one.1.journal one.1.is.opens.rest bytes one.1.is.mine (shut_fronts one.1.header one.1.journal bytes one.1.is) two)
+  one_refusal limit bytes (Full used need capacity) OtherKind told told' one two = absurd (not_other one.1.header one.1.journal one.1.is.opens.rest bytes one.1.is.kind (shut_fronts one.1.header one.1.journal bytes one.1.is) two)
   one_refusal limit bytes (Full used need capacity) (Damaged at) told told' one two = absurd (never_both one.1.header one.1.journal at bytes one.1.is two)
   one_refusal limit bytes (Full used need capacity) (Full used' need' capacity') told told' one two = one_full limit used used' need need' capacity capacity' bytes one two
 
-  no_refusal : NoRefusal (IsNodeJournal Mine) (IsNoNode Mine Other)
+  no_refusal : NoRefusal (IsJournalOf Mine) (IsNoNodeOf Mine Other)
   no_refusal h J limit bytes DiskFault told is room refused = told
   no_refusal h J limit bytes Memory told is room refused = told
   no_refusal h J limit bytes NotReady told is room refused = refused (has_first h J is.opens.rest bytes (shut_fronts h J bytes is))
-  no_refusal h J limit bytes OtherKind told is room refused = not_other h J is.opens.rest bytes is.mine (shut_fronts h J bytes is) refused
+  no_refusal h J limit bytes OtherKind told is room refused = not_other h J is.opens.rest bytes is.kind (shut_fronts h J bytes is) refused
   no_refusal h J limit bytes (Damaged at) told is room refused = never_both h J at bytes is refused
   no_refusal h J limit bytes (Full used need capacity) told is room refused =
       let full = refused.1 in
       let both = one_journal h full.header J full.journal is.opens.rest full.is.opens.rest bytes (shut_fronts h J bytes is) (shut_fronts full.header full.journal bytes full.is) in
       absurd (omega (arith, room, full.passes, refused.0, full.used_is, full.need_is, ap used_of both.1.0, ap₂ (λ (g : Header) (l : List Record). kept_room g.shape l) both.0 both.1.0))
 
--- ---- shards
-
-abbrev IsOfShard : Header → Type 0
-IsOfShard h = IsShard h.shape h.node
-
-start_first : (r : Record) → IsStart r → BeginsJournal r
-start_first (Start header) is = is
-start_first (Genesis header hs) is = absurd is
-start_first (Lock stamp b es) is = absurd is
-start_first (Finish stamp b ds) is = absurd is
-start_first (Forget stamp b) is = absurd is
-start_first (Prepare stamp b txs) is = absurd is
-start_first (Commit stamp b os) is = absurd is
-start_first (Discard stamp b) is = absurd is
-start_first (Done stamp b) is = absurd is
+-- ---- shards and coordinators
 
 -- a coordinator's first record is none of a shard's journal
-no_start : (h : Header) (q x : Record) → IsWithinLimits h.shape → IsOfShard h → IsStart q → IsInGrammar h x → body_of q ≡ body_of x → ⊥
+no_start : (h : Header) (q x : Record) → IsWithinLimits h.shape → IsShardHeader h → IsStart q → IsInGrammar h x → body_of q ≡ body_of x → ⊥
 no_start h (Start header) x limits shard is grammar same =
     let one : Start header ≡ x = same_record header h (Start header) x is.0 limits is.1 grammar same in
     let here : IsInGrammar h (Start header) = subst (IsInGrammar h) (sym one) grammar in
@@ -169,32 +119,6 @@ no_start h (Prepare stamp b txs) x limits shard is grammar same = absurd is
 no_start h (Commit stamp b os) x limits shard is grammar same = absurd is
 no_start h (Discard stamp b) x limits shard is grammar same = absurd is
 no_start h (Done stamp b) x limits shard is grammar same = absurd is
-
-of_shard : (h : Header) (J : List Record) (bytes : List ℕ) → IsShardJournal h J bytes → IsNodeJournal IsOfShard h J bytes
-of_shard h J bytes is = record { opens = is.opens; limits = is.limits; journal = is.journal; mine = is.shard }
-
-no_shard : (limit : ℕ) (bytes : List ℕ) (e : NodeOpenFault) → IsNoShard limit bytes e → IsNoNode IsOfShard IsStart limit bytes e
-no_shard limit bytes DiskFault refused = refused
-no_shard limit bytes NotReady refused = refused
-no_shard limit bytes OtherKind refused = refused
-no_shard limit bytes (Damaged at) refused = record { header = refused.header; journal = refused.journal; limits = refused.limits; is = refused.is; mine = refused.shard; cut = refused.cut }
-no_shard limit bytes (Full used need capacity) refused =
-    let full = refused.1 in
-    (refused.0, record { header = full.header; journal = full.journal; is = of_shard full.header full.journal bytes full.is; used_is = full.used_is; need_is = full.need_is; passes = full.passes })
-no_shard limit bytes Memory refused = refused
-
--- ---- coordinators
-
-genesis_first : (r : Record) → IsGenesis r → BeginsJournal r
-genesis_first (Genesis header hs) is = is
-genesis_first (Start header) is = absurd is
-genesis_first (Lock stamp b es) is = absurd is
-genesis_first (Finish stamp b ds) is = absurd is
-genesis_first (Forget stamp b) is = absurd is
-genesis_first (Prepare stamp b txs) is = absurd is
-genesis_first (Commit stamp b os) is = absurd is
-genesis_first (Discard stamp b) is = absurd is
-genesis_first (Done stamp b) is = absurd is
 
 -- a shard's first record is none of a coordinator's journal
 no_genesis : (h : Header) (q x : Record) → IsWithinLimits h.shape → IsCoord h → IsGenesis q → IsInGrammar h x → body_of q ≡ body_of x → ⊥
@@ -211,29 +135,10 @@ no_genesis h (Commit stamp b os) x limits coordinator is grammar same = absurd i
 no_genesis h (Discard stamp b) x limits coordinator is grammar same = absurd is
 no_genesis h (Done stamp b) x limits coordinator is grammar same = absurd is
 
-of_coordinator : (h : Header) (J : List Record) (bytes : List ℕ) → IsCoordJournal h J bytes → IsNodeJournal IsCoord h J bytes
-of_coordinator h J bytes is = record { opens = is.opens; limits = is.limits; journal = is.journal; mine = is.coordinator }
-
-no_coordinator : (limit : ℕ) (bytes : List ℕ) (e : NodeOpenFault) → IsNoCoord limit bytes e → IsNoNode IsCoord IsGenesis limit bytes e
-no_coordinator limit bytes DiskFault refused = refused
-no_coordinator limit bytes NotReady refused = refused
-no_coordinator limit bytes OtherKind refused = refused
-no_coordinator limit bytes (Damaged at) refused = record { header = refused.header; journal = refused.journal; limits = refused.limits; is = refused.is; mine = refused.coordinator; cut = refused.cut }
-no_coordinator limit bytes (Full used need capacity) refused =
-    let full = refused.1 in
-    (refused.0, record { header = full.header; journal = full.journal; is = of_coordinator full.header full.journal bytes full.is; used_is = full.used_is; need_is = full.need_is; passes = full.passes })
-no_coordinator limit bytes Memory refused = refused
-
 -- ---- the laws
 
 pub one_refusal_law : OneRefusalLaw
-one_refusal_law = (
-  λ limit bytes e f told told' one two. one_refusal IsOfShard IsStart start_first no_start limit bytes e f told told' (no_shard limit bytes e one) (no_shard limit bytes f two),
-  λ limit bytes e f told told' one two. one_refusal IsCoord IsGenesis genesis_first no_genesis limit bytes e f told told' (no_coordinator limit bytes e one) (no_coordinator limit bytes f two),
-)
+one_refusal_law = (one_refusal IsShardHeader IsStart start_first no_start, one_refusal IsCoord IsGenesis genesis_first no_genesis)
 
 pub no_refusal_law : NoRefusalLaw
-no_refusal_law = (
-  λ h J limit bytes e told is room refused. no_refusal IsOfShard IsStart start_first no_start h J limit bytes e told (of_shard h J bytes is) room (no_shard limit bytes e refused),
-  λ h J limit bytes e told is room refused. no_refusal IsCoord IsGenesis genesis_first no_genesis h J limit bytes e told (of_coordinator h J bytes is) room (no_coordinator limit bytes e refused),
-)
+no_refusal_law = (no_refusal IsShardHeader IsStart start_first no_start, no_refusal IsCoord IsGenesis genesis_first no_genesis)

@@ -1,103 +1,82 @@
 -- Nodes that were opened, one by one.
 use Rattle.std.proofs.Common.{◌≡◌, ◌≤◌, le_trans, ◌+◌, ◌++◌, ◌∷◌, [], ℕ, List, length, Option, Some, None, sym, ◌∙◌, subst, ap, arith}
+use Rattle.outside.specs.declared.disk.Disk.{Ghosts}
 use Rattle.cbdc_model.specs.Records.{Header}
-use Rattle.cbdc_model.specs.After.{IsJournal}
-use Rattle.cbdc_model.specs.Room.{kept_room}
-use Rattle.cbdc_model.specs.Due.{used_of}
-use Rattle.coord_log.specs.Logs.{LogOf, HoldsJournal as HoldsLog}
-use Rattle.coord_log.specs.Opening.{IsCoordJournal}
-use Rattle.shard_node.specs.Shards.{ShardOf, HoldsJournal as HoldsShard}
-use Rattle.shard_node.specs.Opening.{IsShardJournal}
-use Rattle.rack_ledgers.specs.Asked.{IsAsked, IsCoordinator, IsShardNode}
+use Rattle.cbdc_model.specs.History.{header_of}
+use Rattle.node_journal.specs.Nodes.{NodeOf}
+use Rattle.rack_ledgers.specs.Fresh.{FitsNode, StandsNode}
 use Rattle.rack_ledgers.specs.Places.{EachFrom}
 use Rattle.rack_ledgers.specs.Racked.{OfTold, IsOpened, IsBack, GoesOn}
 use Rattle.rack_ledgers.proofs.Each.{each_weaker}
 use Rattle.rack_ledgers.proofs.Told.{back_opened}
-use Rattle.rack_ledgers.specs.Ledgers.{ByPlace, IsLogAt, IsShardAt}
+use Rattle.rack_ledgers.specs.Ledgers.{ByPlace, IsNodeAt}
 use Rattle.rack_ledgers.proofs.Places.{at_place, by_place}
 
-module _ {D : Type 0} (content : D → Option (List ℕ)) (images : D → List ℕ → Type 0) (limit count : D → ℕ) where
-  -- what is known of a coordinator and of a shard that are opened
-  abbrev pub FitsLog : ℕ → Option Header → LogOf D → Type 0
-  FitsLog n ledger l = IsAsked n ledger l.header × IsCoordinator l.header × IsJournal l.header l.journal × (l.flight ≡ None) × (l.broken ≡ None) × (l.opened ≡ l.faults) × (l.faults ≡ count l.disk) × (l.capacity ≡ limit l.disk) × (used_of l.journal + kept_room l.header.shape l.journal ≤ l.capacity)
+-- the first item, and those behind it
+led_each : {N : Type 0} (P Q : ℕ → N → Type 0) (lead : N) (front whole : List N) → front ≡ lead ∷ [] → ((k : ℕ) (x : N) → 1 ≤ k → P k x → Q k x) → Q 0 lead → GoesOn P 0 front whole → ByPlace Q whole
+led_each P Q lead front whole alone step first all =
+    let same : whole ≡ lead ∷ all.more = all.parts ∙ ap (λ (l : List _). l ++ all.more) alone in
+    let one : 0 + length front ≡ 1 = omega (arith, ap length alone) in
+    subst (λ (l : List _). ByPlace Q l) (sym same)
+    (by_place Q (lead ∷ all.more) (first, each_weaker P Q 1 all.more (λ k x ge lt is. step k x ge is) (subst (λ (k : ℕ). EachFrom P k all.more) one all.each)))
 
-  abbrev pub StandsLog : LogOf D → List ℕ → Type 0
-  StandsLog l c = IsCoordJournal l.header l.journal c × HoldsLog content images l
+module _ {D : Type 0} (device : Ghosts D) (Is : Header → Type 0) where
+  -- what opening all says of each node of the kind, with what the rack tells as it begins
+  abbrev pub OpensNode : (ℕ → Option D) → (ℕ → ℕ) → Header → ℕ → NodeOf D → Type 0
+  OpensNode mid before h n x = (FitsNode device Is n (Some h) x × (before n ≤ device.count x.disk)) × OfTold (mid n) (λ was. IsOpened device (λ y. y.disk) (StandsNode device Is) was x)
 
-  abbrev pub FitsShard : ℕ → Option Header → ShardOf D → Type 0
-  FitsShard n ledger s = IsAsked n ledger s.header × IsShardNode s.header × IsJournal s.header s.journal × (s.flight ≡ None) × (s.broken ≡ None) × (s.opened ≡ count s.disk) × (used_of s.journal + kept_room s.header.shape s.journal ≤ limit s.disk)
-
-  abbrev pub StandsShard : ShardOf D → List ℕ → Type 0
-  StandsShard s c = IsShardJournal s.header s.journal c × HoldsShard content images s
-
-  -- what opening all says of each, with what the rack tells as it begins
-  abbrev pub OpensLog : (ℕ → Option D) → (ℕ → ℕ) → Header → ℕ → LogOf D → Type 0
-  OpensLog mid before h n x = (FitsLog n (Some h) x × (before n ≤ count x.disk)) × OfTold (mid n) (λ was. IsOpened content images limit (λ y. y.disk) StandsLog was x)
-
-  abbrev pub OpensShard : (ℕ → Option D) → (ℕ → ℕ) → Header → ℕ → ShardOf D → Type 0
-  OpensShard mid before h n x = (FitsShard n (Some h) x × (before n ≤ count x.disk)) × OfTold (mid n) (λ was. IsOpened content images limit (λ y. y.disk) StandsShard was x)
-
-  -- a coordinator of the ledger
-  pub log_at : (held : ℕ → Option D) (h : Header) (n : ℕ) (l : LogOf D) → FitsLog n (Some h) l
-      → OfTold (held n) (λ was. IsOpened content images limit (λ x. x.disk) StandsLog was l) → IsLogAt content images limit count held h n l
-  log_at held h n l fits opened = record { header = fits.0; journal = fits.2; flight = fits.3; broken = fits.4; since = fits.5; faults = fits.6; capacity = fits.7; room = fits.8; opened = opened }
-
-  pub shard_at : (held : ℕ → Option D) (h : Header) (n : ℕ) (s : ShardOf D) → FitsShard n (Some h) s
-      → OfTold (held n) (λ was. IsOpened content images limit (λ x. x.disk) StandsShard was s) → IsShardAt content images limit count held h n s
-  shard_at held h n s fits opened = record { header = fits.0; journal = fits.2; flight = fits.3; broken = fits.4; since = fits.5; room = fits.6; opened = opened }
+  -- a node of the ledger
+  node_at : (held : ℕ → Option D) (h : Header) (n : ℕ) (x : NodeOf D) (ledger : Option Header) → x.header ≡ header_of h.shape h.genesis n → FitsNode device Is n ledger x
+      → OfTold (held n) (λ was. IsOpened device (λ y. y.disk) (StandsNode device Is) was x) → IsNodeAt device held Is h n x
+  node_at held h n x ledger header fits opened = record {
+    header = header;
+    journal = fits.journal;
+    flight = fits.flight;
+    broken = fits.broken;
+    since = fits.since;
+    faults = fits.faults;
+    capacity = fits.capacity;
+    room = fits.room;
+    opened = opened;
+  }
 
   -- node 0, whose header is its own
-  pub lead_at : (held : ℕ → Option D) (h : Header) (l : LogOf D) → h ≡ l.header → FitsLog 0 None l
-      → OfTold (held 0) (λ was. IsOpened content images limit (λ x. x.disk) StandsLog was l) → IsLogAt content images limit count held h 0 l
-  lead_at held h l same fits opened =
-      log_at held h 0 l (fits.0 ∙ ap (λ (k : Header). record { node = 0; shape = k.shape; genesis = k.genesis }) (sym same), fits.1, fits.2, fits.3, fits.4, fits.5, fits.6, fits.7, fits.8) opened
+  pub lead_at : (held : ℕ → Option D) (h : Header) (l : NodeOf D) → h ≡ l.header → FitsNode device Is 0 None l
+      → OfTold (held 0) (λ was. IsOpened device (λ x. x.disk) (StandsNode device Is) was l) → IsNodeAt device held Is h 0 l
+  lead_at held h l same fits opened = node_at held h 0 l None (fits.asked ∙ ap (λ (k : Header). header_of k.shape k.genesis 0) (sym same)) fits opened
+
+  -- by what was told as the others were opened
+  node_later : (held mid : ℕ → Option D) (before : ℕ → ℕ) (h : Header) (first : ℕ) → ((n : ℕ) → first ≤ n → mid n ≡ held n) → (k : ℕ) (x : NodeOf D) → first ≤ k → OpensNode mid before h k x
+      → IsNodeAt device held Is h k x
+  node_later held mid before h first kept k x ge is = node_at held h k x (Some h) is.0.0.asked is.0.0 (λ was told. is.1 was (kept k ge ∙ told))
 
   -- node 0 and those behind it
-  pub led_at : (held mid : ℕ → Option D) (before : ℕ → ℕ) (h : Header) (lead : LogOf D) (more : List (LogOf D)) → ((n : ℕ) → 1 ≤ n → mid n ≡ held n)
-      → IsLogAt content images limit count held h 0 lead
-      → EachFrom (OpensLog mid before h) 1 more
-      → ByPlace (IsLogAt content images limit count held h) (lead ∷ more)
-  led_at held mid before h lead more kept first others = by_place (IsLogAt content images limit count held h) (lead ∷ more) (
-    first,
-    each_weaker (OpensLog mid before h) (IsLogAt content images limit count held h) 1 more
-        (λ k x ge lt is. log_at held h k x is.0.0 (λ was told. is.1 was (kept k ge ∙ told))) others,
-  )
-
-  pub led_whole : (held mid : ℕ → Option D) (before : ℕ → ℕ) (h : Header) (lead : LogOf D) (front whole : List (LogOf D)) → front ≡ lead ∷ [] → ((n : ℕ) → 1 ≤ n → mid n ≡ held n)
-      → IsLogAt content images limit count held h 0 lead → GoesOn (OpensLog mid before h) 0 front whole → ByPlace (IsLogAt content images limit count held h) whole
+  pub led_whole : (held mid : ℕ → Option D) (before : ℕ → ℕ) (h : Header) (lead : NodeOf D) (front whole : List (NodeOf D)) → front ≡ lead ∷ [] → ((n : ℕ) → 1 ≤ n → mid n ≡ held n)
+      → IsNodeAt device held Is h 0 lead → GoesOn (OpensNode mid before h) 0 front whole → ByPlace (IsNodeAt device held Is h) whole
   led_whole held mid before h lead front whole alone kept first all =
-      let same : whole ≡ lead ∷ all.more = all.parts ∙ ap (λ (l : List (LogOf D)). l ++ all.more) alone in
-      let one : 0 + length front ≡ 1 = omega (arith, ap length alone) in
-      subst (λ (l : List (LogOf D)). ByPlace (IsLogAt content images limit count held h) l) (sym same)
-      (led_at held mid before h lead all.more kept first (subst (λ (k : ℕ). EachFrom (OpensLog mid before h) k all.more) one all.each))
+      led_each (OpensNode mid before h) (IsNodeAt device held Is h) lead front whole alone (node_later held mid before h 1 kept) first all
 
-  -- shards from a place on
-  pub shards_at : (held mid : ℕ → Option D) (before : ℕ → ℕ) (h : Header) (first : ℕ) (shards : List (ShardOf D)) → ((n : ℕ) → first ≤ n → mid n ≡ held n)
-      → EachFrom (OpensShard mid before h) first shards
-      → ByPlace (λ s x. IsShardAt content images limit count held h (first + s) x) shards
-  shards_at held mid before h first shards kept all s x is =
-      at_place (IsShardAt content images limit count held h) first shards
-      (each_weaker (OpensShard mid before h) (IsShardAt content images limit count held h) first shards
-      (λ k x ge lt is. shard_at held h k x is.0.0 (λ was told. is.1 was (kept k ge ∙ told))) all) s x is
+  -- those from a place on
+  pub nodes_at : (held mid : ℕ → Option D) (before : ℕ → ℕ) (h : Header) (first : ℕ) (nodes : List (NodeOf D)) → ((n : ℕ) → first ≤ n → mid n ≡ held n)
+      → EachFrom (OpensNode mid before h) first nodes
+      → ByPlace (λ s x. IsNodeAt device held Is h (first + s) x) nodes
+  nodes_at held mid before h first nodes kept all s x is =
+      at_place (IsNodeAt device held Is h) first nodes
+      (each_weaker (OpensNode mid before h) (IsNodeAt device held Is h) first nodes (λ k y ge lt own. node_later held mid before h first kept k y ge own) all) s x is
 
   -- how often the disk of each node had failed before it was opened
-  pub logs_since : (mid : ℕ → Option D) (before between : ℕ → ℕ) (h : Header) (lead : LogOf D) (front whole : List (LogOf D)) → front ≡ lead ∷ [] → ((n : ℕ) → before n ≤ between n)
-      → before 0 ≤ count lead.disk → GoesOn (OpensLog mid between h) 0 front whole → ByPlace (λ n l. before n ≤ count l.disk) whole
+  pub logs_since : (mid : ℕ → Option D) (before between : ℕ → ℕ) (h : Header) (lead : NodeOf D) (front whole : List (NodeOf D)) → front ≡ lead ∷ [] → ((n : ℕ) → before n ≤ between n)
+      → before 0 ≤ device.count lead.disk → GoesOn (OpensNode mid between h) 0 front whole → ByPlace (λ n l. before n ≤ device.count l.disk) whole
   logs_since mid before between h lead front whole alone later first all =
-      let P : ℕ → LogOf D → Type 0 = λ n l. before n ≤ count l.disk in
-      let same : whole ≡ lead ∷ all.more = all.parts ∙ ap (λ (l : List (LogOf D)). l ++ all.more) alone in
-      let one : 0 + length front ≡ 1 = omega (arith, ap length alone) in
-      let others : EachFrom (OpensLog mid between h) 1 all.more = subst (λ (k : ℕ). EachFrom (OpensLog mid between h) k all.more) one all.each in
-      subst (λ (l : List (LogOf D)). ByPlace P l) (sym same)
-      (by_place P (lead ∷ all.more) (first, each_weaker (OpensLog mid between h) P 1 all.more (λ k x ge lt is. le_trans (later k) is.0.1) others))
+      led_each (OpensNode mid between h) (λ (n : ℕ) (l : NodeOf D). before n ≤ device.count l.disk) lead front whole alone (λ k x ge is. le_trans (later k) is.0.1) first all
 
-  pub shards_since : (mid : ℕ → Option D) (before between : ℕ → ℕ) (h : Header) (first : ℕ) (shards : List (ShardOf D)) → ((n : ℕ) → before n ≤ between n)
-      → EachFrom (OpensShard mid between h) first shards → ByPlace (λ s x. before (first + s) ≤ count x.disk) shards
-  shards_since mid before between h first shards later all s x is =
-      at_place (λ (n : ℕ) (y : ShardOf D). before n ≤ count y.disk) first shards
-      (each_weaker (OpensShard mid between h) (λ (n : ℕ) (y : ShardOf D). before n ≤ count y.disk) first shards (λ k y ge lt is. le_trans (later k) is.0.1) all) s x is
+  pub nodes_since : (mid : ℕ → Option D) (before between : ℕ → ℕ) (h : Header) (first : ℕ) (nodes : List (NodeOf D)) → ((n : ℕ) → before n ≤ between n)
+      → EachFrom (OpensNode mid between h) first nodes → ByPlace (λ s x. before (first + s) ≤ device.count x.disk) nodes
+  nodes_since mid before between h first nodes later all s x is =
+      at_place (λ (n : ℕ) (y : NodeOf D). before n ≤ device.count y.disk) first nodes
+      (each_weaker (OpensNode mid between h) (λ (n : ℕ) (y : NodeOf D). before n ≤ device.count y.disk) first nodes (λ k y ge lt is. le_trans (later k) is.0.1) all) s x is
 
-  -- the disk of a coordinator that was opened, put back
-  pub log_back : (held now : ℕ → Option D) (before after : ℕ) (h : Header) (n : ℕ) (l : LogOf D) → IsLogAt content images limit count held h n l
-      → OfTold (now n) (λ d. d ≡ l.disk) → IsBack content images limit before after (held n) (now n)
-  log_back held now before after h n l is put = back_opened content images limit before after (λ x. x.disk) StandsLog (held n) (now n) l is.opened put
+  -- the disk of a node that was opened, put back
+  pub node_back : (held now : ℕ → Option D) (before after : ℕ) (h : Header) (n : ℕ) (l : NodeOf D) → IsNodeAt device held Is h n l
+      → OfTold (now n) (λ d. d ≡ l.disk) → IsBack device before after (held n) (now n)
+  node_back held now before after h n l is put = back_opened device before after (λ x. x.disk) (StandsNode device Is) (held n) (now n) l is.opened put

@@ -1,5 +1,5 @@
--- Refusals of a shard or a coordinator, as those of a node.
-use Rattle.std.proofs.Common.{◌≡◌, ◌≢◌, Bool, false, inl, inr, ℕ, ◌+◌, ◌≤◌, List, ◌++◌, Option, None, refl, sym, ◌∙◌, subst, arith, rules}
+-- Refusals of a node of one kind, as those of a node that is asked for.
+use Rattle.std.proofs.Common.{◌≡◌, ◌≢◌, ◌⊎◌, Bool, false, ℕ, ◌+◌, ◌≤◌, List, ◌++◌, Option, refl, sym, ◌∙◌, subst}
 use Rattle.cbdc_types.specs.declared.answer.Answer.{Answer}
 use Rattle.cbdc_types.specs.declared.answer.Answer.TheVariants as answers
 use Rattle.cbdc_types.specs.declared.calls.NodeOpenFault.{NodeOpenFault}
@@ -14,16 +14,15 @@ use Rattle.record_log.specs.Exact.{IsFirst}
 use Rattle.gate_journal.specs.Rows.{filling}
 use Rattle.gate_journal.proofs.Once.{tail_is, row_once}
 use Rattle.record_log.proofs.LogSizes.{first_small}
-use Rattle.coord_log.specs.Logs.{LogOf, HoldsJournal as LogHoldsJournal}
-use Rattle.coord_log.specs.Opening.{IsNoCoord, IsCoordJournal, IsGenesis}
-use Rattle.shard_node.specs.Opening.{IsNoShard, IsShardJournal, IsStart}
+use Rattle.node_journal.specs.Opening.{IsJournalOf, IsNoNodeOf}
+use Rattle.coord_log.specs.Opening.{IsGenesis}
+use Rattle.shard_node.specs.Opening.{IsStart}
 use Rattle.rack_ledgers.proofs.Wholes.{one_first}
-use Rattle.shard_node.specs.Shards.{ShardOf, HoldsJournal, HoldsWith}
-use Rattle.std.specs.Prelude.{IsSome, IsTrue, ◌↔◌}
+use Rattle.std.specs.Prelude.{IsTrue, ◌↔◌}
 use Rattle.std.proofs.lemmas.Bool.{false≢true}
 use Rattle.rack_ledgers.specs.Places.{IsOpening}
-use Rattle.rack_ledgers.specs.Asked.{asked_of, IsCoordinator, IsShardNode}
-use Rattle.rack_ledgers.specs.Refused.{IsNoNode, told_of}
+use Rattle.rack_ledgers.specs.Asked.{asked_of}
+use Rattle.rack_ledgers.specs.Refused.{IsNodeJournal, IsNoNode, told_of}
 
 -- a refusal is told as one of that node
 pub told_opening : (node before now : ℕ) (f : NodeOpenFault) → (f ≡ faults.DiskFault → Rose before now) → IsOpening node before now (told_of node f)
@@ -34,76 +33,38 @@ told_opening node before now (faults.Damaged at) rose = refl
 told_opening node before now (faults.Full used need capacity) rose = refl
 told_opening node before now faults.Memory rose = tt
 
--- why a disk is no shard, but for its kind, is why it is no node
-pub shard_refused : (Is : Header → Type 0) (node : ℕ) (ledger : Option Header) (limit : ℕ) (bytes : List ℕ) (f : NodeOpenFault) → f ≢ faults.OtherKind → IsNoShard limit bytes f → IsNoNode Is node ledger limit bytes (told_of node f)
-shard_refused Is node ledger limit bytes faults.DiskFault other is = refl
-shard_refused Is node ledger limit bytes faults.NotReady other is = (refl, is)
-shard_refused Is node ledger limit bytes faults.OtherKind other is = absurd (other refl)
-shard_refused Is node ledger limit bytes (faults.Damaged at) other is = (refl, record { header = is.header; journal = is.journal; limits = is.limits; is = is.is; cut = is.cut })
-shard_refused Is node ledger limit bytes (faults.Full used need capacity) other is = (
-  refl,
-  is.0,
-  record {
-    header = is.1.header;
-    journal = is.1.journal;
-    is = record { opens = is.1.is.opens; limits = is.1.is.limits; journal = is.1.is.journal };
-    used_is = is.1.used_is;
-    need_is = is.1.need_is;
-    passes = is.1.passes;
-  },
-)
-shard_refused Is node ledger limit bytes faults.Memory other is = tt
+-- a journal of a kind is one of either kind
+pub of_any : (Is : Header → Type 0) (h : Header) (J : List Record) (bytes : List ℕ) → IsJournalOf Is h J bytes → IsNodeJournal h J bytes
+of_any Is h J bytes is = record { opens = is.opens; limits = is.limits; journal = is.journal; kind = tt }
 
--- a shard with another header
-pub other_shard : (node : ℕ) (ledger : Option Header) (limit : ℕ) (bytes : List ℕ) (kept : Header) (J : List Record) → IsShardJournal kept J bytes → used_of J + kept_room kept.shape J ≤ limit → kept ≢ asked_of node ledger kept
-    → IsNoNode IsShardNode node ledger limit bytes (answers.Foreign node kept (asked_of node ledger kept))
-other_shard node ledger limit bytes kept J is fits differs = (refl, refl, record { journal = J; is = record { opens = is.opens; limits = is.limits; journal = is.journal }; fits = fits; differs = inl differs })
+module _ (Is : Header → Type 0) (node : ℕ) (ledger : Option Header) (limit : ℕ) (bytes : List ℕ) (Mine : Header → Type 0) where
+  -- why a disk is no node of one kind, but for its kind, is why it is no node that is asked for
+  pub node_refused : (IsOther : Record → Type 0) (f : NodeOpenFault) → f ≢ faults.OtherKind → IsNoNodeOf Mine IsOther limit bytes f → IsNoNode Is node ledger limit bytes (told_of node f)
+  node_refused IsOther faults.DiskFault other is = refl
+  node_refused IsOther faults.NotReady other is = (refl, is)
+  node_refused IsOther faults.OtherKind other is = absurd (other refl)
+  node_refused IsOther (faults.Damaged at) other is = (refl, record { header = is.header; journal = is.journal; limits = is.limits; is = is.is; kind = tt; cut = is.cut })
+  node_refused IsOther (faults.Full used need capacity) other is = (
+    refl,
+    is.0,
+    record {
+      header = is.1.header;
+      journal = is.1.journal;
+      is = of_any Mine is.1.header is.1.journal bytes is.1.is;
+      used_is = is.1.used_is;
+      need_is = is.1.need_is;
+      passes = is.1.passes;
+    },
+  )
+  node_refused IsOther faults.Memory other is = tt
 
--- a shard in place of a coordinator
-pub shard_for_coordinator : (node : ℕ) (ledger : Option Header) (limit : ℕ) (bytes : List ℕ) (kept : Header) (J : List Record) → IsShardJournal kept J bytes → used_of J + kept_room kept.shape J ≤ limit
-    → IsNoNode IsCoordinator node ledger limit bytes (answers.Foreign node kept (asked_of node ledger kept))
-shard_for_coordinator node ledger limit bytes kept J is fits =
-    (refl, refl, record { journal = J; is = record { opens = is.opens; limits = is.limits; journal = is.journal }; fits = fits; differs = inr (λ below. absurd (omega (arith, below, is.shard.0))) })
-
--- a shard that was opened tells its content
-pub shard_told : {D : Type 0} (content : D → Option (List ℕ)) (images : D → List ℕ → Type 0) (n : ShardOf D) → n.flight ≡ None → HoldsJournal content images n → IsSome (content n.disk)
-shard_told content images n none holds =
-    let whole = subst (λ (o : Option Record). HoldsWith o (content n.disk) (images n.disk) n.gate n.journal) none holds in
-    subst (λ (o : Option (List ℕ)). IsSome o) (sym whole.told) (search rules)
-
--- why a disk is no coordinator, but for its kind, is why it is no node
-pub coordinator_refused : (Is : Header → Type 0) (node : ℕ) (ledger : Option Header) (limit : ℕ) (bytes : List ℕ) (f : NodeOpenFault) → f ≢ faults.OtherKind → IsNoCoord limit bytes f → IsNoNode Is node ledger limit bytes (told_of node f)
-coordinator_refused Is node ledger limit bytes faults.DiskFault other is = refl
-coordinator_refused Is node ledger limit bytes faults.NotReady other is = (refl, is)
-coordinator_refused Is node ledger limit bytes faults.OtherKind other is = absurd (other refl)
-coordinator_refused Is node ledger limit bytes (faults.Damaged at) other is = (refl, record { header = is.header; journal = is.journal; limits = is.limits; is = is.is; cut = is.cut })
-coordinator_refused Is node ledger limit bytes (faults.Full used need capacity) other is = (
-  refl,
-  is.0,
-  record {
-    header = is.1.header;
-    journal = is.1.journal;
-    is = record { opens = is.1.is.opens; limits = is.1.is.limits; journal = is.1.is.journal };
-    used_is = is.1.used_is;
-    need_is = is.1.need_is;
-    passes = is.1.passes;
-  },
-)
-coordinator_refused Is node ledger limit bytes faults.Memory other is = tt
-
--- a coordinator with another header
-pub other_coordinator : (node : ℕ) (ledger : Option Header) (limit : ℕ) (bytes : List ℕ) (kept : Header) (J : List Record) → IsCoordJournal kept J bytes → used_of J + kept_room kept.shape J ≤ limit → kept ≢ asked_of node ledger kept
-    → IsNoNode IsCoordinator node ledger limit bytes (answers.Foreign node kept (asked_of node ledger kept))
-other_coordinator node ledger limit bytes kept J is fits differs = (refl, refl, record { journal = J; is = record { opens = is.opens; limits = is.limits; journal = is.journal }; fits = fits; differs = inl differs })
-
--- a coordinator in place of a shard
-pub coordinator_for_shard : (node : ℕ) (ledger : Option Header) (limit : ℕ) (bytes : List ℕ) (kept : Header) (J : List Record) → IsCoordJournal kept J bytes → used_of J + kept_room kept.shape J ≤ limit
-    → IsNoNode IsShardNode node ledger limit bytes (answers.Foreign node kept (asked_of node ledger kept))
-coordinator_for_shard node ledger limit bytes kept J is fits =
-    (refl, refl, record { journal = J; is = record { opens = is.opens; limits = is.limits; journal = is.journal }; fits = fits; differs = inr (λ here. absurd (omega (arith, here.0, is.coordinator))) })
+  -- a node of one kind with another header, or of the other kind
+  pub other_node : (kept : Header) (J : List Record) → IsJournalOf Mine kept J bytes → used_of J + kept_room kept.shape J ≤ limit → (kept ≢ asked_of node ledger kept) ⊎ (Is kept → ⊥)
+      → IsNoNode Is node ledger limit bytes (answers.Foreign node kept (asked_of node ledger kept))
+  other_node kept J is fits differs = (refl, refl, record { journal = J; is = of_any Mine kept J bytes is; fits = fits; differs = differs })
 
 -- a first record is of one kind
-start_first : (r : Record) → IsStart r → IsFirst r
+pub start_first : (r : Record) → IsStart r → IsFirst r
 start_first (Start h) is = is
 start_first (Genesis h hs) is = absurd is
 start_first (Lock stamp b es) is = absurd is
@@ -114,7 +75,7 @@ start_first (Commit stamp b os) is = absurd is
 start_first (Discard stamp b) is = absurd is
 start_first (Done stamp b) is = absurd is
 
-genesis_first : (r : Record) → IsGenesis r → IsFirst r
+pub genesis_first : (r : Record) → IsGenesis r → IsFirst r
 genesis_first (Genesis h hs) is = is
 genesis_first (Start h) is = absurd is
 genesis_first (Lock stamp b es) is = absurd is
@@ -145,10 +106,6 @@ not_both_kinds bytes start genesis =
     let bodies = (row_once (body_of start.what) (body_of genesis.what) start.more genesis.more (first_small start.what s_first) (first_small genesis.what g_first) same).0 in
     let one : start.what ≡ genesis.what = one_first start.what genesis.what s_first g_first bodies in
     one_kind genesis.what (subst IsStart one start.has) genesis.has
-
--- a coordinator that was opened tells its content
-pub coordinator_told : {D : Type 0} (content : D → Option (List ℕ)) (images : D → List ℕ → Type 0) (l : LogOf D) → l.broken ≡ None → LogHoldsJournal content images l → IsSome (content l.disk)
-coordinator_told content images l none holds = subst (λ (o : Option (List ℕ)). IsSome o) (sym (holds.reads none).told) (search rules)
 
 -- a header that is kept, told in an answer
 pub told_foreign : (Is : Header → Type 0) (node : ℕ) (ledger : Option Header) (limit : ℕ) (bytes : List ℕ) (kept h : Header) (a : Answer) → kept ≡ h → a ≡ answers.Foreign node kept (asked_of node ledger kept)

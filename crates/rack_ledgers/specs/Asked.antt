@@ -1,7 +1,6 @@
 -- The header that a node is asked to have.
-use Rattle.std.specs.Prelude.{◌≡◌, ◌<◌, ℕ, Option, Some, None}
+use Rattle.std.specs.Prelude.{◌≡◌, ℕ, Option, Some, None}
 use Rattle.cbdc_model.specs.Records.{Header}
-use Rattle.cbdc_model.specs.Grammar.{IsShard}
 
 -- this node's number, with the shape and the genesis of the ledger with this header, or with its own where none is given
 abbrev pub asked_of : ℕ → Option Header → Header → Header
@@ -11,11 +10,3 @@ asked_of node None kept = record { node = node; shape = kept.shape; genesis = ke
 -- `asked_of`, `IsAsked`: the header that a node should have: its own number, and node 0's shape and genesis
 abbrev pub IsAsked : ℕ → Option Header → Header → Type 0
 IsAsked node ledger kept = kept ≡ asked_of node ledger kept
-
--- the kinds of nodes, by their headers
-abbrev pub IsCoordinator : Header → Type 0
-IsCoordinator h = h.node < h.shape.coordinators
-
--- `IsCoordinator`, `IsShardNode`: the header names a coordinator; a shard
-abbrev pub IsShardNode : Header → Type 0
-IsShardNode h = IsShard h.shape h.node

@@ -1,6 +1,7 @@
 -- The nodes of a ledger as a rack keeps them.
 use Rattle.std.specs.Prelude.{◌≡◌, ◌≢◌, ◌⊎◌, ◌+◌, ◌≤◌, ◌<◌, ℕ, List, length, Option, Some, None, slice_get}
 use Rattle.outside.specs.Images.{Tells}
+use Rattle.outside.specs.declared.disk.Disk.{Ghosts}
 use Rattle.cbdc_types.specs.Limits.{IsWithinLimits}
 use Rattle.cbdc_types.specs.declared.answer.Answer.{Answer}
 use Rattle.cbdc_types.specs.declared.answer.Answer.TheVariants as answers
@@ -9,11 +10,10 @@ use Rattle.cbdc_model.specs.After.{IsJournal}
 use Rattle.cbdc_model.specs.History.{header_of}
 use Rattle.cbdc_model.specs.Room.{kept_room}
 use Rattle.cbdc_model.specs.Due.{used_of}
-use Rattle.coord_log.specs.Logs.{LogOf, HoldsJournal as HoldsLog}
-use Rattle.coord_log.specs.Opening.{IsCoordJournal}
-use Rattle.shard_node.specs.Shards.{ShardOf, HoldsJournal as HoldsShard}
-use Rattle.shard_node.specs.Opening.{IsShardJournal}
-use Rattle.rack_ledgers.specs.Asked.{IsCoordinator, IsShardNode}
+use Rattle.node_journal.specs.Nodes.{NodeOf}
+use Rattle.coord_log.specs.Opening.{IsCoord}
+use Rattle.shard_node.specs.Opening.{IsShardHeader}
+use Rattle.rack_ledgers.specs.Fresh.{StandsNode}
 use Rattle.rack_ledgers.specs.Places.{IsOpening}
 use Rattle.rack_ledgers.specs.Racked.{OfTold, IsOpened}
 use Rattle.rack_ledgers.specs.Refused.{IsNoNode, IsNodeRefusal}
@@ -22,42 +22,32 @@ use Rattle.rack_ledgers.specs.Refused.{IsNoNode, IsNodeRefusal}
 abbrev pub ByPlace : {N : Type 0} → (ℕ → N → Type 0) → List N → Type 0
 ByPlace P nodes = (n : ℕ) (x : _) → slice_get nodes n ≡ Some x → P n x
 
--- a coordinator of the ledger with this header has this place, and stands for what was told of its disk
-pub record IsLogAt {D : Type 0} (content : D → Option (List ℕ)) (images : D → List ℕ → Type 0) (limit count : D → ℕ) (held : ℕ → Option D) (h : Header) (place : ℕ) (l : LogOf D) : Type 0 where
-  pub header : l.header ≡ header_of h.shape h.genesis place
-  pub journal : IsJournal l.header l.journal
-  pub flight : l.flight ≡ None
-  pub broken : l.broken ≡ None
-  pub since : l.opened ≡ l.faults
-  pub faults : l.faults ≡ count l.disk
-  pub capacity : l.capacity ≡ limit l.disk
-  pub room : used_of l.journal + kept_room l.header.shape l.journal ≤ l.capacity
-  pub opened : OfTold (held place) (λ was. IsOpened content images limit (λ x. x.disk) (λ x c. IsCoordJournal x.header x.journal c × HoldsLog content images x) was l)
-
--- so does a shard
-pub record IsShardAt {D : Type 0} (content : D → Option (List ℕ)) (images : D → List ℕ → Type 0) (limit count : D → ℕ) (held : ℕ → Option D) (h : Header) (place : ℕ) (s : ShardOf D) : Type 0 where
-  pub header : s.header ≡ header_of h.shape h.genesis place
-  pub journal : IsJournal s.header s.journal
-  pub flight : s.flight ≡ None
-  pub broken : s.broken ≡ None
-  pub since : s.opened ≡ count s.disk
-  pub room : used_of s.journal + kept_room s.header.shape s.journal ≤ limit s.disk
-  pub opened : OfTold (held place) (λ was. IsOpened content images limit (λ x. x.disk) (λ x c. IsShardJournal x.header x.journal c × HoldsShard content images x) was s)
+-- a node of the kind, of the ledger with this header, has this place, and stands for what was told of its disk
+pub record IsNodeAt {D : Type 0} (device : Ghosts D) (held : ℕ → Option D) (Is : Header → Type 0) (h : Header) (place : ℕ) (n : NodeOf D) : Type 0 where
+  pub header : n.header ≡ header_of h.shape h.genesis place
+  pub journal : IsJournal n.header n.journal
+  pub flight : n.flight ≡ None
+  pub broken : n.broken ≡ None
+  pub since : n.opened ≡ n.faults
+  pub faults : n.faults ≡ device.count n.disk
+  pub capacity : n.capacity ≡ device.limit n.disk
+  pub room : used_of n.journal + kept_room n.header.shape n.journal ≤ n.capacity
+  pub opened : OfTold (held place) (λ was. IsOpened device (λ x. x.disk) (StandsNode device Is) was n)
 
 -- these are all coordinators and all shards of the ledger with this header, which is that of node 0
-pub record AreOpened {D : Type 0} (content : D → Option (List ℕ)) (images : D → List ℕ → Type 0) (limit count : D → ℕ) (held : ℕ → Option D) (h : Header) (logs : List (LogOf D)) (shards : List (ShardOf D)) : Type 0 where
+pub record AreOpened {D : Type 0} (device : Ghosts D) (held : ℕ → Option D) (h : Header) (logs : List (NodeOf D)) (shards : List (NodeOf D)) : Type 0 where
   pub first : h.node ≡ 0
   pub limits : IsWithinLimits h.shape
   pub coordinators : length logs ≡ h.shape.coordinators
   pub shards_are : length shards ≡ h.shape.shards
-  pub logs_at : ByPlace (IsLogAt content images limit count held h) logs
-  pub shards_at : ByPlace (λ s x. IsShardAt content images limit count held h (h.shape.coordinators + s) x) shards
+  pub logs_at : ByPlace (IsNodeAt device held IsCoord h) logs
+  pub shards_at : ByPlace (λ s x. IsNodeAt device held IsShardHeader h (h.shape.coordinators + s) x) shards
 
 -- why the disk that was told of this node is no such node, and a fault of the disk has its cause
-pub record IsRefused {D : Type 0} (content : D → Option (List ℕ)) (limit : D → ℕ) (held : ℕ → Option D) (before now : ℕ → ℕ) (Is : Header → Type 0) (ledger : Option Header) (place : ℕ) (answer : Answer) : Type 0 where
+pub record IsRefused {D : Type 0} (device : Ghosts D) (held : ℕ → Option D) (before now : ℕ → ℕ) (Is : Header → Type 0) (ledger : Option Header) (place : ℕ) (answer : Answer) : Type 0 where
   pub kind : IsNodeRefusal answer
   pub fault : IsOpening place (before place) (now place) answer
-  pub cause : OfTold (held place) (λ was. Tells (content was) (λ c. IsNoNode Is place ledger (limit was) c answer))
+  pub cause : OfTold (held place) (λ was. Tells (device.content was) (λ c. IsNoNode Is place ledger (device.limit was) c answer))
 
 -- the mint with this id, where one is given, began the ledger with this header
 abbrev pub IsMintOf : Option Digest → Header → Type 0
@@ -70,51 +60,51 @@ IsOtherMint None h answer = ⊥
 IsOtherMint (Some id) h answer = (h.genesis ≢ id) × (answer ≡ answers.Foreign 0 h (record { node = 0; shape = h.shape; genesis = id }))
 
 -- node 0 is opened, and another mint than the one with this id began its ledger
-pub record HasOtherMint {D : Type 0} (content : D → Option (List ℕ)) (images : D → List ℕ → Type 0) (limit count : D → ℕ) (held : ℕ → Option D) (id : Option Digest) (answer : Answer) : Type 0 where
-  pub lead : LogOf D
+pub record HasOtherMint {D : Type 0} (device : Ghosts D) (held : ℕ → Option D) (id : Option Digest) (answer : Answer) : Type 0 where
+  pub lead : NodeOf D
   pub first : lead.header.node ≡ 0
-  pub lead_at : IsLogAt content images limit count held lead.header 0 lead
+  pub lead_at : IsNodeAt device held IsCoord lead.header 0 lead
   pub other : IsOtherMint id lead.header answer
 
 -- the coordinators before this one are opened, of which node 0 has this header, of a ledger that the mint with this id began, and why this
 -- one is not
-pub record LacksLog {D : Type 0} (content : D → Option (List ℕ)) (images : D → List ℕ → Type 0) (limit count : D → ℕ) (held : ℕ → Option D) (before now : ℕ → ℕ) (id : Option Digest) (answer : Answer) : Type 0 where
+pub record LacksLog {D : Type 0} (device : Ghosts D) (held : ℕ → Option D) (before now : ℕ → ℕ) (id : Option Digest) (answer : Answer) : Type 0 where
   pub header : Header
-  pub logs : List (LogOf D)
+  pub logs : List (NodeOf D)
   pub first : header.node ≡ 0
   pub limits : IsWithinLimits header.shape
   pub minted : IsMintOf id header
   pub some : 1 ≤ length logs
   pub inside : length logs < header.shape.coordinators
-  pub logs_at : ByPlace (IsLogAt content images limit count held header) logs
-  pub refused : IsRefused content limit held before now IsCoordinator (Some header) (length logs) answer
+  pub logs_at : ByPlace (IsNodeAt device held IsCoord header) logs
+  pub refused : IsRefused device held before now IsCoord (Some header) (length logs) answer
 
 -- all coordinators and the shards before this one are opened, of a ledger that the mint with this id began, and why this one is not
-pub record LacksShard {D : Type 0} (content : D → Option (List ℕ)) (images : D → List ℕ → Type 0) (limit count : D → ℕ) (held : ℕ → Option D) (before now : ℕ → ℕ) (id : Option Digest) (answer : Answer) : Type 0 where
+pub record LacksShard {D : Type 0} (device : Ghosts D) (held : ℕ → Option D) (before now : ℕ → ℕ) (id : Option Digest) (answer : Answer) : Type 0 where
   pub header : Header
-  pub logs : List (LogOf D)
-  pub shards : List (ShardOf D)
+  pub logs : List (NodeOf D)
+  pub shards : List (NodeOf D)
   pub first : header.node ≡ 0
   pub limits : IsWithinLimits header.shape
   pub minted : IsMintOf id header
   pub coordinators : length logs ≡ header.shape.coordinators
   pub inside : length shards < header.shape.shards
-  pub logs_at : ByPlace (IsLogAt content images limit count held header) logs
-  pub shards_at : ByPlace (λ s x. IsShardAt content images limit count held header (header.shape.coordinators + s) x) shards
-  pub refused : IsRefused content limit held before now IsShardNode (Some header) (header.shape.coordinators + length shards) answer
+  pub logs_at : ByPlace (IsNodeAt device held IsCoord header) logs
+  pub shards_at : ByPlace (λ s x. IsNodeAt device held IsShardHeader header (header.shape.coordinators + s) x) shards
+  pub refused : IsRefused device held before now IsShardHeader (Some header) (header.shape.coordinators + length shards) answer
 
 -- why the first coordinator that can't be opened is not: node 0 by its own header, or another mint began its ledger; each other one by node
 -- 0's header, which this mint began
-abbrev pub IsUnledBy : {D : Type 0} → (D → Option (List ℕ)) → (D → List ℕ → Type 0) → (D → ℕ) → (D → ℕ) → (ℕ → Option D) → (ℕ → ℕ) → (ℕ → ℕ) → Option Digest → Answer → Type 0
-IsUnledBy content images limit count held before now id answer =
-    IsRefused content limit held before now IsCoordinator None 0 answer
-    ⊎ (HasOtherMint content images limit count held id answer ⊎ LacksLog content images limit count held before now id answer)
+abbrev pub IsUnledBy : {D : Type 0} → Ghosts D → (ℕ → Option D) → (ℕ → ℕ) → (ℕ → ℕ) → Option Digest → Answer → Type 0
+IsUnledBy device held before now id answer =
+    IsRefused device held before now IsCoord None 0 answer
+    ⊎ (HasOtherMint device held id answer ⊎ LacksLog device held before now id answer)
 
 -- why the first node that can't be opened is not, where the mint with this id, if one is given, should have begun the ledger
-abbrev pub IsUnopenedBy : {D : Type 0} → (D → Option (List ℕ)) → (D → List ℕ → Type 0) → (D → ℕ) → (D → ℕ) → (ℕ → Option D) → (ℕ → ℕ) → (ℕ → ℕ) → Option Digest → Answer → Type 0
-IsUnopenedBy content images limit count held before now id answer =
-    IsUnledBy content images limit count held before now id answer ⊎ LacksShard content images limit count held before now id answer
+abbrev pub IsUnopenedBy : {D : Type 0} → Ghosts D → (ℕ → Option D) → (ℕ → ℕ) → (ℕ → ℕ) → Option Digest → Answer → Type 0
+IsUnopenedBy device held before now id answer =
+    IsUnledBy device held before now id answer ⊎ LacksShard device held before now id answer
 
 -- why the first node that can't be opened is not, whatever mint began the ledger
-abbrev pub IsUnopened : {D : Type 0} → (D → Option (List ℕ)) → (D → List ℕ → Type 0) → (D → ℕ) → (D → ℕ) → (ℕ → Option D) → (ℕ → ℕ) → (ℕ → ℕ) → Answer → Type 0
-IsUnopened content images limit count held before now answer = IsUnopenedBy content images limit count held before now None answer
+abbrev pub IsUnopened : {D : Type 0} → Ghosts D → (ℕ → Option D) → (ℕ → ℕ) → (ℕ → ℕ) → Answer → Type 0
+IsUnopened device held before now answer = IsUnopenedBy device held before now None answer

@@ -6,6 +6,7 @@ pub mod Refused
 pub mod Blank
 pub mod Racked
 pub mod First
+pub mod Fresh
 pub mod Ledgers
 pub mod Slots
 pub mod Caused

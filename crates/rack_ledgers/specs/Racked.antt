@@ -2,6 +2,7 @@
 use Rattle.std.specs.Prelude.{◌≡◌, ◌≤◌, ◌<◌, ◌+◌, ◌++◌, ℕ, List, length, Option, Some, IsSome}
 use Rattle.outside.specs.Counts.{Rose}
 use Rattle.outside.specs.Images.{NoMore, Tells}
+use Rattle.outside.specs.declared.disk.Disk.{Ghosts}
 use Rattle.cbdc_types.specs.declared.answer.Answer.{Answer}
 use Rattle.cbdc_model.specs.Records.{Header, Record}
 use Rattle.rack_ledgers.specs.Places.{EachFrom}
@@ -12,49 +13,49 @@ abbrev pub OfTold : {D : Type 0} → Option D → (D → Type 0) → Type 0
 OfTold held P = (d : _) → held ≡ Some d → P d
 
 -- a crash leaves nothing of the disk that it could not leave of the other, and there is as much room
-pub record IsRead {D : Type 0} (images : D → List ℕ → Type 0) (limit : D → ℕ) (was now : D) : Type 0 where
-  pub leaves : NoMore (images was) (images now)
-  pub room : limit now ≡ limit was
+pub record IsRead {D : Type 0} (device : Ghosts D) (was now : D) : Type 0 where
+  pub leaves : NoMore (device.images was) (device.images now)
+  pub room : device.limit now ≡ device.limit was
 
 -- the disk that was told is back unchanged as the one that is told: it was only read, and reads as it did
-pub record IsSameDisk {D : Type 0} (content : D → Option (List ℕ)) (images : D → List ℕ → Type 0) (limit : D → ℕ) (was is : D) : Type 0 where
-  pub read : IsRead images limit was is
-  pub same : content is ≡ content was
+pub record IsSameDisk {D : Type 0} (device : Ghosts D) (was is : D) : Type 0 where
+  pub read : IsRead device was is
+  pub same : device.content is ≡ device.content was
 
 -- of the disks that were told and are
-abbrev pub IsUnchanged : {D : Type 0} → (D → Option (List ℕ)) → (D → List ℕ → Type 0) → (D → ℕ) → Option D → Option D → Type 0
-IsUnchanged content images limit old new = OfTold old (λ was. OfTold new (λ is. IsSameDisk content images limit was is))
+abbrev pub IsUnchanged : {D : Type 0} → Ghosts D → Option D → Option D → Type 0
+IsUnchanged device old new = OfTold old (λ was. OfTold new (λ is. IsSameDisk device was is))
 
 -- so is that of each place
-abbrev pub AreUnchanged : {D : Type 0} → (D → Option (List ℕ)) → (D → List ℕ → Type 0) → (D → ℕ) → (ℕ → Option D) → (ℕ → Option D) → Type 0
-AreUnchanged content images limit old new = (n : ℕ) → IsUnchanged content images limit (old n) (new n)
+abbrev pub AreUnchanged : {D : Type 0} → Ghosts D → (ℕ → Option D) → (ℕ → Option D) → Type 0
+AreUnchanged device old new = (n : ℕ) → IsUnchanged device (old n) (new n)
 
 -- the disk was only read, and unless its count of faults rose it reads as it did
-pub record IsReturned {D : Type 0} (content : D → Option (List ℕ)) (images : D → List ℕ → Type 0) (limit : D → ℕ) (before now : ℕ) (was is : D) : Type 0 where
-  pub read : IsRead images limit was is
-  pub same : (Rose before now → ⊥) → content is ≡ content was
+pub record IsReturned {D : Type 0} (device : Ghosts D) (before now : ℕ) (was is : D) : Type 0 where
+  pub read : IsRead device was is
+  pub same : (Rose before now → ⊥) → device.content is ≡ device.content was
 
 -- the disk that was told is back as the one that is told
-abbrev pub IsBack : {D : Type 0} → (D → Option (List ℕ)) → (D → List ℕ → Type 0) → (D → ℕ) → ℕ → ℕ → Option D → Option D → Type 0
-IsBack content images limit before now old new = OfTold old (λ was. OfTold new (λ is. IsReturned content images limit before now was is))
+abbrev pub IsBack : {D : Type 0} → Ghosts D → ℕ → ℕ → Option D → Option D → Type 0
+IsBack device before now old new = OfTold old (λ was. OfTold new (λ is. IsReturned device before now was is))
 
 -- the same of each place
-abbrev pub AreBack : {D : Type 0} → (D → Option (List ℕ)) → (D → List ℕ → Type 0) → (D → ℕ) → (ℕ → ℕ) → (ℕ → ℕ) → (ℕ → Option D) → (ℕ → Option D) → Type 0
-AreBack content images limit before now old new = (n : ℕ) → IsBack content images limit (before n) (now n) (old n) (new n)
+abbrev pub AreBack : {D : Type 0} → Ghosts D → (ℕ → ℕ) → (ℕ → ℕ) → (ℕ → Option D) → (ℕ → Option D) → Type 0
+AreBack device before now old new = (n : ℕ) → IsBack device (before n) (now n) (old n) (new n)
 
 -- the disk that is told has as much room as the one that was told
-abbrev pub SameRoom : {D : Type 0} → (D → ℕ) → Option D → Option D → Type 0
-SameRoom limit old new = OfTold old (λ was. OfTold new (λ is. limit is ≡ limit was))
+abbrev pub SameRoom : {D : Type 0} → Ghosts D → Option D → Option D → Type 0
+SameRoom device old new = OfTold old (λ was. OfTold new (λ is. device.limit is ≡ device.limit was))
 
 -- where the disk that was told tells its content, whatever a crash may leave of the one that is told opens to just this journal
-abbrev pub StillHolds : {D : Type 0} → (D → Option (List ℕ)) → (D → List ℕ → Type 0) → Option D → Option D → Header → List Record → Type 0
-StillHolds content images old new h J = OfTold old (λ was. IsSome (content was) → OfTold new (λ is. (c : List ℕ) → images is c → IsNodeJournal h J c))
+abbrev pub StillHolds : {D : Type 0} → Ghosts D → Option D → Option D → Header → List Record → Type 0
+StillHolds device old new h J = OfTold old (λ was. IsSome (device.content was) → OfTold new (λ is. (c : List ℕ) → device.images is c → IsNodeJournal h J c))
 
 -- the node stands for what was told of its disk, which was only read and reads as it did
-pub record IsOpened {D N : Type 0} (content : D → Option (List ℕ)) (images : D → List ℕ → Type 0) (limit : D → ℕ) (disk_of : N → D) (opens : N → List ℕ → Type 0) (was : D) (node : N) : Type 0 where
-  pub stands : Tells (content was) (opens node)
-  pub same : content (disk_of node) ≡ content was
-  pub read : IsRead images limit was (disk_of node)
+pub record IsOpened {D N : Type 0} (device : Ghosts D) (disk_of : N → D) (opens : N → List ℕ → Type 0) (was : D) (node : N) : Type 0 where
+  pub stands : Tells (device.content was) (opens node)
+  pub same : device.content (disk_of node) ≡ device.content was
+  pub read : IsRead device was (disk_of node)
 
 -- a list goes on behind another one, and each item there has the property at its place
 pub record GoesOn {N : Type 0} (P : ℕ → N → Type 0) (first : ℕ) (front whole : List N) : Type 0 where

@@ -1,39 +1,23 @@
 -- Why a disk is no node of the kind that is asked for.
-use Rattle.std.specs.Prelude.{◌≡◌, ◌≢◌, ◌⊎◌, ◌+◌, ◌<◌, ◌≤◌, ℕ, List, reverse, Option}
+use Rattle.std.specs.Prelude.{◌≡◌, ◌≢◌, ◌⊎◌, ◌+◌, ◌≤◌, ℕ, List, Option}
 use Rattle.cbdc_types.specs.declared.answer.Answer.{Answer}
 use Rattle.cbdc_types.specs.declared.answer.Answer.TheVariants as answers
 use Rattle.cbdc_types.specs.declared.calls.NodeOpenFault.{NodeOpenFault}
 use Rattle.cbdc_types.specs.declared.calls.NodeOpenFault.TheVariants as faults
-use Rattle.cbdc_types.specs.Limits.{IsWithinLimits}
 use Rattle.cbdc_model.specs.Records.{Header, Record}
-use Rattle.cbdc_model.specs.After.{After, IsJournal}
 use Rattle.cbdc_model.specs.Room.{kept_room}
 use Rattle.cbdc_model.specs.Due.{used_of}
-use Rattle.record_log.specs.Held.{OpensTo, HasNoRecord, CutsOff}
+use Rattle.record_log.specs.Held.{HasNoRecord}
+use Rattle.node_journal.specs.Opening.{IsJournalOf, IsDamagedAt, IsTooFull}
 use Rattle.rack_ledgers.specs.Asked.{asked_of}
 
+-- a header of either kind
+abbrev pub IsAny : Header → Type 0
+IsAny h = Unit {0}
+
 -- the bytes open to just this journal of a node, of either kind, the newest record first
-pub record IsNodeJournal (h : Header) (J : List Record) (bytes : List ℕ) : Type 0 where
-  pub opens : OpensTo (reverse J) bytes
-  pub limits : IsWithinLimits h.shape
-  pub journal : IsJournal h J
-
--- behind a node's journal stands an open gate at this place, and no whole row of a next record
-pub record IsDamagedAt (at : ℕ) (bytes : List ℕ) : Type 0 where
-  pub header : Header
-  pub journal : List Record
-  pub limits : IsWithinLimits header.shape
-  pub is : IsJournal header journal
-  pub cut : CutsOff (After header journal) (reverse journal) at bytes
-
--- the bytes open to a node's journal, and its bytes with those that are kept for its batches pass the capacity
-pub record IsTooFull (used need capacity : ℕ) (bytes : List ℕ) : Type 0 where
-  pub header : Header
-  pub journal : List Record
-  pub is : IsNodeJournal header journal bytes
-  pub used_is : used ≡ used_of journal
-  pub need_is : need ≡ kept_room header.shape journal
-  pub passes : capacity < used + need
+abbrev pub IsNodeJournal : Header → List Record → List ℕ → Type 0
+IsNodeJournal h J bytes = IsJournalOf IsAny h J bytes
 
 -- the bytes open to the journal of a node with another header than the one asked, or of the other kind, and it has the room that its
 -- batches need
@@ -46,8 +30,8 @@ pub record IsForeign (Is : Header → Type 0) (limit : ℕ) (kept asked : Header
 -- why a disk with so much room and these bytes is no node of this kind and number, of the ledger with this header or of any
 abbrev pub IsNoNode : (Header → Type 0) → ℕ → Option Header → ℕ → List ℕ → Answer → Type 0
 IsNoNode Is node ledger limit bytes (answers.NotReady n) = (n ≡ node) × HasNoRecord bytes
-IsNoNode Is node ledger limit bytes (answers.Damaged n at) = (n ≡ node) × IsDamagedAt at bytes
-IsNoNode Is node ledger limit bytes (answers.Full n used need capacity) = (n ≡ node) × (capacity ≡ limit) × IsTooFull used need capacity bytes
+IsNoNode Is node ledger limit bytes (answers.Damaged n at) = (n ≡ node) × IsDamagedAt IsAny at bytes
+IsNoNode Is node ledger limit bytes (answers.Full n used need capacity) = (n ≡ node) × (capacity ≡ limit) × IsTooFull IsAny used need capacity bytes
 IsNoNode Is node ledger limit bytes (answers.Foreign n kept asked) = (n ≡ node) × (asked ≡ asked_of node ledger kept) × IsForeign Is limit kept asked bytes
 IsNoNode Is node ledger limit bytes (answers.DiskFault n) = n ≡ node
 IsNoNode Is node ledger limit bytes answers.Memory = Unit {0}

@@ -1,6 +1,7 @@
 -- The places of a rack whose nodes are opened beside each other.
 use Rattle.std.specs.Prelude.{◌≡◌, ◌≤◌, ◌<◌, ◌⊎◌, ◌+◌, ◌++◌, ℕ, List, [], ◌∷◌, length, Option, Some}
 use Rattle.outside.specs.Images.{Tells}
+use Rattle.outside.specs.declared.disk.Disk.{Ghosts}
 use Rattle.cbdc_types.specs.declared.answer.Answer.{Answer}
 use Rattle.cbdc_types.specs.declared.answer.Answer.TheVariants as answers
 use Rattle.cbdc_model.specs.Records.{Header}
@@ -49,19 +50,19 @@ pub record IsGrown {N : Type 0} (P : ℕ → N → Type 0) (first count : ℕ) (
   pub all : length more ≡ count
   pub each : EachFrom P first more
 
-module _ {D N : Type 0} (count : D → ℕ) (disk_of : N → D) where
+module _ {D N : Type 0} (device : Ghosts D) (disk_of : N → D) where
   -- how often the disk there has failed
   abbrev pub faults_in : Slot D N → ℕ
-  faults_in (slots.Waiting n d) = count d
-  faults_in (slots.Opened x) = count (disk_of x)
-  faults_in (slots.Refused d e) = count d
+  faults_in (slots.Waiting n d) = device.count d
+  faults_in (slots.Opened x) = device.count (disk_of x)
+  faults_in (slots.Refused d e) = device.count d
   faults_in slots.Gone = 0
 
   -- the disk there may be put back in its place
   abbrev pub MayPut : (ℕ → ℕ → Type 0) → ℕ → Slot D N → Type 0
-  MayPut can_put n (slots.Waiting m d) = MayReturn count can_put n d
-  MayPut can_put n (slots.Opened x) = MayReturn (λ y. count (disk_of y)) can_put n x
-  MayPut can_put n (slots.Refused d e) = MayReturn count can_put n d
+  MayPut can_put n (slots.Waiting m d) = MayReturn device.count can_put n d
+  MayPut can_put n (slots.Opened x) = MayReturn (λ y. device.count (disk_of y)) can_put n x
+  MayPut can_put n (slots.Refused d e) = MayReturn device.count can_put n d
   MayPut can_put n slots.Gone = ⊥
 
 -- there is a disk
@@ -77,29 +78,29 @@ IsDiskIn disk_of (slots.Refused x e) d = d ≡ x
 IsDiskIn disk_of slots.Gone d = ⊥
 
 -- the disk that was taken is the one that was told, and has failed no less often than its place
-pub record IsTakenDisk {D : Type 0} (count : D → ℕ) (held : ℕ → Option D) (before : ℕ → ℕ) (n : ℕ) (disk : D) : Type 0 where
+pub record IsTakenDisk {D : Type 0} (device : Ghosts D) (held : ℕ → Option D) (before : ℕ → ℕ) (n : ℕ) (disk : D) : Type 0 where
   pub told : OfTold (held n) (λ was. disk ≡ was)
-  pub counted : before n ≤ count disk
+  pub counted : before n ≤ device.count disk
 
 -- it waits to be opened as the node of its place
-abbrev pub IsTaken : {D N : Type 0} → (D → ℕ) → (ℕ → Option D) → (ℕ → ℕ) → ℕ → Slot D N → Type 0
-IsTaken count held before n (slots.Waiting m d) = (m ≡ n) × IsTakenDisk count held before n d
-IsTaken count held before n other = ⊥
+abbrev pub IsTaken : {D N : Type 0} → Ghosts D → (ℕ → Option D) → (ℕ → ℕ) → ℕ → Slot D N → Type 0
+IsTaken device held before n (slots.Waiting m d) = (m ≡ n) × IsTakenDisk device held before n d
+IsTaken device held before n other = ⊥
 
-module _ {D N : Type 0} (content : D → Option (List ℕ)) (images : D → List ℕ → Type 0) (limit count : D → ℕ) (disk_of : N → D) (opens : N → List ℕ → Type 0) (fits : ℕ → Option Header → N → Type 0) (refusals : Answer → Type 0) (refused : ℕ → Option Header → ℕ → List ℕ → Answer → Type 0) (h : Header) where
+module _ {D N : Type 0} (device : Ghosts D) (disk_of : N → D) (opens : N → List ℕ → Type 0) (fits : ℕ → Option Header → N → Type 0) (refusals : Answer → Type 0) (refused : ℕ → Option Header → ℕ → List ℕ → Answer → Type 0) (h : Header) where
   -- this disk was opened as this node of the ledger with this header
   pub record IsOpenOn (n : ℕ) (was : D) (node : N) : Type 0 where
     pub asked : fits n (Some h) node
-    pub since : count was ≤ count (disk_of node)
-    pub opened : IsOpened content images limit disk_of opens was node
+    pub since : device.count was ≤ device.count (disk_of node)
+    pub opened : IsOpened device disk_of opens was node
 
   -- this disk was refused as this node, and it came back so
   pub record IsRefusedOn (n : ℕ) (was is : D) (answer : Answer) : Type 0 where
     pub kind : refusals answer
-    pub fault : IsOpening n (count was) (count is) answer
-    pub later : count was ≤ count is
-    pub cause : Tells (content was) (λ c. refused n (Some h) (limit was) c answer)
-    pub back : IsReturned content images limit (count was) (count is) was is
+    pub fault : IsOpening n (device.count was) (device.count is) answer
+    pub later : device.count was ≤ device.count is
+    pub cause : Tells (device.content was) (λ c. refused n (Some h) (device.limit was) c answer)
+    pub back : IsReturned device (device.count was) (device.count is) was is
 
   -- what comes of a disk that waits
   abbrev pub CameOf : Slot D N → Slot D N → Type 0
@@ -110,12 +111,12 @@ module _ {D N : Type 0} (content : D → Option (List ℕ)) (images : D → List
   -- what came of the disk of a place
   pub record CameAt (held : ℕ → Option D) (before : ℕ → ℕ) (n : ℕ) (slot : Slot D N) : Type 0 where
     pub disk : D
-    pub taken : IsTakenDisk count held before n disk
+    pub taken : IsTakenDisk device held before n disk
     pub came : CameOf (slots.Waiting n disk) slot
 
   -- `OpensAt`, `FailsAt`: what is known of the node of a place that is open; and of an answer where it can't be opened
   abbrev pub OpensAt : (ℕ → Option D) → (ℕ → ℕ) → ℕ → N → Type 0
-  OpensAt held before n x = (fits n (Some h) x × (before n ≤ count (disk_of x))) × OfTold (held n) (λ was. IsOpened content images limit disk_of opens was x)
+  OpensAt held before n x = (fits n (Some h) x × (before n ≤ device.count (disk_of x))) × OfTold (held n) (λ was. IsOpened device disk_of opens was x)
 
   abbrev pub FailsAt : (ℕ → Option D) → (ℕ → ℕ) → (ℕ → ℕ) → ℕ → Answer → Type 0
-  FailsAt held before now n e = (refusals e × IsOpening n (before n) (now n) e) × OfTold (held n) (λ was. Tells (content was) (λ c. refused n (Some h) (limit was) c e))
+  FailsAt held before now n e = (refusals e × IsOpening n (before n) (now n) e) × OfTold (held n) (λ was. Tells (device.content was) (λ c. refused n (Some h) (device.limit was) c e))

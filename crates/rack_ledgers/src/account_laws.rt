@@ -5,7 +5,7 @@ use outside::Rack;
 
 /// Where the disks tell their contents, an audit by a mint and what was handed in has one verdict: what is told of the verdict determines it.
 pub fn one_verdict_law<R: Rack>(rack: &R)
-    ensures { HasOneVerdict R.Disk.content (R.held rack.now) }
+    ensures { HasOneVerdict R.Disk.Disk (R.held rack.now) }
 {}
 
 /// Where an audit finds all sound, the money of the ledger that the disks tell is accounted for, if its first records are those of the mint,
@@ -17,5 +17,5 @@ pub fn one_verdict_law<R: Rack>(rack: &R)
 /// hold exactly the hashes of its coins; no two inputs name one outpoint and no id is committed twice; every batch is finished alike on all its
 /// shards; where each of these transactions makes as much as it takes, the value is the value minted; the totals are those of this book.
 pub fn account_law<R: Rack>(rack: &R)
-    ensures { VerdictsAccount R.Disk.content (R.held rack.now) }
+    ensures { VerdictsAccount R.Disk.Disk (R.held rack.now) }
 {}

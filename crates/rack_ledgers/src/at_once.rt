@@ -41,10 +41,10 @@ fn take_disks<R: Rack, N: OnDisk<R::Disk>>(
     requires empty { room.items ≡ [] }
     requires waiting { (n : ℕ) → first ≤ n → n < first + count → R.can_take rack.old n }
     ensures some { length result.items ≤ count }
-    ensures taken { EachFrom (IsTaken R.Disk.count (R.held rack.old) (R.count rack.old)) first result.items }
+    ensures taken { EachFrom (IsTaken R.Disk.Disk (R.held rack.old) (R.count rack.old)) first result.items }
     ensures failed { length result.items < count → Rose (R.count rack.old (first + length result.items)) (R.count rack.new (first + length result.items)) }
     ensures others_held { (n : ℕ) → IsOutside first (first + length result.items) n → R.held rack.new n ≡ R.held rack.old n }
-    ensures out { EachFrom (MayPut R.Disk.count N.disk_of (R.can_put rack.new)) first result.items }
+    ensures out { EachFrom (MayPut R.Disk.Disk N.disk_of (R.can_put rack.new)) first result.items }
     ensures others_in { (n : ℕ) → IsOutside first (first + length result.items) n → R.can_take rack.old n → R.can_take rack.new n }
     ensures others_out { (n k : ℕ) → IsOutside first (first + count) n → R.can_put rack.old n k → R.can_put rack.new n k }
     ensures later { (n : ℕ) → R.count rack.old n ≤ R.count rack.new n }
@@ -78,7 +78,7 @@ fn open_slots<W: Threads + Sync, D: Disk + Send, N: OnDisk<D> + Send>(
     slots: &mut [Slot<D, N>],
 )
     requires { All IsWaiting slots.old }
-    ensures { (i : ℕ) (d : _) → i < length slots.old → CameOf D.content D.images D.limit D.count N.disk_of N.opens N.fits N.refusals N.refused ledger.now (slice_index_or slots.old i d) (slice_index_or slots.new i d) }
+    ensures { (i : ℕ) (d : _) → i < length slots.old → CameOf D.Disk N.disk_of N.opens N.fits N.refusals N.refused ledger.now (slice_index_or slots.old i d) (slice_index_or slots.new i d) }
 {
     let count = thread_count(rt, slots.len());
     thread::for_each_mut(
@@ -87,7 +87,7 @@ fn open_slots<W: Threads + Sync, D: Disk + Send, N: OnDisk<D> + Send>(
         count,
         &|_: usize, slot: &mut Slot<D, N>|
             requires { IsWaiting slot.old }
-            ensures { CameOf D.content D.images D.limit D.count N.disk_of N.opens N.fits N.refusals N.refused ledger.entry.now slot.old slot.new }
+            ensures { CameOf D.Disk N.disk_of N.opens N.fits N.refusals N.refused ledger.entry.now slot.old slot.new }
         { slot.open(alloc, ledger) },
     );
 }
@@ -101,7 +101,7 @@ fn open_list<W: Threads + Sync, D: Disk + Send, N: OnDisk<D> + Send>(
 ) -> Vec<Slot<D, N>>
     requires { All IsWaiting slots.items }
     ensures same { length result.items ≡ length slots.items }
-    ensures came { (i : ℕ) (d : _) → i < length slots.items → CameOf D.content D.images D.limit D.count N.disk_of N.opens N.fits N.refusals N.refused ledger.now (slice_index_or slots.items i d) (slice_index_or result.items i d) }
+    ensures came { (i : ℕ) (d : _) → i < length slots.items → CameOf D.Disk N.disk_of N.opens N.fits N.refusals N.refused ledger.now (slice_index_or slots.items i d) (slice_index_or result.items i d) }
 {
     let mut slots = slots;
     open_slots(rt, alloc, ledger, slots.as_mut_slice());
@@ -125,10 +125,10 @@ where
     requires empty { room.items ≡ [] }
     requires waiting { (n : ℕ) → first ≤ n → n < first + count → R.can_take rack.old n }
     ensures some { length result.items ≤ count }
-    ensures came { EachFrom (CameAt R.Disk.content R.Disk.images R.Disk.limit R.Disk.count N.disk_of N.opens N.fits N.refusals N.refused ledger.now (R.held rack.old) (R.count rack.old)) first result.items }
+    ensures came { EachFrom (CameAt R.Disk.Disk N.disk_of N.opens N.fits N.refusals N.refused ledger.now (R.held rack.old) (R.count rack.old)) first result.items }
     ensures failed { length result.items < count → Rose (R.count rack.old (first + length result.items)) (R.count rack.new (first + length result.items)) }
     ensures others_held { (n : ℕ) → IsOutside first (first + length result.items) n → R.held rack.new n ≡ R.held rack.old n }
-    ensures out { EachFrom (MayPut R.Disk.count N.disk_of (R.can_put rack.new)) first result.items }
+    ensures out { EachFrom (MayPut R.Disk.Disk N.disk_of (R.can_put rack.new)) first result.items }
     ensures others_in { (n : ℕ) → IsOutside first (first + length result.items) n → R.can_take rack.old n → R.can_take rack.new n }
     ensures others_out { (n k : ℕ) → IsOutside first (first + count) n → R.can_put rack.old n k → R.can_put rack.new n k }
     ensures later { (n : ℕ) → R.count rack.old n ≤ R.count rack.new n }
@@ -199,9 +199,9 @@ fn nodes_onto<D: Disk, N: OnDisk<D>>(slots: Vec<Slot<D, N>>, nodes: Vec<N>) -> V
 // Puts all disks back, the first of which has this place.
 fn put_back<R: Rack, N: OnDisk<R::Disk>>(rack: &mut R, first: u32, slots: Vec<Slot<R::Disk, N>>)
     requires few { first + length slots.items < 2 ^ 32 }
-    requires out { EachFrom (MayPut R.Disk.count N.disk_of (R.can_put rack.old)) first slots.items }
+    requires out { EachFrom (MayPut R.Disk.Disk N.disk_of (R.can_put rack.old)) first slots.items }
     ensures closed { EachFrom (λ n s. OfTold (R.held rack.new n) (IsDiskIn N.disk_of s)) first slots.items }
-    ensures counted { EachFrom (λ n s. faults_in R.Disk.count N.disk_of s ≤ R.count rack.new n) first slots.items }
+    ensures counted { EachFrom (λ n s. faults_in R.Disk.Disk N.disk_of s ≤ R.count rack.new n) first slots.items }
     ensures others_held { (n : ℕ) → IsOutside first (first + length slots.items) n → R.held rack.new n ≡ R.held rack.old n }
     ensures back { (n : ℕ) → first ≤ n → n < first + length slots.items → R.can_take rack.new n }
     ensures others_in { (n : ℕ) → IsOutside first (first + length slots.items) n → R.can_take rack.old n → R.can_take rack.new n }
@@ -231,16 +231,16 @@ where
     requires some { 0 < count }
     requires waiting { (n : ℕ) → first ≤ n → n < first + count → R.can_take rack.old n }
     ensures opened { IfOk result (λ v. IsGrown
-        (λ n x. OpensAt R.Disk.content R.Disk.images R.Disk.limit R.Disk.count N.disk_of N.opens N.fits N.refusals N.refused ledger.now (R.held rack.old) (R.count rack.old) n x
+        (λ n x. OpensAt R.Disk.Disk N.disk_of N.opens N.fits N.refusals N.refused ledger.now (R.held rack.old) (R.count rack.old) n x
         × MayReturn (λ y. R.Disk.count (N.disk_of y)) (R.can_put rack.new) n x)
         first count nodes.items v.items) }
     ensures same { IfErr result (λ e. e.0.items ≡ nodes.items) }
     ensures refusal { IfErr result (λ e. FailsFirst
-        (OpensAt R.Disk.content R.Disk.images R.Disk.limit R.Disk.count N.disk_of N.opens N.fits N.refusals N.refused ledger.now (R.held rack.old) (R.count rack.old))
-        (FailsAt R.Disk.content R.Disk.images R.Disk.limit R.Disk.count N.disk_of N.opens N.fits N.refusals N.refused ledger.now (R.held rack.old) (R.count rack.old) (R.count rack.new))
+        (OpensAt R.Disk.Disk N.disk_of N.opens N.fits N.refusals N.refused ledger.now (R.held rack.old) (R.count rack.old))
+        (FailsAt R.Disk.Disk N.disk_of N.opens N.fits N.refusals N.refused ledger.now (R.held rack.old) (R.count rack.old) (R.count rack.new))
         first (first + count) e.1) }
     ensures held { OnErr result ((n : ℕ) → first ≤ n → n < first + count
-        → IsBack R.Disk.content R.Disk.images R.Disk.limit (R.count rack.old n) (R.count rack.new n) (R.held rack.old n) (R.held rack.new n)) }
+        → IsBack R.Disk.Disk (R.count rack.old n) (R.count rack.new n) (R.held rack.old n) (R.held rack.new n)) }
     ensures others_held { (n : ℕ) → IsOutside first (first + count) n → R.held rack.new n ≡ R.held rack.old n }
     ensures back { OnErr result ((n : ℕ) → first ≤ n → n < first + count → R.can_take rack.new n) }
     ensures others_in { (n : ℕ) → IsOutside first (first + count) n → R.can_take rack.old n → R.can_take rack.new n }
@@ -282,19 +282,19 @@ where
     // Those that were open already come first, and each of the others is the node that was asked for and stands for what was told of its disk.
     ensures opened { IfOk result (λ v. GoesOn
         (λ n x. (N.fits n (Some ledger.now) x × (R.count rack.old n ≤ R.Disk.count (N.disk_of x)))
-        × OfTold (R.held rack.old n) (λ was. IsOpened R.Disk.content R.Disk.images R.Disk.limit N.disk_of N.opens was x))
+        × OfTold (R.held rack.old n) (λ was. IsOpened R.Disk.Disk N.disk_of N.opens was x))
         first nodes.items v.items) }
 
     // Why the first that can't be opened is not, and the disks are back.
     ensures refusal { IfErr result (FailsFirst
         (λ n x. (N.fits n (Some ledger.now) x × (R.count rack.old n ≤ R.Disk.count (N.disk_of x)))
-        × OfTold (R.held rack.old n) (λ was. IsOpened R.Disk.content R.Disk.images R.Disk.limit N.disk_of N.opens was x))
+        × OfTold (R.held rack.old n) (λ was. IsOpened R.Disk.Disk N.disk_of N.opens was x))
         (λ n e. (N.refusals e × IsOpening n (R.count rack.old n) (R.count rack.new n) e)
         × OfTold (R.held rack.old n) (λ was. Tells (R.Disk.content was) (λ c. N.refused n (Some ledger.now) (R.Disk.limit was) c e)))
         (first + length nodes.items) (first + count)) }
     ensures closed { OnErr result (EachFrom (λ n x. OfTold (R.held rack.new n) (λ now. now ≡ N.disk_of x)) first nodes.items) }
     ensures held { OnErr result ((n : ℕ) → first + length nodes.items ≤ n → n < first + count
-        → IsBack R.Disk.content R.Disk.images R.Disk.limit (R.count rack.old n) (R.count rack.new n) (R.held rack.old n) (R.held rack.new n)) }
+        → IsBack R.Disk.Disk (R.count rack.old n) (R.count rack.new n) (R.held rack.old n) (R.held rack.new n)) }
     ensures others_held { (n : ℕ) → IsOutside first (first + count) n → R.held rack.new n ≡ R.held rack.old n }
 
     ensures all { IfOk result (λ v. length v.items ≡ count) }

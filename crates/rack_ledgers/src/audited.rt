@@ -62,22 +62,22 @@ pub fn audit_on<W: Threads + Sync, R: Rack>(
 where
     R::Disk: Send,
     requires { (n : ℕ) → R.can_take rack.old n }
-    ensures audited { IfOk result (IsAudited R.Disk.content (R.held rack.old) mint.now handed.now) }
+    ensures audited { IfOk result (IsAudited R.Disk.Disk (R.held rack.old) mint.now handed.now) }
 
     // Whatever the verdict, each disk had room for its journal of the history that was audited, and for what is kept for the batches open there, and it
     // still holds that journal.
-    ensures room { IfOk result (λ v. (was : IsAudited R.Disk.content (R.held rack.old) mint.now handed.now v) × HistoryHasRoom R.Disk.limit (R.held rack.old) was.shape was.rows
-        × HistoryIsHeld R.Disk.content R.Disk.images (R.held rack.old) (R.held rack.new) was.shape (mint_id mint.now) was.rows) }
+    ensures room { IfOk result (λ v. (was : IsAudited R.Disk.Disk (R.held rack.old) mint.now handed.now v) × HistoryHasRoom R.Disk.Disk (R.held rack.old) was.shape was.rows
+        × HistoryIsHeld R.Disk.Disk (R.held rack.old) (R.held rack.new) was.shape (mint_id mint.now) was.rows) }
 
     // Where all is sound, no money was made, lost or spent twice, and the shards hold just what is left: the sentence.
-    ensures sentence { IfOk result (Accounts R.Disk.content (R.held rack.old) mint.now handed.now) }
+    ensures sentence { IfOk result (Accounts R.Disk.Disk (R.held rack.old) mint.now handed.now) }
 
     // Why there is no verdict.
-    ensures refusal { IfErr result (λ a. IsUnopenedBy R.Disk.content R.Disk.images R.Disk.limit R.Disk.count (R.held rack.old) (R.count rack.old) (R.count rack.new) (Some (mint_id mint.now)) a
+    ensures refusal { IfErr result (λ a. IsUnopenedBy R.Disk.Disk (R.held rack.old) (R.count rack.old) (R.count rack.new) (Some (mint_id mint.now)) a
         ⊎ (a ≡ Answer.Memory)) }
     ensures kind { IfErr result IsNodeRefusal }
-    ensures unchanged { OnOk result (AreUnchanged R.Disk.content R.Disk.images R.Disk.limit (R.held rack.old) (R.held rack.new)) }
-    ensures held { AreBack R.Disk.content R.Disk.images R.Disk.limit (R.count rack.old) (R.count rack.new) (R.held rack.old) (R.held rack.new) }
+    ensures unchanged { OnOk result (AreUnchanged R.Disk.Disk (R.held rack.old) (R.held rack.new)) }
+    ensures held { AreBack R.Disk.Disk (R.count rack.old) (R.count rack.new) (R.held rack.old) (R.held rack.new) }
     ensures back { (n : ℕ) → R.can_take rack.new n }
     ensures later { (n : ℕ) → R.count rack.old n ≤ R.count rack.new n }
 {

@@ -4,10 +4,9 @@ ghost use Rattle.std.specs.Option.{option_copied};
 ghost use Rattle.outside.specs.Counts.{Rose};
 ghost use Rattle.outside.specs.Images.{Tells, Leaves};
 ghost use Rattle.record_log.specs.Held.{HasRow};
-ghost use Rattle.coord_log.specs.Opening.{IsGenesis};
-ghost use Rattle.shard_node.specs.Opening.{IsStart};
+ghost use Rattle.coord_log.specs.Opening.{IsCoord, IsGenesis};
+ghost use Rattle.shard_node.specs.Opening.{IsShardHeader, IsStart};
 ghost use Rattle.rack_ledgers.specs.Places.{IsOpening};
-ghost use Rattle.rack_ledgers.specs.Asked.{IsCoordinator, IsShardNode};
 ghost use Rattle.rack_ledgers.specs.Refused.{IsNoNode, IsNodeRefusal};
 
 use crate::OnDisk;
@@ -25,7 +24,7 @@ fn shard_instead<D: Disk>(
     ledger: Option<&Header>,
     disk: D,
 ) -> (D, Answer)
-    ensures refusal { Tells (D.content disk) (λ c. HasRow IsGenesis c → IsNoNode IsCoordinator node (option_copied ledger.entry) (D.limit disk) c result.1) }
+    ensures refusal { Tells (D.content disk) (λ c. HasRow IsGenesis c → IsNoNode IsCoord node (option_copied ledger.entry) (D.limit disk) c result.1) }
     ensures kind { IsNodeRefusal result.1 }
     ensures fault { IsOpening node (D.count disk) (D.count result.0) result.1 }
     ensures later { D.count disk ≤ D.count result.0 }
@@ -49,7 +48,7 @@ fn coordinator_instead<D: Disk>(
     ledger: Option<&Header>,
     disk: D,
 ) -> (D, Answer)
-    ensures refusal { Tells (D.content disk) (λ c. HasRow IsStart c → IsNoNode IsShardNode node (option_copied ledger.entry) (D.limit disk) c result.1) }
+    ensures refusal { Tells (D.content disk) (λ c. HasRow IsStart c → IsNoNode IsShardHeader node (option_copied ledger.entry) (D.limit disk) c result.1) }
     ensures kind { IsNodeRefusal result.1 }
     ensures fault { IsOpening node (D.count disk) (D.count result.0) result.1 }
     ensures later { D.count disk ≤ D.count result.0 }
@@ -67,22 +66,18 @@ fn coordinator_instead<D: Disk>(
 }
 
 impl<D: Disk> OnDisk<D> for CoordLog<D> {
-    ghost use Rattle.coord_log.specs.Logs.{HoldsJournal};
-    ghost use Rattle.coord_log.specs.Opening.{IsCoordJournal};
-    ghost use Rattle.cbdc_model.specs.After.{IsJournal};
-    ghost use Rattle.cbdc_model.specs.Room.{kept_room};
-    ghost use Rattle.cbdc_model.specs.Due.{used_of};
-    ghost use Rattle.rack_ledgers.specs.Asked.{IsAsked, IsCoordinator};
+    ghost use Rattle.coord_log.specs.Opening.{IsCoord};
+    ghost use Rattle.rack_ledgers.specs.Fresh.{FitsNode, StandsNode};
     ghost use Rattle.rack_ledgers.specs.Refused.{IsNoNode, IsNodeRefusal};
-    ghost use Rattle.std.specs.Prelude.{◌≡◌, ◌+◌, ◌≤◌, None, refl};
+    ghost use Rattle.std.specs.Prelude.{refl};
 
     ghost disk_of = { λ n. n.disk };
 
-    ghost opens = { λ n c. IsCoordJournal n.header n.journal c × HoldsJournal D.content D.images n };
+    ghost opens = { λ n c. StandsNode D.Disk IsCoord n c };
 
-    ghost fits = { λ node ledger n. IsAsked node ledger n.header × IsCoordinator n.header × IsJournal n.header n.journal × (n.flight ≡ None) × (n.broken ≡ None) × (n.opened ≡ n.faults) × (n.faults ≡ D.count n.disk) × (n.capacity ≡ D.limit n.disk) × (used_of n.journal + kept_room n.header.shape n.journal ≤ n.capacity) };
+    ghost fits = { λ node ledger n. FitsNode D.Disk IsCoord node ledger n };
 
-    ghost refused = { λ node ledger limit c e. IsNoNode IsCoordinator node ledger limit c e };
+    ghost refused = { λ node ledger limit c e. IsNoNode IsCoord node ledger limit c e };
 
     ghost refusals = { λ e. IsNodeRefusal e };
 
@@ -118,22 +113,18 @@ impl<D: Disk> OnDisk<D> for CoordLog<D> {
 }
 
 impl<D: Disk> OnDisk<D> for ShardNode<D> {
-    ghost use Rattle.shard_node.specs.Shards.{HoldsJournal};
-    ghost use Rattle.shard_node.specs.Opening.{IsShardJournal};
-    ghost use Rattle.cbdc_model.specs.After.{IsJournal};
-    ghost use Rattle.cbdc_model.specs.Room.{kept_room};
-    ghost use Rattle.cbdc_model.specs.Due.{used_of};
-    ghost use Rattle.rack_ledgers.specs.Asked.{IsAsked, IsShardNode};
+    ghost use Rattle.shard_node.specs.Opening.{IsShardHeader};
+    ghost use Rattle.rack_ledgers.specs.Fresh.{FitsNode, StandsNode};
     ghost use Rattle.rack_ledgers.specs.Refused.{IsNoNode, IsNodeRefusal};
-    ghost use Rattle.std.specs.Prelude.{◌≡◌, ◌+◌, ◌≤◌, None, refl};
+    ghost use Rattle.std.specs.Prelude.{refl};
 
     ghost disk_of = { λ n. n.disk };
 
-    ghost opens = { λ n c. IsShardJournal n.header n.journal c × HoldsJournal D.content D.images n };
+    ghost opens = { λ n c. StandsNode D.Disk IsShardHeader n c };
 
-    ghost fits = { λ node ledger n. IsAsked node ledger n.header × IsShardNode n.header × IsJournal n.header n.journal × (n.flight ≡ None) × (n.broken ≡ None) × (n.opened ≡ D.count n.disk) × (used_of n.journal + kept_room n.header.shape n.journal ≤ D.limit n.disk) };
+    ghost fits = { λ node ledger n. FitsNode D.Disk IsShardHeader node ledger n };
 
-    ghost refused = { λ node ledger limit c e. IsNoNode IsShardNode node ledger limit c e };
+    ghost refused = { λ node ledger limit c e. IsNoNode IsShardHeader node ledger limit c e };
 
     ghost refusals = { λ e. IsNodeRefusal e };
 

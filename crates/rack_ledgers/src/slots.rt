@@ -23,7 +23,7 @@ fn come_of<D: Disk, N: OnDisk<D>>(
     ledger: &Header,
     disk: D,
 ) -> Slot<D, N>
-    ensures { CameOf D.content D.images D.limit D.count N.disk_of N.opens N.fits N.refusals N.refused ledger.now (Slot.Waiting node disk) result }
+    ensures { CameOf D.Disk N.disk_of N.opens N.fits N.refusals N.refused ledger.now (Slot.Waiting node disk) result }
 {
     match N::open_disk(alloc, node, Some(ledger), disk) {
         Ok(node) => Slot::Opened(node),
@@ -35,7 +35,7 @@ impl<D: Disk, N: OnDisk<D>> Slot<D, N> {
     /// Opens the disk that waits.
     pub(crate) fn open(&mut self, alloc: Global, ledger: &Header)
         requires { IsWaiting self.old }
-        ensures { CameOf D.content D.images D.limit D.count N.disk_of N.opens N.fits N.refusals N.refused ledger.now self.old self.new }
+        ensures { CameOf D.Disk N.disk_of N.opens N.fits N.refusals N.refused ledger.now self.old self.new }
     {
         let (node, disk) = match mem::replace(self, Slot::Gone) {
             Slot::Waiting(node, disk) => (node, disk),

@@ -2,6 +2,7 @@
 use Rattle.std.proofs.Common.{◌≡◌, ◌⊎◌, inl, inr, ℕ, ◌+◌, ◌<◌, ◌≤◌, List, length, reverse, Option, Some, None, sym, ◌∙◌, subst}
 use Rattle.std.specs.Prelude.{Result, Ok, Err, IfErr}
 use Rattle.outside.specs.Counts.{Rose}
+use Rattle.outside.specs.declared.disk.Disk.{Ghosts}
 use Rattle.cbdc_types.specs.declared.answer.Answer.{Answer}
 use Rattle.cbdc_types.specs.declared.answer.Answer.TheVariants as answers
 use Rattle.cbdc_model.specs.Records.{Shape, Header, Batch, Compact, Record, Row, journal, Prepare}
@@ -10,8 +11,7 @@ use Rattle.cbdc_model.specs.Lanes.{IsEnd}
 use Rattle.lane_driver.specs.declared.fault.LaneFault.{LaneFault}
 use Rattle.lane_driver.specs.declared.fault.LaneFaultKind.{LaneFaultKind}
 use Rattle.lane_driver.specs.declared.fault.LaneFaultKind.TheVariants.{DiskFault as DiskStopped, Full as NoRoom, ClockEnd as NoStamp, Memory as NoMemory}
-use Rattle.coord_log.specs.Logs.{LogOf}
-use Rattle.shard_node.specs.Shards.{ShardOf}
+use Rattle.node_journal.specs.Nodes.{NodeOf}
 use Rattle.rack_ledgers.specs.Racked.{OfTold, SameRoom}
 use Rattle.rack_ledgers.specs.Ledgers.{ByPlace, AreOpened}
 use Rattle.rack_ledgers.specs.Caused.{journals_of as lent_journals, AreCaused}
@@ -141,54 +141,54 @@ none_before o x none (inr now) = now
 
 -- ---- on a rack
 
-module _ {D : Type 0} (content : D → Option (List ℕ)) (images : D → List ℕ → Type 0) (limit count : D → ℕ) (held back : ℕ → Option D) (h g : Header)
-    (logs now : List (LogOf D)) (shards after : List (ShardOf D)) (are : AreOpened content images limit count held h logs shards) (caused : AreCaused h.shape (lent_journals logs shards))
+module _ {D : Type 0} (device : Ghosts D) (held back : ℕ → Option D) (h g : Header)
+    (logs now : List (NodeOf D)) (shards after : List (NodeOf D)) (are : AreOpened device held h logs shards) (caused : AreCaused h.shape (lent_journals logs shards))
     (is : IsLedger g now after) (shape : g.shape ≡ h.shape)
     (logs_back : ByPlace (λ n l. OfTold (back n) (λ d. d ≡ l.disk)) now) (shards_back : ByPlace (λ s x. OfTold (back (length now + s)) (λ d. d ≡ x.disk)) after)
-    (stored : AreStored content images logs shards → AreStored content images now after) (seen : AreSeen count limit now after) (before behind : ℕ → ℕ)
-    (logs_since : ByPlace (λ n l. before n ≤ count l.disk) logs) (shards_since : ByPlace (λ s x. before (h.shape.coordinators + s) ≤ count x.disk) shards)
-    (logs_counted : ByPlace (λ n l. count l.disk ≤ behind n) now) (shards_counted : ByPlace (λ s x. count x.disk ≤ behind (length now + s)) after) where
+    (stored : AreStored device.content device.images logs shards → AreStored device.content device.images now after) (seen : AreSeen device now after) (before behind : ℕ → ℕ)
+    (logs_since : ByPlace (λ n l. before n ≤ device.count l.disk) logs) (shards_since : ByPlace (λ s x. before (h.shape.coordinators + s) ≤ device.count x.disk) shards)
+    (logs_counted : ByPlace (λ n l. device.count l.disk ≤ behind n) now) (shards_counted : ByPlace (λ s x. device.count x.disk ≤ behind (length now + s)) after) where
   abbrev History : List Row
   History = reverse caused.rows
 
-  entry : journals_of count limit h.shape logs shards ≡ (λ n. journal n History)
-  entry = λ i n. same_journals content images limit count held h logs shards are caused n i
+  entry : journals_of h.shape logs shards ≡ (λ n. journal n History)
+  entry = λ i n. same_journals device held h logs shards are caused n i
 
   -- what is known at exit of the disks' counts since entry, and of what they may hold
   abbrev Rises : ℕ → Type 0
   Rises n = Rose (before n) (behind n)
 
   abbrev Holds : ℕ → ℕ → Type 0
-  Holds n c = OfTold (held n) (λ d. c ≡ limit d)
+  Holds n c = OfTold (held n) (λ d. c ≡ device.limit d)
 
-  risen : (n : ℕ) → n < node_count h.shape → HaveFailed (opened_of count limit h.shape logs shards) (faults_of count limit h.shape now after) n → Rises n
-  risen = have_risen content images limit count held h logs now shards after are g shape is seen.counts before behind logs_since shards_since logs_counted shards_counted
+  risen : (n : ℕ) → n < node_count h.shape → HaveFailed (opened_of h.shape logs shards) (faults_of h.shape now after) n → Rises n
+  risen = have_risen device held h logs now shards after are g shape is seen before behind logs_since shards_since logs_counted shards_counted
 
-  may : (n c : ℕ) → n < node_count h.shape → MayHold (capacity_of count limit h.shape logs shards) n c → Holds n c
-  may n c inside is_so = may_hold content images limit count held h logs shards are n c inside is_so
+  may : (n c : ℕ) → n < node_count h.shape → MayHold (capacity_of h.shape logs shards) n c → Holds n c
+  may n c inside is_so = may_hold device held h logs shards are n c inside is_so
 
   -- what the disks that are back have room for
-  rooms_back : HaveRoom limit back h.shape (journals_of count limit h.shape now after)
-  rooms_back = subst (λ k. HaveRoom limit back k (journals_of count limit k now after)) shape (rooms_each content images limit count back g now after is seen.log_rooms seen.shard_rooms logs_back shards_back)
+  rooms_back : HaveRoom device back h.shape (journals_of h.shape now after)
+  rooms_back = subst (λ k. HaveRoom device back k (journals_of k now after)) shape (rooms_each device back g now after is logs_back shards_back seen)
 
   -- what was taken, and how it was left
-  pub took : HaveRoom limit held h.shape (journals_of count limit h.shape logs shards) → ((n : ℕ) → n < node_count h.shape → SameRoom limit (held n) (back n)) → ((n : ℕ) → node_count h.shape ≤ n → back n ≡ held n)
-      → ((n : ℕ) → IsEnd (journals_of count limit h.shape logs shards n) (journals_of count limit h.shape now after n)) → AreChecked count limit h.shape now after → AreQuiet now after → TookLedger content images limit held back
+  pub took : HaveRoom device held h.shape (journals_of h.shape logs shards) → ((n : ℕ) → n < node_count h.shape → SameRoom device (held n) (back n)) → ((n : ℕ) → node_count h.shape ≤ n → back n ≡ held n)
+      → ((n : ℕ) → IsEnd (journals_of h.shape logs shards n) (journals_of h.shape now after n)) → AreChecked h.shape now after → AreQuiet now after → TookLedger device held back
   took room same_room spared grows checked quiet = record {
     ledger = record {
       shape = h.shape;
       genesis = h.genesis;
       rows = caused.rows;
-      history = told_history content images limit count held h logs shards are caused.rows caused.merged;
+      history = told_history device held h logs shards are caused.rows caused.merged;
       caused = caused.caused;
     };
-    room = subst (λ L. HaveRoom limit held h.shape L) entry room;
-    exit = journals_of count limit h.shape now after;
-    grows = subst (λ L. (n : ℕ) → IsEnd (L n) (journals_of count limit h.shape now after n)) entry grows;
-    caused = stays_caused content images limit count h g logs now shards after (is_ledger content images limit count held h logs shards are) is shape checked grows;
+    room = subst (λ L. HaveRoom device held h.shape L) entry room;
+    exit = journals_of h.shape now after;
+    grows = subst (λ L. (n : ℕ) → IsEnd (L n) (journals_of h.shape now after n)) entry grows;
+    caused = stays_caused device h g logs now shards after (is_ledger device held h logs shards are) is shape checked grows;
     disks = λ tells.
-        subst (λ k. HoldsEach images back k (journals_of count limit k now after)) shape
-        (holds_each content images limit count back g now after is (stored (told_stored content images limit count held h logs shards are tells)) logs_back shards_back quiet);
+        subst (λ k. HoldsEach device back k (journals_of k now after)) shape
+        (holds_each device back g now after is logs_back shards_back (stored (told_stored device held h logs shards are tells)) quiet);
     rooms = rooms_back;
     same_room = same_room;
     spared = spared;
@@ -196,50 +196,50 @@ module _ {D : Type 0} (content : D → Option (List ℕ)) (images : D → List �
 
   -- what was in flight flies where the disk has failed since
   abbrev Flown : Type 0
-  Flown = (n : ℕ) (r : Record) → flights_of count limit h.shape now after n ≡ Some r → HaveFailed (opened_of count limit h.shape logs shards) (faults_of count limit h.shape now after) n
+  Flown = (n : ℕ) (r : Record) → flights_of h.shape now after n ≡ Some r → HaveFailed (opened_of h.shape logs shards) (faults_of h.shape now after) n
 
-  pub lane_fault : {Done : Type 0} (d : Deed Done) → ((lane : ℕ) (txs : List Compact) → d.next h.shape (journals_of count limit h.shape logs shards) (journals_of count limit h.shape now after) lane txs → FitsBatch h.shape txs)
-      → LeavesAll d h.shape (journals_of count limit h.shape logs shards) (journals_of count limit h.shape now after) (flights_of count limit h.shape logs shards) (flights_of count limit h.shape now after)
-      (HaveFailed (opened_of count limit h.shape logs shards) (faults_of count limit h.shape now after)) → Flown → (a : Answer)
-      → IsLaneAnswer h.shape (d.next h.shape (journals_of count limit h.shape logs shards) (journals_of count limit h.shape now after)) (journals_of count limit h.shape logs shards) (journals_of count limit h.shape now after)
-      (HaveFailed (opened_of count limit h.shape logs shards) (faults_of count limit h.shape now after)) (MayHold (capacity_of count limit h.shape logs shards)) a
-      → IsLeastAnswer (EndsWork d h.shape (journals_of count limit h.shape logs shards) (journals_of count limit h.shape now after)
-      (HaveFailed (opened_of count limit h.shape logs shards) (faults_of count limit h.shape now after)) (MayHold (capacity_of count limit h.shape logs shards))) a
-      → HaveRoom limit held h.shape (journals_of count limit h.shape logs shards) → ((n : ℕ) → n < node_count h.shape → SameRoom limit (held n) (back n)) → AreChecked count limit h.shape now after
-      → OfShown content held (IsCutShort images limit back d.handed (journals_of count limit h.shape now after)) → ((n : ℕ) → node_count h.shape ≤ n → back n ≡ held n)
-      → IsLaneFault content images limit held back before behind d.next (EndsWork d) (BeginsWork d) d.handed a
+  pub lane_fault : {Done : Type 0} (d : Deed Done) → ((lane : ℕ) (txs : List Compact) → d.next h.shape (journals_of h.shape logs shards) (journals_of h.shape now after) lane txs → FitsBatch h.shape txs)
+      → LeavesAll d h.shape (journals_of h.shape logs shards) (journals_of h.shape now after) (flights_of h.shape logs shards) (flights_of h.shape now after)
+      (HaveFailed (opened_of h.shape logs shards) (faults_of h.shape now after)) → Flown → (a : Answer)
+      → IsLaneAnswer h.shape (d.next h.shape (journals_of h.shape logs shards) (journals_of h.shape now after)) (journals_of h.shape logs shards) (journals_of h.shape now after)
+      (HaveFailed (opened_of h.shape logs shards) (faults_of h.shape now after)) (MayHold (capacity_of h.shape logs shards)) a
+      → IsLeastAnswer (EndsWork d h.shape (journals_of h.shape logs shards) (journals_of h.shape now after)
+      (HaveFailed (opened_of h.shape logs shards) (faults_of h.shape now after)) (MayHold (capacity_of h.shape logs shards))) a
+      → HaveRoom device held h.shape (journals_of h.shape logs shards) → ((n : ℕ) → n < node_count h.shape → SameRoom device (held n) (back n)) → AreChecked h.shape now after
+      → OfShown device held (IsCutShort device back d.handed (journals_of h.shape now after)) → ((n : ℕ) → node_count h.shape ≤ n → back n ≡ held n)
+      → IsLaneFault device held back before behind d.next (EndsWork d) (BeginsWork d) d.handed a
   lane_fault d fits leaves flown a cause least room same_room checked kept spared =
       let K : Shape = h.shape in
-      let E : ℕ → List Record = journals_of count limit h.shape logs shards in
-      let X : ℕ → List Record = journals_of count limit h.shape now after in
-      let failed : ℕ → Type 0 = HaveFailed (opened_of count limit h.shape logs shards) (faults_of count limit h.shape now after) in
-      let holds : ℕ → ℕ → Type 0 = MayHold (capacity_of count limit h.shape logs shards) in
+      let E : ℕ → List Record = journals_of h.shape logs shards in
+      let X : ℕ → List Record = journals_of h.shape now after in
+      let failed : ℕ → Type 0 = HaveFailed (opened_of h.shape logs shards) (faults_of h.shape now after) in
+      let holds : ℕ → ℕ → Type 0 = MayHold (capacity_of h.shape logs shards) in
       record {
         ledger = record {
           shape = h.shape;
           genesis = h.genesis;
           rows = caused.rows;
-          history = told_history content images limit count held h logs shards are caused.rows caused.merged;
+          history = told_history device held h logs shards are caused.rows caused.merged;
           caused = caused.caused;
         };
         exit = X;
         grows = subst (λ L. (n : ℕ) → IsEnd (L n) (X n)) entry leaves.grows;
-        caused = stays_caused content images limit count h g logs now shards after (is_ledger content images limit count held h logs shards are) is shape checked leaves.grows;
+        caused = stays_caused device h g logs now shards after (is_ledger device held h logs shards are) is shape checked leaves.grows;
         prepared = subst (λ L. BeginsWork d K L X) entry (leaves.begun are.limits);
-        flights = flights_of count limit h.shape now after;
+        flights = flights_of h.shape now after;
         in_flight = λ n r inside there. risen n inside (flown n r there);
-        prepares = subst (λ L. (n t : ℕ) (b : Batch) (txs : List Compact) → n < node_count K → flights_of count limit h.shape now after n ≡ Some (Prepare t b txs) → IsLaneOf K b.lane × d.next K L X b.lane txs) entry
-            (λ n t b txs inside there. none_before (flights_of count limit h.shape logs shards n) (Prepare t b txs)
-            (none_fly content images limit count h.shape logs shards (are_quiet content images limit count held h logs shards are) n) (leaves.launches n t b txs there));
+        prepares = subst (λ L. (n t : ℕ) (b : Batch) (txs : List Compact) → n < node_count K → flights_of h.shape now after n ≡ Some (Prepare t b txs) → IsLaneOf K b.lane × d.next K L X b.lane txs) entry
+            (λ n t b txs inside there. none_before (flights_of h.shape logs shards n) (Prepare t b txs)
+            (none_fly h.shape logs shards (are_quiet device held h logs shards are) n) (leaves.launches n t b txs there));
         disks = λ tells.
-            subst (λ k. KeepsFlights images back k (journals_of count limit k now after) (flights_of count limit k now after)) shape
-            (keeps_flights content images limit count back g now after is (stored (told_stored content images limit count held h logs shards are tells)) logs_back shards_back);
+            subst (λ k. KeepsFlights device back k (journals_of k now after) (flights_of k now after)) shape
+            (keeps_flights device back g now after is logs_back shards_back (stored (told_stored device held h logs shards are tells)));
         cause = subst (λ L. IsLaneAnswer K (d.next K L X) L X Rises Holds a) entry (answer_by K failed Rises holds Holds risen may (d.next K E X) E X a cause);
         may_come = subst (λ L. MayComeNext K h.genesis (d.next K L X) L X) entry
-            (wants_there content images limit count h g logs now shards after (is_ledger content images limit count held h logs shards are) is shape checked (d.next K E X) fits);
+            (wants_there device h g logs now shards after (is_ledger device held h logs shards are) is shape checked (d.next K E X) fits);
         least = subst (λ L. IsLeastAnswer (EndsWork d K L X Rises Holds) a) entry (least_by K failed Rises holds Holds risen may d E X a least);
         rests = subst (λ L. AllRestSince K L X Rises) entry (rest_by K failed Rises holds Holds risen may E X leaves.rests);
-        room = subst (λ L. HaveRoom limit held K L) entry room;
+        room = subst (λ L. HaveRoom device held K L) entry room;
         same_room = same_room;
         rooms = rooms_back;
         kept = kept;
@@ -247,13 +247,13 @@ module _ {D : Type 0} (content : D → Option (List ℕ)) (images : D → List �
       }
 
 -- the same fault, said in other words of whose it is and of what has been begun
-pub fault_as : {D : Type 0} (content : D → Option (List ℕ)) (images : D → List ℕ → Type 0) (limit : D → ℕ) (held back : ℕ → Option D) (before now : ℕ → ℕ)
+pub fault_as : {D : Type 0} (device : Ghosts D) (held back : ℕ → Option D) (before now : ℕ → ℕ)
     (next : Shape → (ℕ → List Record) → (ℕ → List Record) → ℕ → List Compact → Type 0) (ends others : Shape → (ℕ → List Record) → (ℕ → List Record) → (ℕ → Type 0) → (ℕ → ℕ → Type 0) → LaneFault → Type 0)
     (begun starts : Shape → (ℕ → List Record) → (ℕ → List Record) → Type 0) (handed : List (List FullTx))
     → ((K : Shape) (E X : ℕ → List Record) (failed : ℕ → Type 0) (holds : ℕ → ℕ → Type 0) (e : LaneFault) → ends K E X failed holds e → others K E X failed holds e)
     → ((K : Shape) (E X : ℕ → List Record) → begun K E X → starts K E X)
-    → (a : Answer) → IsLaneFault content images limit held back before now next ends begun handed a → IsLaneFault content images limit held back before now next others starts handed a
-fault_as content images limit held back before now next ends others begun starts handed ends_as begun_as a f =
+    → (a : Answer) → IsLaneFault device held back before now next ends begun handed a → IsLaneFault device held back before now next others starts handed a
+fault_as device held back before now next ends others begun starts handed ends_as begun_as a f =
     let E : ℕ → List Record = λ n. journal n (reverse f.ledger.rows) in
     record {
       ledger = f.ledger;
@@ -277,8 +277,8 @@ fault_as content images limit held back before now next ends others begun starts
     }
   where
     Whose : (Shape → (ℕ → List Record) → (ℕ → List Record) → (ℕ → Type 0) → (ℕ → ℕ → Type 0) → LaneFault → Type 0) → Type 0
-    Whose which = IsLeastAnswer (which f.ledger.shape (λ n. journal n (reverse f.ledger.rows)) f.exit (λ n. Rose (before n) (now n)) (λ n c. OfTold (held n) (λ d. c ≡ limit d))) a
+    Whose which = IsLeastAnswer (which f.ledger.shape (λ n. journal n (reverse f.ledger.rows)) f.exit (λ n. Rose (before n) (now n)) (λ n c. OfTold (held n) (λ d. c ≡ device.limit d))) a
 
     go : Whose ends → Whose others
     go (inl memory) = inl memory
-    go (inr (e, is, so)) = inr (e, is, ends_as f.ledger.shape (λ n. journal n (reverse f.ledger.rows)) f.exit (λ n. Rose (before n) (now n)) (λ n c. OfTold (held n) (λ d. c ≡ limit d)) e so)
+    go (inr (e, is, so)) = inr (e, is, ends_as f.ledger.shape (λ n. journal n (reverse f.ledger.rows)) f.exit (λ n. Rose (before n) (now n)) (λ n c. OfTold (held n) (λ d. c ≡ device.limit d)) e so)

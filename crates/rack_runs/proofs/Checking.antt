@@ -1,13 +1,13 @@
 -- Opened nodes whose history is caused are checked.
 use Rattle.std.proofs.Common.{◌≡◌, inl, inr, ℕ, zero, suc, ◌+◌, ◌-◌, ◌<◌, ◌≤◌, false, nat_lt, if◌then◌else◌, List, [], ◌∷◌, length, reverse, refl, sym, ap, ◌∙◌, subst, arith, Option}
 use Rattle.std.proofs.lemmas.Bool.{cases_lt}
+use Rattle.outside.specs.declared.disk.Disk.{Ghosts}
 use Rattle.cbdc_model.specs.Records.{Digest, Shape, Header, Row, journal}
 use Rattle.cbdc_model.specs.After.{IsJournal}
 use Rattle.cbdc_model.specs.History.{Minted, header_of}
 use Rattle.cbdc_model.specs.Sights.{Sight}
 use Rattle.audit.specs.Walks.{AllCaused}
-use Rattle.coord_log.specs.Logs.{LogOf, sight}
-use Rattle.shard_node.specs.Shards.{ShardOf, sight_of}
+use Rattle.node_journal.specs.Nodes.{NodeOf, sight}
 use Rattle.node_ports.specs.Nodes.{sight_at}
 use Rattle.rack_ledgers.specs.Ledgers.{AreOpened}
 use Rattle.rack_laws.proofs.Opened.{at_place}
@@ -36,40 +36,40 @@ beyond_all see [] n h = refl
 beyond_all see (x ∷ xs) zero h = absurd (omega (arith, h))
 beyond_all see (x ∷ xs) (suc n) h = beyond_all see xs n (omega (arith, h))
 
-module _ {D : Type 0} (content : D → Option (List ℕ)) (images : D → List ℕ → Type 0) (limit count : D → ℕ) (held : ℕ → Option D) (h : Header) (logs : List (LogOf D)) (shards : List (ShardOf D))
-    (are : AreOpened content images limit count held h logs shards) (caused : AreCaused h.shape (lent_journals logs shards)) where
+module _ {D : Type 0} (device : Ghosts D) (held : ℕ → Option D) (h : Header) (logs shards : List (NodeOf D))
+    (are : AreOpened device held h logs shards) (caused : AreCaused h.shape (lent_journals logs shards)) where
   abbrev History : List Row
   History = reverse caused.rows
 
   -- the journals are those of the history
-  at_log : (n : ℕ) → n < h.shape.coordinators → journals_of count limit h.shape logs shards n ≡ journal n History
+  at_log : (n : ℕ) → n < h.shape.coordinators → journals_of h.shape logs shards n ≡ journal n History
   at_log n low =
       let l = at_place logs n (omega (arith, low, are.coordinators)) in
-      log_seen content images limit count h.shape logs shards n l.0 low l.1 ∙ log_told logs shards caused.rows caused.merged n l.0 l.1
+      log_seen h.shape logs shards n l.0 low l.1 ∙ log_told logs shards caused.rows caused.merged n l.0 l.1
 
-  at_shard : (s : ℕ) → s < h.shape.shards → journals_of count limit h.shape logs shards (h.shape.coordinators + s) ≡ journal (h.shape.coordinators + s) History
+  at_shard : (s : ℕ) → s < h.shape.shards → journals_of h.shape logs shards (h.shape.coordinators + s) ≡ journal (h.shape.coordinators + s) History
   at_shard s low =
       let x = at_place shards s (omega (arith, low, are.shards_are)) in
-      shard_seen content images limit count h.shape logs shards s x.0 x.1 ∙ shard_told logs shards caused.rows caused.merged s x.0 x.1 ∙ ap (λ k. journal (k + s) History) are.coordinators
+      shard_seen h.shape logs shards s x.0 x.1 ∙ shard_told logs shards caused.rows caused.merged s x.0 x.1 ∙ ap (λ k. journal (k + s) History) are.coordinators
 
   no_node : (n : ℕ) → h.shape.coordinators + h.shape.shards ≤ n → journal n History ≡ []
   no_node n past = none_told logs shards caused.rows caused.merged n (omega (arith, past, are.coordinators, are.shards_are))
 
-  past_all : (n : ℕ) → h.shape.coordinators + h.shape.shards ≤ n → journals_of count limit h.shape logs shards n ≡ journal n History
+  past_all : (n : ℕ) → h.shape.coordinators + h.shape.shards ≤ n → journals_of h.shape logs shards n ≡ journal n History
   past_all n past =
-      ap (λ b. if b then (sight_at sight logs n).seen else (sight_at (sight_of count limit) shards (n - h.shape.coordinators)).seen) (high past)
-      ∙ beyond_all (sight_of count limit) shards (n - h.shape.coordinators) (omega (arith, past, are.shards_are)) ∙ sym (no_node n past)
+      ap (λ b. if b then (sight_at sight logs n).seen else (sight_at sight shards (n - h.shape.coordinators)).seen) (high past)
+      ∙ beyond_all sight shards (n - h.shape.coordinators) (omega (arith, past, are.shards_are)) ∙ sym (no_node n past)
     where
       high : h.shape.coordinators + h.shape.shards ≤ n → nat_lt n h.shape.coordinators ≡ false
       high p = grind (arith, p)
 
-  pub same_journals : (n : ℕ) → journals_of count limit h.shape logs shards n ≡ journal n History
+  pub same_journals : (n : ℕ) → journals_of h.shape logs shards n ≡ journal n History
   same_journals n = elim (cases_lt n h.shape.coordinators) [
     | inl low ↦ at_log n low
     | inr high ↦ elim (cases_lt n (h.shape.coordinators + h.shape.shards)) [
       | inl inside ↦
           let place : h.shape.coordinators + (n - h.shape.coordinators) ≡ n = omega (arith, high) in
-          subst (λ k. journals_of count limit h.shape logs shards k ≡ journal k History) place (at_shard (n - h.shape.coordinators) (omega (arith, high, inside)))
+          subst (λ k. journals_of h.shape logs shards k ≡ journal k History) place (at_shard (n - h.shape.coordinators) (omega (arith, high, inside)))
       | inr past ↦ past_all n past
     ]
   ]
@@ -96,8 +96,8 @@ module _ {D : Type 0} (content : D → Option (List ℕ)) (images : D → List �
         subst (λ k. IsJournal (header_of h.shape h.genesis k) (journal k History)) place (shard_is (n - h.shape.coordinators) (omega (arith, high, inside)))
   ]
 
-  pub opened_checked : AreChecked count limit h.shape logs shards
+  pub opened_checked : AreChecked h.shape logs shards
   opened_checked =
       let c = checked_rows h.shape h.genesis are.limits.some_shard History caused.caused (record { nodes = each_is; others = no_node }) in
-      let all : (λ n. journal n History) ≡ journals_of count limit h.shape logs shards = λ i n. sym (same_journals n) i in
+      let all : (λ n. journal n History) ≡ journals_of h.shape logs shards = λ i n. sym (same_journals n) i in
       (c.0, subst (λ J. CheckedJournals h.shape c.0 J) all c.1)

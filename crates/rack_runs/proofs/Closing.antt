@@ -2,12 +2,12 @@
 use Rattle.std.proofs.Common.{◌≡◌, ◌⊎◌, inr, ℕ, [], ◌+◌, ◌^◌, ◌<◌, ◌≤◌, List, length, Option, Result, Ok, Err, Some, sym, ap, ◌∙◌, subst, arith}
 use Rattle.std.specs.Prelude.{map, IfOk, IfErr}
 use Rattle.std.specs.Global.{Vec}
+use Rattle.outside.specs.declared.disk.Disk.{Ghosts}
 use Rattle.cbdc_types.specs.declared.answer.Answer.{Answer}
 use Rattle.cbdc_types.specs.declared.answer.Answer.TheVariants as answers
 use Rattle.cbdc_model.specs.Records.{Header, Record}
 use Rattle.cbdc_model.specs.Sights.{HasRisen}
-use Rattle.coord_log.specs.Logs.{LogOf}
-use Rattle.shard_node.specs.Shards.{ShardOf}
+use Rattle.node_journal.specs.Nodes.{NodeOf}
 use Rattle.lane_driver.specs.declared.fault.LaneFault.{LaneFault}
 use Rattle.recovery.specs.declared.resumed.ResumedBatch.{ResumedBatch}
 use Rattle.rack_ledgers.specs.Places.{EachFrom, MayReturn}
@@ -30,63 +30,63 @@ use Rattle.rack_runs.proofs.Flown.{all_flown}
 use Rattle.rack_runs.proofs.Answering.{came_badly, took, lane_fault}
 use Rattle.rack_runs.proofs.Ledgers.{opened_room, ended, cut_short}
 
-module _ {D Done : Type 0} (content : D → Option (List ℕ)) (images : D → List ℕ → Type 0) (limit count : D → ℕ) (held : ℕ → Option D) (h g : Header) (logs now : List (LogOf D)) (shards after : List (ShardOf D))
-    (deed : Deed Done) (resumed : List ResumedBatch) (came : Result Done LaneFault) (are : AreOpened content images limit count held h logs shards) (is : IsLedger g now after) (seen : AreSeen count limit now after)
-    (ran : HasRun count limit content images deed (ledger_of h logs shards) (ledger_of g now after) resumed came) where
+module _ {D Done : Type 0} (device : Ghosts D) (held : ℕ → Option D) (h g : Header) (logs now : List (NodeOf D)) (shards after : List (NodeOf D))
+    (deed : Deed Done) (resumed : List ResumedBatch) (came : Result Done LaneFault) (are : AreOpened device held h logs shards) (is : IsLedger g now after) (seen : AreSeen device now after)
+    (ran : HasRun device deed (ledger_of h logs shards) (ledger_of g now after) resumed came) where
   shape : g.shape ≡ h.shape
   shape = ran.keeps_ledger.shape_same
 
   abbrev E : ℕ → List Record
-  E = journals_of count limit h.shape logs shards
+  E = journals_of h.shape logs shards
 
   abbrev X : ℕ → List Record
-  X = journals_of count limit h.shape now after
+  X = journals_of h.shape now after
 
   abbrev F : ℕ → Option Record
-  F = flights_of count limit h.shape logs shards
+  F = flights_of h.shape logs shards
 
   abbrev failed : ℕ → Type 0
-  failed = HaveFailed (opened_of count limit h.shape logs shards) (faults_of count limit h.shape now after)
+  failed = HaveFailed (opened_of h.shape logs shards) (faults_of h.shape now after)
 
   abbrev holds : ℕ → ℕ → Type 0
-  holds = MayHold (capacity_of count limit h.shape logs shards)
+  holds = MayHold (capacity_of h.shape logs shards)
 
   -- by what was known of the nodes before
-  opened_at : (n : ℕ) → opened_of count limit h.shape now after n ≡ opened_of count limit h.shape logs shards n
-  opened_at = subst (λ k. (n : ℕ) → opened_of count limit k now after n ≡ opened_of count limit h.shape logs shards n) shape ran.keeps_ledger.opened_same
+  opened_at : (n : ℕ) → opened_of h.shape now after n ≡ opened_of h.shape logs shards n
+  opened_at = subst (λ k. (n : ℕ) → opened_of k now after n ≡ opened_of h.shape logs shards n) shape ran.keeps_ledger.opened_same
 
-  opened_is : opened_of count limit h.shape now after ≡ opened_of count limit h.shape logs shards
+  opened_is : opened_of h.shape now after ≡ opened_of h.shape logs shards
   opened_is = λ i n. opened_at n i
 
-  capacity_at : (n : ℕ) → capacity_of count limit h.shape now after n ≡ capacity_of count limit h.shape logs shards n
-  capacity_at = subst (λ k. (n : ℕ) → capacity_of count limit k now after n ≡ capacity_of count limit h.shape logs shards n) shape ran.keeps_ledger.capacity_same
+  capacity_at : (n : ℕ) → capacity_of h.shape now after n ≡ capacity_of h.shape logs shards n
+  capacity_at = subst (λ k. (n : ℕ) → capacity_of k now after n ≡ capacity_of h.shape logs shards n) shape ran.keeps_ledger.capacity_same
 
-  capacity_is : capacity_of count limit h.shape now after ≡ capacity_of count limit h.shape logs shards
+  capacity_is : capacity_of h.shape now after ≡ capacity_of h.shape logs shards
   capacity_is = λ i n. capacity_at n i
 
-  leaves : LeavesAll deed h.shape E X F (flights_of count limit h.shape now after) failed
-  leaves = subst (λ o. LeavesAll deed h.shape E X F (flights_of count limit h.shape now after) (HaveFailed o (faults_of count limit h.shape now after))) opened_is
-      (subst (λ k. LeavesAll deed h.shape E (journals_of count limit k now after) F (flights_of count limit k now after) (HaveFailed (opened_of count limit k now after) (faults_of count limit k now after))) shape ran.leaves)
+  leaves : LeavesAll deed h.shape E X F (flights_of h.shape now after) failed
+  leaves = subst (λ o. LeavesAll deed h.shape E X F (flights_of h.shape now after) (HaveFailed o (faults_of h.shape now after))) opened_is
+      (subst (λ k. LeavesAll deed h.shape E (journals_of k now after) F (flights_of k now after) (HaveFailed (opened_of k now after) (faults_of k now after))) shape ran.leaves)
 
   well : IfOk came (AllWell deed h.shape E X resumed)
-  well = subst (λ k. IfOk came (AllWell deed h.shape E (journals_of count limit k now after) resumed)) shape ran.well
+  well = subst (λ k. IfOk came (AllWell deed h.shape E (journals_of k now after) resumed)) shape ran.well
 
   badly : IfErr came (AllBadly deed h.shape E X failed holds)
   badly = subst (λ c. IfErr came (AllBadly deed h.shape E X failed (MayHold c))) capacity_is
-      (subst (λ o. IfErr came (AllBadly deed h.shape E X (HaveFailed o (faults_of count limit h.shape now after)) (MayHold (capacity_of count limit h.shape now after)))) opened_is
-      (subst (λ k. IfErr came (AllBadly deed h.shape E (journals_of count limit k now after) (HaveFailed (opened_of count limit k now after) (faults_of count limit k now after)) (MayHold (capacity_of count limit k now after)))) shape ran.badly))
+      (subst (λ o. IfErr came (AllBadly deed h.shape E X (HaveFailed o (faults_of h.shape now after)) (MayHold (capacity_of h.shape now after)))) opened_is
+      (subst (λ k. IfErr came (AllBadly deed h.shape E (journals_of k now after) (HaveFailed (opened_of k now after) (faults_of k now after)) (MayHold (capacity_of k now after)))) shape ran.badly))
 
-  checked : AreChecked count limit h.shape now after
-  checked = subst (λ k. AreChecked count limit k now after) shape ran.checked
+  checked : AreChecked h.shape now after
+  checked = subst (λ k. AreChecked k now after) shape ran.checked
 
-  later : (n : ℕ) → faults_of count limit h.shape logs shards n ≤ faults_of count limit h.shape now after n
-  later = subst (λ k. (n : ℕ) → faults_of count limit h.shape logs shards n ≤ faults_of count limit k now after n) shape ran.keeps_ledger.later
+  later : (n : ℕ) → faults_of h.shape logs shards n ≤ faults_of h.shape now after n
+  later = subst (λ k. (n : ℕ) → faults_of h.shape logs shards n ≤ faults_of k now after n) shape ran.keeps_ledger.later
 
-  stored : AreStored content images logs shards → AreStored content images now after
+  stored : AreStored device.content device.images logs shards → AreStored device.content device.images now after
   stored = ran.keeps_ledger.held
 
-  flown : (n : ℕ) (r : Record) → flights_of count limit h.shape now after n ≡ Some r → failed n
-  flown n r there = subst (λ o. HasRisen o (faults_of count limit h.shape now after n)) (opened_at n) (all_flown count limit h.shape now after seen.log_flown seen.shard_flown n r there)
+  flown : (n : ℕ) (r : Record) → flights_of h.shape now after n ≡ Some r → failed n
+  flown n r there = subst (λ o. HasRisen o (faults_of h.shape now after n)) (opened_at n) (all_flown device h.shape now after seen n r there)
 
   -- as many nodes as before
   pub logs_are : length now ≡ length logs
@@ -96,35 +96,35 @@ module _ {D Done : Type 0} (content : D → Option (List ℕ)) (images : D → L
   shards_are = is.shards_are ∙ (ap (λ k. k.shards) shape ∙ sym are.shards_are)
 
   -- whose disks may be put back
-  pub logs_may : (can : ℕ → ℕ → Type 0) → EachFrom (MayReturn (λ x. count x.disk) can) 0 logs → EachFrom (MayReturn (λ x. count x.disk) can) 0 now
-  logs_may can = logs_return content images limit count held h logs now shards after are g shape is later can seen.counts
+  pub logs_may : (can : ℕ → ℕ → Type 0) → EachFrom (MayReturn (λ x. device.count x.disk) can) 0 logs → EachFrom (MayReturn (λ x. device.count x.disk) can) 0 now
+  logs_may can = logs_return device held h logs now shards after are g shape is later seen can
 
-  pub shards_may : (can : ℕ → ℕ → Type 0) → EachFrom (MayReturn (λ x. count x.disk) can) (length logs) shards → EachFrom (MayReturn (λ x. count x.disk) can) (length now) after
-  shards_may can = shards_return content images limit count held h logs now shards after are g shape is later can
+  pub shards_may : (can : ℕ → ℕ → Type 0) → EachFrom (MayReturn (λ x. device.count x.disk) can) (length logs) shards → EachFrom (MayReturn (λ x. device.count x.disk) can) (length now) after
+  shards_may can = shards_return device held h logs now shards after are g shape is later seen can
 
   module _ (caused : AreCaused h.shape (lent_journals logs shards)) (middle back : ℕ → Option D)
       (logs_back : ByPlace (λ n l. OfTold (back n) (λ d. d ≡ l.disk)) now) (shards_back : ByPlace (λ s x. OfTold (back (length now + s)) (λ d. d ≡ x.disk)) after) (before behind : ℕ → ℕ)
-      (logs_since : ByPlace (λ n l. before n ≤ count l.disk) logs) (shards_since : ByPlace (λ s x. before (h.shape.coordinators + s) ≤ count x.disk) shards)
-      (logs_counted : ByPlace (λ n l. count l.disk ≤ behind n) now) (shards_counted : ByPlace (λ s x. count x.disk ≤ behind (length now + s)) after)
+      (logs_since : ByPlace (λ n l. before n ≤ device.count l.disk) logs) (shards_since : ByPlace (λ s x. before (h.shape.coordinators + s) ≤ device.count x.disk) shards)
+      (logs_counted : ByPlace (λ n l. device.count l.disk ≤ behind n) now) (shards_counted : ByPlace (λ s x. device.count x.disk ≤ behind (length now + s)) after)
       (others_taken : (n : ℕ) → length logs + length shards ≤ n → middle n ≡ held n) (others_put : (n : ℕ) → length now + length after ≤ n → back n ≡ middle n) where
     spared : (n : ℕ) → node_count h.shape ≤ n → back n ≡ held n
     spared n le = others_put n (omega (arith, le, logs_are, shards_are, are.coordinators, are.shards_are)) ∙ others_taken n (omega (arith, le, are.coordinators, are.shards_are))
 
-    room : HaveRoom limit held h.shape E
-    room = opened_room content images limit count held back h g logs now shards after deed are is shape logs_back shards_back stored
+    room : HaveRoom device held h.shape E
+    room = opened_room device held back h g logs now shards after deed are is shape logs_back shards_back stored
 
-    same_room : (n : ℕ) → n < node_count h.shape → SameRoom limit (held n) (back n)
-    same_room = rooms_same content images limit count held back h logs now shards after are g shape is seen.capacities logs_back shards_back capacity_at
+    same_room : (n : ℕ) → n < node_count h.shape → SameRoom device (held n) (back n)
+    same_room = rooms_same device held back h logs now shards after are g shape is seen logs_back shards_back capacity_at
 
     -- what came of it, and what that leaves of the disks
     pub done : (told : Result (Told Done) Answer) → IfErr told (λ a. (a ≡ answers.Memory) ⊎ ((e : LaneFault) × (came ≡ Err e) × (a ≡ answer_to e))) → IfOk told (λ t. (t.resumed.items ≡ resumed) × (came ≡ Ok t.done))
-        → IfOk told (λ t. CountAll (map (λ s. s.journal) after) t.unspent) → AllFit deed → HasDone content images limit count held back before behind deed told
+        → IfOk told (λ t. CountAll (map (λ s. s.journal) after) t.unspent) → AllFit deed → HasDone device held back before behind deed told
     done (Ok t) fault same unspent fits =
         let quiet : AreQuiet logs shards → AreQuiet now after = when_whole came t.done same.1 ran.quiet in
         record {
-          caused = took content images limit count held back h g logs now shards after are caused is shape logs_back shards_back stored seen before behind logs_since shards_since logs_counted shards_counted
-              room same_room spared leaves.grows checked (quiet (are_quiet content images limit count held h logs shards are));
-          ended = ended content images limit count held back h g logs now shards after deed are is shape logs_back shards_back stored t leaves.keeps (leaves.begun are.limits).1 seen.log_rooms seen.shard_rooms quiet
+          caused = took device held back h g logs now shards after are caused is shape logs_back shards_back stored seen before behind logs_since shards_since logs_counted shards_counted
+              room same_room spared leaves.grows checked (quiet (are_quiet device held h logs shards are));
+          ended = ended device held back h g logs now shards after deed are is shape logs_back shards_back stored t leaves.keeps (leaves.begun are.limits).1 seen quiet
               (subst (λ r. AllWell deed h.shape E X r t.done) (sym same.0) (of_whole (AllWell deed h.shape E X resumed) came t.done same.1 well)) unspent;
           stopped = tt;
         }
@@ -134,55 +134,55 @@ module _ {D Done : Type 0} (content : D → Option (List ℕ)) (images : D → L
         record {
           caused = tt;
           ended = tt;
-          stopped = inr (lane_fault content images limit count held back h g logs now shards after are caused is shape logs_back shards_back stored seen before behind logs_since shards_since logs_counted shards_counted
+          stopped = inr (lane_fault device held back h g logs now shards after are caused is shape logs_back shards_back stored seen before behind logs_since shards_since logs_counted shards_counted
               deed (fits h.shape E X) leaves flown a bad.0 bad.1 room same_room checked
-              (cut_short content images limit count held back h g logs now shards after deed are is shape logs_back shards_back stored leaves.keeps leaves.flies seen.log_rooms seen.shard_rooms seen.log_fits seen.shard_fits)
+              (cut_short device held back h g logs now shards after deed are is shape logs_back shards_back stored leaves.keeps leaves.flies seen)
               spared);
         }
 
 -- the same from what a rack told at entry
-module _ {D Done : Type 0} (content : D → Option (List ℕ)) (images : D → List ℕ → Type 0) (limit count : D → ℕ) (deed : Deed Done) (e : AtEntry D) (middle : ℕ → Option D) (can_put : ℕ → ℕ → Type 0) (can_take : ℕ → Type 0)
-    (g : Header) (now : List (LogOf D)) (after : List (ShardOf D)) (is : IsLedger g now after) (seen : AreSeen count limit now after) (behind : LedgerOf D) (same : behind ≡ ledger_of g now after)
-    (resumed : List ResumedBatch) (came : Result Done LaneFault) (has : HasCome content images limit count deed e middle can_put can_take behind resumed came) where
-  there : HasRun count limit content images deed (ledger_of e.header e.logs e.shards) (ledger_of g now after) resumed came
-  there = subst (λ l. HasRun count limit content images deed (ledger_of e.header e.logs e.shards) l resumed came) same has.ran
+module _ {D Done : Type 0} (device : Ghosts D) (deed : Deed Done) (e : AtEntry D) (middle : ℕ → Option D) (can_put : ℕ → ℕ → Type 0) (can_take : ℕ → Type 0)
+    (g : Header) (now : List (NodeOf D)) (after : List (NodeOf D)) (is : IsLedger g now after) (seen : AreSeen device now after) (behind : LedgerOf D) (same : behind ≡ ledger_of g now after)
+    (resumed : List ResumedBatch) (came : Result Done LaneFault) (has : HasCome device deed e middle can_put can_take behind resumed came) where
+  there : HasRun device deed (ledger_of e.header e.logs e.shards) (ledger_of g now after) resumed came
+  there = subst (λ l. HasRun device deed (ledger_of e.header e.logs e.shards) l resumed came) same has.ran
 
   as_many : (length now ≡ length e.logs) × (length after ≡ length e.shards)
   as_many = (
-    logs_are content images limit count e.held e.header g e.logs now e.shards after deed resumed came has.begun.nodes is seen there,
-    shards_are content images limit count e.held e.header g e.logs now e.shards after deed resumed came has.begun.nodes is seen there,
+    logs_are device e.held e.header g e.logs now e.shards after deed resumed came has.begun.nodes is seen there,
+    shards_are device e.held e.header g e.logs now e.shards after deed resumed came has.begun.nodes is seen there,
   )
 
   pub close_few : length now + length after < 2 ^ 32
   close_few = omega (arith, has.begun.few, as_many.0, as_many.1)
 
-  pub close_logs : EachFrom (MayReturn (λ x. count x.disk) can_put) 0 now
-  close_logs = logs_may content images limit count e.held e.header g e.logs now e.shards after deed resumed came has.begun.nodes is seen there can_put has.begun.logs
+  pub close_logs : EachFrom (MayReturn (λ x. device.count x.disk) can_put) 0 now
+  close_logs = logs_may device e.held e.header g e.logs now e.shards after deed resumed came has.begun.nodes is seen there can_put has.begun.logs
 
-  pub close_shards : EachFrom (MayReturn (λ x. count x.disk) can_put) (length now) after
-  close_shards = shards_may content images limit count e.held e.header g e.logs now e.shards after deed resumed came has.begun.nodes is seen there can_put has.begun.shards
+  pub close_shards : EachFrom (MayReturn (λ x. device.count x.disk) can_put) (length now) after
+  close_shards = shards_may device e.held e.header g e.logs now e.shards after deed resumed came has.begun.nodes is seen there can_put has.begun.shards
 
   pub close_others : (n : ℕ) → length now + length after ≤ n → can_take n
   close_others n le = has.begun.others_in n (omega (arith, le, as_many.0, as_many.1))
 
   pub closed : (back : ℕ → Option D) → ByPlace (λ n l. OfTold (back n) (λ d. d ≡ l.disk)) now → ByPlace (λ s x. OfTold (back (length now + s)) (λ d. d ≡ x.disk)) after → (counts : ℕ → ℕ)
-      → ByPlace (λ n l. count l.disk ≤ counts n) now → ByPlace (λ s x. count x.disk ≤ counts (length now + s)) after → ((n : ℕ) → length now + length after ≤ n → back n ≡ middle n)
+      → ByPlace (λ n l. device.count l.disk ≤ counts n) now → ByPlace (λ s x. device.count x.disk ≤ counts (length now + s)) after → ((n : ℕ) → length now + length after ≤ n → back n ≡ middle n)
       → (told : Result (Told Done) Answer) → IfErr told (λ a. (a ≡ answers.Memory) ⊎ ((f : LaneFault) × (came ≡ Err f) × (a ≡ answer_to f))) → IfOk told (λ t. (t.resumed.items ≡ resumed) × (came ≡ Ok t.done))
-      → IfOk told (λ t. CountAll (map (λ s. s.journal) after) t.unspent) → AllFit deed → HasDone content images limit count e.held back e.before counts deed told
+      → IfOk told (λ t. CountAll (map (λ s. s.journal) after) t.unspent) → AllFit deed → HasDone device e.held back e.before counts deed told
   closed back logs_back shards_back counts logs_counted shards_counted others_put told fault same unspent fits =
-      done content images limit count e.held e.header g e.logs now e.shards after deed resumed came has.begun.nodes is seen there has.begun.caused middle back logs_back shards_back e.before counts
+      done device e.held e.header g e.logs now e.shards after deed resumed came has.begun.nodes is seen there has.begun.caused middle back logs_back shards_back e.before counts
       has.begun.logs_since has.begun.shards_since logs_counted shards_counted has.begun.others others_put told fault same unspent fits
 
 -- ---- as it is opened
 
-abbrev pub at_entry : {D : Type 0} → (ℕ → Option D) → (ℕ → ℕ) → Header → List (LogOf D) → List (ShardOf D) → AtEntry D
+abbrev pub at_entry : {D : Type 0} → (ℕ → Option D) → (ℕ → ℕ) → Header → List (NodeOf D) → List (NodeOf D) → AtEntry D
 at_entry held before h logs shards = record { held = held; before = before; header = h; logs = logs; shards = shards }
 
-module _ {D : Type 0} (content : D → Option (List ℕ)) (images : D → List ℕ → Type 0) (limit count : D → ℕ) (e : AtEntry D) (middle : ℕ → Option D) (can_put : ℕ → ℕ → Type 0) (can_take : ℕ → Type 0) where
-  pub is_open : AreOpened content images limit count e.held e.header e.logs e.shards → AreCaused e.header.shape (lent_journals e.logs e.shards) → length e.logs + length e.shards < 2 ^ 32
-      → ByPlace (λ n x. e.before n ≤ count x.disk) e.logs → ByPlace (λ s x. e.before (e.header.shape.coordinators + s) ≤ count x.disk) e.shards
-      → EachFrom (MayReturn (λ x. count x.disk) can_put) 0 e.logs → EachFrom (MayReturn (λ x. count x.disk) can_put) (length e.logs) e.shards
-      → ((n : ℕ) → length e.logs + length e.shards ≤ n → middle n ≡ e.held n) → ((n : ℕ) → length e.logs + length e.shards ≤ n → can_take n) → IsOpen content images limit count e middle can_put can_take
+module _ {D : Type 0} (device : Ghosts D) (e : AtEntry D) (middle : ℕ → Option D) (can_put : ℕ → ℕ → Type 0) (can_take : ℕ → Type 0) where
+  pub is_open : AreOpened device e.held e.header e.logs e.shards → AreCaused e.header.shape (lent_journals e.logs e.shards) → length e.logs + length e.shards < 2 ^ 32
+      → ByPlace (λ n x. e.before n ≤ device.count x.disk) e.logs → ByPlace (λ s x. e.before (e.header.shape.coordinators + s) ≤ device.count x.disk) e.shards
+      → EachFrom (MayReturn (λ x. device.count x.disk) can_put) 0 e.logs → EachFrom (MayReturn (λ x. device.count x.disk) can_put) (length e.logs) e.shards
+      → ((n : ℕ) → length e.logs + length e.shards ≤ n → middle n ≡ e.held n) → ((n : ℕ) → length e.logs + length e.shards ≤ n → can_take n) → IsOpen device e middle can_put can_take
   is_open nodes caused few logs_since shards_since logs shards others others_in = record {
     nodes = nodes;
     caused = caused;
@@ -196,9 +196,9 @@ module _ {D : Type 0} (content : D → Option (List ℕ)) (images : D → List �
   }
 
   -- a lane met a fault as open batches were brought to their end
-  pub stopped_come : {Done : Type 0} (deed : Deed Done) → IsOpen content images limit count e middle can_put can_take → (first ledger : LedgerOf D) → first ≡ entry_ledger e → (came : Result (Vec ResumedBatch) LaneFault) (f : LaneFault)
-      → came ≡ Err f → HasResumed count limit content images first ledger came → HasCome content images limit count deed e middle can_put can_take ledger [] (Err f)
+  pub stopped_come : {Done : Type 0} (deed : Deed Done) → IsOpen device e middle can_put can_take → (first ledger : LedgerOf D) → first ≡ entry_ledger e → (came : Result (Vec ResumedBatch) LaneFault) (f : LaneFault)
+      → came ≡ Err f → HasResumed device first ledger came → HasCome device deed e middle can_put can_take ledger [] (Err f)
   stopped_come deed begun first ledger same came f is resumed = record {
     begun = begun;
-    ran = stopped_run count limit content images deed (entry_ledger e) ledger [] came f is (subst (λ l. HasResumed count limit content images l ledger came) same resumed);
+    ran = stopped_run device deed (entry_ledger e) ledger [] came f is (subst (λ l. HasResumed device l ledger came) same resumed);
   }

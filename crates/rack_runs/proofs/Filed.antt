@@ -2,6 +2,7 @@
 use Rattle.std.proofs.Common.{◌≡◌, inl, inr, ℕ, ◌*◌, ◌<◌, ◌==◌, false, List, [], ◌∷◌, ◌++◌, length, reverse, Bool, Option, Result, Ok, Err, refl, sym, ap, ◌∙◌, subst, arith}
 use Rattle.std.specs.Prelude.{IfOk, IfErr, OnOk}
 use Rattle.std.specs.Global.{Vec}
+use Rattle.outside.specs.declared.disk.Disk.{Ghosts}
 use Rattle.cbdc_model.specs.Records.{Shape, Compact, Record}
 use Rattle.cbdc_model.specs.Coins.{Output, FullTx}
 use Rattle.cbdc_model.specs.Lanes.{IsEnd}
@@ -219,11 +220,11 @@ begun_none K E X (inr alone, order) = (λ lane inside. alone.unprepared lane, al
 
 -- ---- what they did
 
-pub told_run : {D : Type 0} (images : D → List ℕ → Type 0) (limit : D → ℕ) (held : ℕ → Option D) (verdicts : VerdictsOf) (files : List (List FullTx)) (told : Told (Vec Wave)) (ran : Ran)
+pub told_run : {D : Type 0} (device : Ghosts D) (held : ℕ → Option D) (verdicts : VerdictsOf) (files : List (List FullTx)) (told : Told (Vec Wave)) (ran : Ran)
     → (ran.resumed ≡ told.resumed) × (ran.waves ≡ told.done) × (ran.unspent ≡ told.unspent)
     → (K : Shape) (mint : List Output) (submissions : List FullTx) (E : ℕ → List Record) → KeptJournals K mint submissions E
-    → HasEnded images limit held (files_deed verdicts files) told K mint submissions E → IsTold images limit held verdicts files ran K mint submissions E
-told_run images limit held verdicts files told ran same K mint submissions E kept h =
+    → HasEnded device held (files_deed verdicts files) told K mint submissions E → IsTold device held verdicts files ran K mint submissions E
+told_run device held verdicts files told ran same K mint submissions E kept h =
     let w = h.well in
     let did = w.well.did mint submissions (w.behind.keeps mint submissions kept).kept in
     let back : IsResumed K E w.middle = w.behind.resumed mint submissions kept in
@@ -250,11 +251,11 @@ told_run images limit held verdicts files told ran same K mint submissions E kep
       unspent = subst (λ n. IsUnspentCount K h.exit n) (sym same.2) h.unspent;
     }
 
-pub told_none : {D : Type 0} (images : D → List ℕ → Type 0) (limit : D → ℕ) (held : ℕ → Option D) (verdicts : VerdictsOf) (told : Told (Unit {0})) (ran : Ran)
+pub told_none : {D : Type 0} (device : Ghosts D) (held : ℕ → Option D) (verdicts : VerdictsOf) (told : Told (Unit {0})) (ran : Ran)
     → (ran.resumed ≡ told.resumed) × (ran.waves.items ≡ []) × (ran.unspent ≡ told.unspent)
     → (K : Shape) (mint : List Output) (submissions : List FullTx) (E : ℕ → List Record) → KeptJournals K mint submissions E
-    → HasEnded images limit held no_deed told K mint submissions E → IsTold images limit held verdicts [] ran K mint submissions E
-told_none images limit held verdicts told ran same K mint submissions E kept h =
+    → HasEnded device held no_deed told K mint submissions E → IsTold device held verdicts [] ran K mint submissions E
+told_none device held verdicts told ran same K mint submissions E kept h =
     let w = h.well in
     let ends : w.middle ≡ h.exit = λ i n. sym (w.well.did n) i in
     let back : IsResumed K E h.exit = subst (λ L. IsResumed K E L) ends (w.behind.resumed mint submissions kept) in
@@ -292,13 +293,13 @@ nothing_leaves K M F failed idle = record {
 }
 
 -- and that is a work
-pub nothing_worked : {D : Type 0} (count limit : D → ℕ) (content : D → Option (List ℕ)) (images : D → List ℕ → Type 0) (l : LedgerOf D) → AreIdle l.header.shape (journals count limit l) → IsChecked count limit l
-    → HasWorked count limit content images no_deed l l (Ok tt)
-nothing_worked count limit content images l idle checked = record {
+pub nothing_worked : {D : Type 0} (device : Ghosts D) (l : LedgerOf D) → AreIdle l.header.shape (journals l) → IsChecked l
+    → HasWorked device no_deed l l (Ok tt)
+nothing_worked device l idle checked = record {
   keeps_ledger = ledger_same l;
   checked = checked;
   quiet = λ was. was;
-  leaves = nothing_leaves l.header.shape (journals count limit l) (flights count limit l) (HaveFailed (opened count limit l) (faults count limit l)) idle;
+  leaves = nothing_leaves l.header.shape (journals l) (flights l) (HaveFailed (opened l) (faults l)) idle;
   well = record { idle = idle; did = λ n. refl };
   badly = tt;
 }

@@ -1,15 +1,16 @@
 -- What is in flight at the nodes of a ledger: only where a disk has failed since its node was opened.
 use Rattle.std.proofs.Common.{◌≡◌, ℕ, zero, suc, ◌-◌, ◌≤◌, Bool, true, false, nat_lt, if◌then◌else◌, List, [], ◌∷◌, Option, Some, None, refl, sym, ◌∙◌, arith}
 use Rattle.std.specs.Prelude.{All}
-use Rattle.std.proofs.lemmas.List.Elements.{All-head, All-tail}
+use Rattle.std.proofs.lemmas.List.Elements.{All-head, All-tail, All-weaker}
+use Rattle.outside.specs.declared.disk.Disk.{Ghosts}
 use Rattle.cbdc_model.specs.Records.{Shape, Record}
 use Rattle.cbdc_model.specs.Sights.{Sight, HasRisen, IsBrokenSince}
-use Rattle.coord_log.specs.Logs.{LogOf, sight}
-use Rattle.shard_node.specs.Shards.{ShardOf, sight_of}
+use Rattle.node_journal.specs.Nodes.{NodeOf, sight}
 use Rattle.node_ports.specs.Nodes.{sight_at}
 use Rattle.ledger_runs.specs.Faults.{HaveFailed}
 use Rattle.file_runs.specs.Ledgers.{flights_of, faults_of, opened_of}
-use Rattle.rack_runs.specs.Kinds.{FliesBroken, ShardFliesBroken}
+use Rattle.rack_runs.specs.Kinds.{FliesBroken}
+use Rattle.rack_runs.specs.Works.{IsSeen, AreSeen}
 
 pub flies_broken : (broken : Option ℕ) (flight : Option Record) (opened faults : ℕ) → (broken ≡ None → flight ≡ None) → IsBrokenSince opened faults broken → (r : Record) → flight ≡ Some r → HasRisen opened faults
 flies_broken None flight opened faults landed since r there = absurd (let z : None ≡ Some r = sym (landed refl) ∙ there in cc)
@@ -25,12 +26,12 @@ at_places see [] all n r there = absurd (let z : None ≡ Some r = there in cc)
 at_places see (x ∷ xs) all zero r there = All-head (λ y. (q : Record) → (see y).flight ≡ Some q → HasRisen (see y).opened (see y).faults) x xs all r there
 at_places see (x ∷ xs) all (suc n) r there = at_places see xs (All-tail (λ y. (q : Record) → (see y).flight ≡ Some q → HasRisen (see y).opened (see y).faults) x xs all) n r there
 
-pub all_flown : {D : Type 0} (count limit : D → ℕ) (K : Shape) (logs : List (LogOf D)) (shards : List (ShardOf D)) → All FliesBroken logs → All (ShardFliesBroken count) shards
-    → (n : ℕ) (r : Record) → flights_of count limit K logs shards n ≡ Some r → HaveFailed (opened_of count limit K logs shards) (faults_of count limit K logs shards) n
-all_flown {D} count limit K logs shards logs_fly shards_fly n r there = go (nat_lt n K.coordinators) there
+pub all_flown : {D : Type 0} (device : Ghosts D) (K : Shape) (logs shards : List (NodeOf D)) → AreSeen device logs shards
+    → (n : ℕ) (r : Record) → flights_of K logs shards n ≡ Some r → HaveFailed (opened_of K logs shards) (faults_of K logs shards) n
+all_flown device K logs shards seen n r there = go (nat_lt n K.coordinators) there
   where
-    go : (b : Bool) → (if b then (sight_at sight logs n).flight else (sight_at (sight_of count limit) shards (n - K.coordinators)).flight) ≡ Some r
-        → HasRisen (if b then (sight_at sight logs n).opened else (sight_at (sight_of count limit) shards (n - K.coordinators)).opened)
-        (if b then (sight_at sight logs n).faults else (sight_at (sight_of count limit) shards (n - K.coordinators)).faults)
-    go true e = at_places sight logs logs_fly n r e
-    go false e = at_places (sight_of count limit) shards shards_fly (n - K.coordinators) r e
+    go : (b : Bool) → (if b then (sight_at sight logs n).flight else (sight_at sight shards (n - K.coordinators)).flight) ≡ Some r
+        → HasRisen (if b then (sight_at sight logs n).opened else (sight_at sight shards (n - K.coordinators)).opened)
+        (if b then (sight_at sight logs n).faults else (sight_at sight shards (n - K.coordinators)).faults)
+    go true e = at_places sight logs (All-weaker (IsSeen device) FliesBroken (λ x is. is.flown) logs seen.logs_are) n r e
+    go false e = at_places sight shards (All-weaker (IsSeen device) FliesBroken (λ x is. is.flown) shards seen.shards_are) (n - K.coordinators) r e

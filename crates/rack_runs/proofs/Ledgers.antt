@@ -19,13 +19,12 @@ use Rattle.ledger_laws.proofs.FirstJournals.{never_empty}
 use Rattle.run_laws.specs.Flights.{MayCome}
 use Rattle.run_laws.proofs.Rests.{none_beyond}
 use Rattle.record_log.specs.Held.{OpensToEither}
-use Rattle.coord_log.specs.Logs.{LogOf}
-use Rattle.shard_node.specs.Shards.{ShardOf}
+use Rattle.node_journal.specs.Nodes.{NodeOf}
 use Rattle.rack_ledgers.specs.Ledgers.{ByPlace, AreOpened}
 use Rattle.rack_ledgers.specs.Racked.{OfTold}
-use Rattle.rack_laws.specs.Shown.{Shows, OfShown, KeepsEach, HoldsEach, OpenTo, LogHasRoom, ShardHasRoom, LogFits, ShardFits, HaveRoom, node_count}
+use Rattle.rack_laws.specs.Shown.{Shows, OfShown, KeepsEach, HoldsEach, OpenTo, HaveRoom, node_count}
 use Rattle.rack_laws.proofs.Opened.{at_place, same_shape, same_journals, logs_held, shards_held}
-use Rattle.rack_runs.proofs.Behind.{log_journal, shard_journal, are_quiet, none_fly, keeps_each, keeps_flights, holds_each, rooms_each, fits_each}
+use Rattle.rack_runs.proofs.Behind.{node_there, are_quiet, none_fly, keeps_each, keeps_flights, holds_each, rooms_each, fits_each}
 use Rattle.rack_laws.proofs.Rooms.{room_behind}
 use Rattle.rack_laws.proofs.Crashed.{crashed}
 use Rattle.ledger_runs.specs.Turning.{OfKept, StaysKept}
@@ -39,9 +38,10 @@ use Rattle.printed_lines.specs.Unspent.{IsUnspentCount}
 use Rattle.recovery.specs.declared.resumed.ResumedBatch.{ResumedBatch}
 use Rattle.rack_runs.specs.Telling.{CountAll}
 use Rattle.rack_runs.specs.declared.told.Told.{Told}
-use Rattle.rack_runs.specs.Works.{Deed, AllWell, HasEnded}
+use Rattle.rack_runs.specs.Works.{Deed, AllWell, AreSeen, HasEnded}
 use Rattle.rack_runs.proofs.Unspent.{unspent_counted}
 use Rattle.std.specs.Prelude.{map, All, IfSome}
+use Rattle.outside.specs.declared.disk.Disk.{Ghosts}
 
 -- kept journals have nothing beyond the ledger's nodes
 pub beyond : (K : Shape) (mint : List Output) (submissions : List FullTx) (E : ℕ → List Record) → KeptJournals K mint submissions E → (n : ℕ) → node_count K ≤ n → E n ≡ []
@@ -61,139 +61,131 @@ landed_room K mint submissions J flights n now limit inside kept room fits (inr 
     (room_behind (header_of K (minted mint).id n) (J n) r limit (λ none. never_empty K (minted mint) kept.later n inside (kept.history.journals_are n ∙ none)) may.after room
     (subst (λ o. IfSome o (λ q. used_of (J n) + need_of K (J n) q ≤ limit)) flies fits))
 
-module _ {D Done : Type 0} (content : D → Option (List ℕ)) (images : D → List ℕ → Type 0) (limit count : D → ℕ) (held back : ℕ → Option D) (h g : Header)
-    (logs now : List (LogOf D)) (shards after : List (ShardOf D)) (deed : Deed Done)
-    (are : AreOpened content images limit count held h logs shards) (is : IsLedger g now after) (shape : g.shape ≡ h.shape)
+has_room : (K : Shape) (J : List Record) (S : Shape) (capacity limit : ℕ) → S ≡ K → capacity ≡ limit → used_of J + kept_room S J ≤ capacity → used_of J + kept_room K J ≤ limit
+has_room K J S capacity limit shape size room = subst (λ m. used_of J + kept_room K J ≤ m) size (subst (λ k. used_of J + kept_room k J ≤ capacity) shape room)
+
+module _ {D Done : Type 0} (device : Ghosts D) (held back : ℕ → Option D) (h g : Header)
+    (logs now : List (NodeOf D)) (shards after : List (NodeOf D)) (deed : Deed Done)
+    (are : AreOpened device held h logs shards) (is : IsLedger g now after) (shape : g.shape ≡ h.shape)
     (logs_back : ByPlace (λ n l. OfTold (back n) (λ d. d ≡ l.disk)) now) (shards_back : ByPlace (λ s x. OfTold (back (length now + s)) (λ d. d ≡ x.disk)) after)
-    (stored : AreStored content images logs shards → AreStored content images now after) where
+    (stored : AreStored device.content device.images logs shards → AreStored device.content device.images now after) where
   -- what is in flight had room, by journals
   abbrev pub HaveFit : Shape → (ℕ → List Record) → (ℕ → Option Record) → Type 0
-  HaveFit K J F = (n : ℕ) → n < node_count K → OfTold (back n) (λ d. IfSome (F n) (λ r. used_of (J n) + need_of K (J n) r ≤ limit d))
+  HaveFit K J F = (n : ℕ) → n < node_count K → OfTold (back n) (λ d. IfSome (F n) (λ r. used_of (J n) + need_of K (J n) r ≤ device.limit d))
 
   -- what a run says of its journals, by the shape
   abbrev pub KeepsIt : Shape → Type 0
-  KeepsIt S = OfKept S (journals_of count limit S logs shards) (λ mint submissions. StaysKept S (journals_of count limit S logs shards) (journals_of count limit S now after) mint (submissions ++ joined deed.handed))
+  KeepsIt S = OfKept S (journals_of S logs shards) (λ mint submissions. StaysKept S (journals_of S logs shards) (journals_of S now after) mint (submissions ++ joined deed.handed))
 
   abbrev pub WellIt : List ResumedBatch → Done → Shape → Type 0
-  WellIt resumed done S = AllWell deed S (journals_of count limit S logs shards) (journals_of count limit S now after) resumed done
+  WellIt resumed done S = AllWell deed S (journals_of S logs shards) (journals_of S now after) resumed done
 
   abbrev pub FliesIt : Shape → Type 0
-  FliesIt S = OfKept S (journals_of count limit S logs shards) (FliesWith S (joined deed.handed) (journals_of count limit S logs shards) (journals_of count limit S now after) (flights_of count limit S logs shards) (flights_of count limit S now after))
+  FliesIt S = OfKept S (journals_of S logs shards) (FliesWith S (joined deed.handed) (journals_of S logs shards) (journals_of S now after) (flights_of S logs shards) (flights_of S now after))
 
   abbrev pub OrdersIt : Shape → Type 0
-  OrdersIt S = IsInOrder S (journals_of count limit S logs shards) (journals_of count limit S now after)
+  OrdersIt S = IsInOrder S (journals_of S logs shards) (journals_of S now after)
 
   -- each disk that was told had room for its journal and for what is kept for its open batches
-  pub opened_room : HaveRoom limit held h.shape (journals_of count limit h.shape logs shards)
-  opened_room n inside = elim (cases_lt n h.shape.coordinators) [
-    | inl low ↦ λ was told.
-        let l = at_place logs n (omega (arith, low, are.coordinators)) in
-        let log = are.logs_at n l.0 l.1 in
-        let own : used_of l.0.journal + kept_room l.0.header.shape l.0.journal ≤ limit was =
-        subst (λ m. used_of l.0.journal + kept_room l.0.header.shape l.0.journal ≤ m) (log.capacity ∙ (log.opened was told).read.room) log.room in
-        let here : used_of l.0.journal + kept_room h.shape l.0.journal ≤ limit was = subst (λ k. used_of l.0.journal + kept_room k l.0.journal ≤ limit was) (ap (λ k. k.shape) log.header) own in
-        subst (λ (J : List Record). used_of J + kept_room h.shape J ≤ limit was) (sym (log_journal content images limit count h.shape logs shards n l.0 low l.1)) here
-    | inr high ↦ λ was told.
-        let place : h.shape.coordinators + (n - h.shape.coordinators) ≡ n = omega (arith, high) in
-        let x = at_place shards (n - h.shape.coordinators) (omega (arith, high, inside, are.shards_are)) in
-        let shard = are.shards_at (n - h.shape.coordinators) x.0 x.1 in
-        let own : used_of x.0.journal + kept_room x.0.header.shape x.0.journal ≤ limit was =
-        subst (λ m. used_of x.0.journal + kept_room x.0.header.shape x.0.journal ≤ m) ((shard.opened was (ap held place ∙ told)).read.room) shard.room in
-        let here : used_of x.0.journal + kept_room h.shape x.0.journal ≤ limit was = subst (λ k. used_of x.0.journal + kept_room k x.0.journal ≤ limit was) (ap (λ k. k.shape) shard.header) own in
-        subst (λ (J : List Record). used_of J + kept_room h.shape J ≤ limit was)
-        (sym (ap (λ m. journals_of count limit h.shape logs shards m) (sym place) ∙ shard_journal content images limit count h.shape logs shards (n - h.shape.coordinators) x.0 x.1)) here
-  ]
+  pub opened_room : HaveRoom device held h.shape (journals_of h.shape logs shards)
+  opened_room n inside was told =
+      let HasRoom : ℕ → NodeOf D → Type 0 = λ k x. OfTold (held k) (λ was. used_of x.journal + kept_room h.shape x.journal ≤ device.limit was) in
+      let x = node_there h.shape logs shards are.coordinators are.shards_are HasRoom
+      (λ k l there. let own = are.logs_at k l there in λ was told. has_room h.shape l.journal l.header.shape l.capacity (device.limit was) (ap (λ k. k.shape) own.header) (own.capacity ∙ (own.opened was told).read.room) own.room)
+      (λ s x there. let own = are.shards_at s x there in λ was told. has_room h.shape x.journal x.header.shape x.capacity (device.limit was) (ap (λ k. k.shape) own.header) (own.capacity ∙ (own.opened was told).read.room) own.room)
+      n inside in
+      subst (λ (J : List Record). used_of J + kept_room h.shape J ≤ device.limit was) (sym x.2.journal) (x.1 was told)
 
-  module _ (K : Shape) (mint : List Output) (submissions : List FullTx) (E : ℕ → List Record) (within : IsWithinLimits K) (shows : Shows content held K (genesis_id mint) E) (kept : KeptJournals K mint submissions E) where
+  module _ (K : Shape) (mint : List Output) (submissions : List FullTx) (E : ℕ → List Record) (within : IsWithinLimits K) (shows : Shows device held K (genesis_id mint) E) (kept : KeptJournals K mint submissions E) where
     shape_is : h.shape ≡ K
-    shape_is = same_shape content images limit count held h logs shards are K (genesis_id mint) E within shows
+    shape_is = same_shape device held h logs shards are K (genesis_id mint) E within shows
 
-    journals_are : journals_of count limit K logs shards ≡ E
-    journals_are = λ i n. same_journals content images limit count held h logs shards are K (genesis_id mint) E within shows (beyond K mint submissions E kept) n i
+    journals_are : journals_of K logs shards ≡ E
+    journals_are = λ i n. same_journals device held h logs shards are K (genesis_id mint) E within shows (beyond K mint submissions E kept) n i
 
-    kept_there : KeptJournals K mint submissions (journals_of count limit K logs shards)
+    kept_there : KeptJournals K mint submissions (journals_of K logs shards)
     kept_there = subst (KeptJournals K mint submissions) (sym journals_are) kept
 
-    is_stored : AreStored content images now after
+    is_stored : AreStored device.content device.images now after
     is_stored = stored (record {
-      logs_are = logs_held content images limit count held h logs shards are K (genesis_id mint) E within shows;
-      shards_are = shards_held content images limit count held h logs shards are K (genesis_id mint) E within shows;
+      logs_are = logs_held device held h logs shards are K (genesis_id mint) E within shows;
+      shards_are = shards_held device held h logs shards are K (genesis_id mint) E within shows;
     })
 
-    disks_keep : KeepsEach images back K (journals_of count limit K now after)
-    disks_keep = subst (λ k. KeepsEach images back k (journals_of count limit k now after)) (shape ∙ shape_is) (keeps_each content images limit count back g now after is is_stored logs_back shards_back)
+    disks_keep : KeepsEach device back K (journals_of K now after)
+    disks_keep = subst (λ k. KeepsEach device back k (journals_of k now after)) (shape ∙ shape_is) (keeps_each device back g now after is logs_back shards_back is_stored)
 
-    disks_hold : AreQuiet now after → HoldsEach images back K (journals_of count limit K now after)
-    disks_hold quiet = subst (λ k. HoldsEach images back k (journals_of count limit k now after)) (shape ∙ shape_is) (holds_each content images limit count back g now after is is_stored logs_back shards_back quiet)
+    disks_hold : AreQuiet now after → HoldsEach device back K (journals_of K now after)
+    disks_hold quiet = subst (λ k. HoldsEach device back k (journals_of k now after)) (shape ∙ shape_is) (holds_each device back g now after is logs_back shards_back is_stored quiet)
 
-    disks_fly : (n : ℕ) → n < node_count K → OfTold (back n) (λ d. (c : List ℕ) → images d c → OpensToEither (reverse (journals_of count limit K now after n)) (flights_of count limit K now after n) c)
-    disks_fly = subst (λ k. (n : ℕ) → n < node_count k → OfTold (back n) (λ d. (c : List ℕ) → images d c → OpensToEither (reverse (journals_of count limit k now after n)) (flights_of count limit k now after n) c))
-        (shape ∙ shape_is) (keeps_flights content images limit count back g now after is is_stored logs_back shards_back)
+    disks_fly : (n : ℕ) → n < node_count K → OfTold (back n) (λ d. (c : List ℕ) → device.images d c → OpensToEither (reverse (journals_of K now after n)) (flights_of K now after n) c)
+    disks_fly = subst (λ k. (n : ℕ) → n < node_count k → OfTold (back n) (λ d. (c : List ℕ) → device.images d c → OpensToEither (reverse (journals_of k now after n)) (flights_of k now after n) c))
+        (shape ∙ shape_is) (keeps_flights device back g now after is logs_back shards_back is_stored)
 
-    rooms_there : All (LogHasRoom limit) now → All (ShardHasRoom limit) after → HaveRoom limit back K (journals_of count limit K now after)
-    rooms_there log_rooms shard_rooms = subst (λ k. HaveRoom limit back k (journals_of count limit k now after)) (shape ∙ shape_is) (rooms_each content images limit count back g now after is log_rooms shard_rooms logs_back shards_back)
+    rooms_there : AreSeen device now after → HaveRoom device back K (journals_of K now after)
+    rooms_there seen = subst (λ k. HaveRoom device back k (journals_of k now after)) (shape ∙ shape_is) (rooms_each device back g now after is logs_back shards_back seen)
 
     -- nothing was in flight at entry
-    may_come : FliesIt h.shape → AllMayCome K mint (submissions ++ joined deed.handed) (journals_of count limit K now after) (flights_of count limit K now after)
+    may_come : FliesIt h.shape → AllMayCome K mint (submissions ++ joined deed.handed) (journals_of K now after) (flights_of K now after)
     may_come flies = subst FliesIt shape_is flies mint submissions kept_there (λ n r there.
-        absurd (let none : flights_of count limit K logs shards n ≡ None = none_fly content images limit count K logs shards (are_quiet content images limit count held h logs shards are) n in
+        absurd (let none : flights_of K logs shards n ≡ None = none_fly K logs shards (are_quiet device held h logs shards are) n in
         let z : None ≡ Some r = sym none ∙ there in cc))
 
-    is_grown : KeepsIt h.shape → IsGrown K mint (submissions ++ joined deed.handed) E (journals_of count limit K now after)
+    is_grown : KeepsIt h.shape → IsGrown K mint (submissions ++ joined deed.handed) E (journals_of K now after)
     is_grown keeps =
         let a = subst KeepsIt shape_is keeps mint submissions kept_there in
         record {
-          grows = λ n. subst (λ L. IsEnd (L n) (journals_of count limit K now after n)) journals_are (a.grows n);
+          grows = λ n. subst (λ L. IsEnd (L n) (journals_of K now after n)) journals_are (a.grows n);
           kept = a.kept;
         }
 
-    has_ended : (told : Told Done) → KeepsIt h.shape → OrdersIt h.shape → All (LogHasRoom limit) now → All (ShardHasRoom limit) after → (AreQuiet logs shards → AreQuiet now after)
-        → WellIt told.resumed.items told.done h.shape → CountAll (map (λ s. s.journal) after) told.unspent → HasEnded images limit back deed told K mint submissions E
-    has_ended told keeps orders log_rooms shard_rooms quiet well counted =
+    has_ended : (told : Told Done) → KeepsIt h.shape → OrdersIt h.shape → AreSeen device now after → (AreQuiet logs shards → AreQuiet now after)
+        → WellIt told.resumed.items told.done h.shape → CountAll (map (λ s. s.journal) after) told.unspent → HasEnded device back deed told K mint submissions E
+    has_ended told keeps orders seen quiet well counted =
         let grown = is_grown keeps in
-        let w : AllWell deed K E (journals_of count limit K now after) told.resumed.items told.done =
-        subst (λ L. AllWell deed K L (journals_of count limit K now after) told.resumed.items told.done) journals_are (subst (WellIt told.resumed.items told.done) shape_is well) in
+        let w : AllWell deed K E (journals_of K now after) told.resumed.items told.done =
+        subst (λ L. AllWell deed K L (journals_of K now after) told.resumed.items told.done) journals_are (subst (WellIt told.resumed.items told.done) shape_is well) in
         record {
-          exit = journals_of count limit K now after;
+          exit = journals_of K now after;
           well = w;
           grown = grown;
-          disks = disks_hold (quiet (are_quiet content images limit count held h logs shards are));
-          rooms = rooms_there log_rooms shard_rooms;
-          in_order = subst (λ L. IsInOrder K L (journals_of count limit K now after)) journals_are (subst OrdersIt shape_is orders);
-          unspent = subst (λ k. IsUnspentCount k (journals_of count limit k now after) told.unspent) (shape ∙ shape_is) (unspent_counted count limit g now after is told.unspent counted);
-          headline = λ clean. idle_law K mint (submissions ++ joined deed.handed) (journals_of count limit K now after) within.some_shard within.some_lane clean grown.kept w.well.idle;
+          disks = disks_hold (quiet (are_quiet device held h logs shards are));
+          rooms = rooms_there seen;
+          in_order = subst (λ L. IsInOrder K L (journals_of K now after)) journals_are (subst OrdersIt shape_is orders);
+          unspent = subst (λ k. IsUnspentCount k (journals_of k now after) told.unspent) (shape ∙ shape_is) (unspent_counted g now after is told.unspent counted);
+          headline = λ clean. idle_law K mint (submissions ++ joined deed.handed) (journals_of K now after) within.some_shard within.some_lane clean grown.kept w.well.idle;
         }
 
-  pub ended : (told : Told Done) → KeepsIt h.shape → OrdersIt h.shape → All (LogHasRoom limit) now → All (ShardHasRoom limit) after → (AreQuiet logs shards → AreQuiet now after)
-      → WellIt told.resumed.items told.done h.shape → CountAll (map (λ s. s.journal) after) told.unspent → OfShown content held (HasEnded images limit back deed told)
-  ended told keeps orders log_rooms shard_rooms quiet well counted K mint submissions E within shows kept = has_ended K mint submissions E within shows kept told keeps orders log_rooms shard_rooms quiet well counted
+  pub ended : (told : Told Done) → KeepsIt h.shape → OrdersIt h.shape → AreSeen device now after → (AreQuiet logs shards → AreQuiet now after)
+      → WellIt told.resumed.items told.done h.shape → CountAll (map (λ s. s.journal) after) told.unspent → OfShown device held (HasEnded device back deed told)
+  ended told keeps orders seen quiet well counted K mint submissions E within shows kept = has_ended K mint submissions E within shows kept told keeps orders seen quiet well counted
 
-  pub cut_short : KeepsIt h.shape → FliesIt h.shape → All (LogHasRoom limit) now → All (ShardHasRoom limit) after → All (LogFits limit) now → All (ShardFits limit) after → OfShown content held (IsCutShort images limit back deed.handed (journals_of count limit h.shape now after))
-  cut_short keeps flies log_rooms shard_rooms log_fits shard_fits K mint submissions E within shows kept =
+  pub cut_short : KeepsIt h.shape → FliesIt h.shape → AreSeen device now after → OfShown device held (IsCutShort device back deed.handed (journals_of h.shape now after))
+  cut_short keeps flies seen K mint submissions E within shows kept =
       let grown = is_grown K mint submissions E within shows kept keeps in
-      let rooms = rooms_there K mint submissions E within shows kept log_rooms shard_rooms in
-      let fits : HaveFit K (journals_of count limit K now after) (flights_of count limit K now after) = subst (λ k. HaveFit k (journals_of count limit k now after) (flights_of count limit k now after)) (shape ∙ shape_is K mint submissions E within shows kept)
-      (fits_each content images limit count back g now after is log_fits shard_fits logs_back shards_back) in
-      subst (λ k. IsCutShort images limit back deed.handed (journals_of count limit k now after) K mint submissions E) (sym (shape_is K mint submissions E within shows kept)) (record {
+      let rooms = rooms_there K mint submissions E within shows kept seen in
+      let fits : HaveFit K (journals_of K now after) (flights_of K now after) = subst (λ k. HaveFit k (journals_of k now after) (flights_of k now after)) (shape ∙ shape_is K mint submissions E within shows kept)
+      (fits_each device back g now after is logs_back shards_back seen) in
+      subst (λ k. IsCutShort device back deed.handed (journals_of k now after) K mint submissions E) (sym (shape_is K mint submissions E within shows kept)) (record {
         grown = grown;
         disks = disks_keep K mint submissions E within shows kept;
         rooms = rooms;
         crashes = λ contents left.
-            let came : (X : ℕ → List Record) × OpenTo back K contents X × ((n : ℕ) → IsEnd (journals_of count limit K now after n) (X n)) × KeptJournals K mint (submissions ++ joined deed.handed) X
-            × ((n : ℕ) → LandsOrNot K mint (submissions ++ joined deed.handed) (journals_of count limit K now after) (flights_of count limit K now after) n (X n))
-            = crashed images back K mint (submissions ++ joined deed.handed) (journals_of count limit K now after) (flights_of count limit K now after) (may_come K mint submissions E within shows kept flies)
+            let came : (X : ℕ → List Record) × OpenTo back K contents X × ((n : ℕ) → IsEnd (journals_of K now after n) (X n)) × KeptJournals K mint (submissions ++ joined deed.handed) X
+            × ((n : ℕ) → LandsOrNot K mint (submissions ++ joined deed.handed) (journals_of K now after) (flights_of K now after) n (X n))
+            = crashed device back K mint (submissions ++ joined deed.handed) (journals_of K now after) (flights_of K now after) (may_come K mint submissions E within shows kept flies)
             (disks_fly K mint submissions E within shows kept) contents left within.some_shard grown.kept in (
               came.0,
               came.1,
-              record { grows = λ n. end_trans (E n) (journals_of count limit K now after n) (came.0 n) (grown.grows n) (came.2 n); kept = came.3 },
-              λ n inside d told. landed_room K mint (submissions ++ joined deed.handed) (journals_of count limit K now after) (flights_of count limit K now after) n (came.0 n) (limit d) inside grown.kept (rooms n inside d told) (fits n inside d told) (came.4 n),
+              record { grows = λ n. end_trans (E n) (journals_of K now after n) (came.0 n) (grown.grows n) (came.2 n); kept = came.3 },
+              λ n inside d told. landed_room K mint (submissions ++ joined deed.handed) (journals_of K now after) (flights_of K now after) n (came.0 n) (device.limit d) inside grown.kept (rooms n inside d told) (fits n inside d told) (came.4 n),
             );
       })
 
 -- a run of no files is a recovery
-unfoldable pub recovered : {D : Type 0} (images : D → List ℕ → Type 0) (limit : D → ℕ) (back : ℕ → Option D) (verdicts : VerdictsOf) (K : Shape) (mint : List Output) (submissions : List FullTx) (E : ℕ → List Record)
-    → IsRun images limit back verdicts [] K mint submissions E → IsRecovered images limit back K mint submissions E
-recovered images limit back verdicts K mint submissions E run =
+unfoldable pub recovered : {D : Type 0} (device : Ghosts D) (back : ℕ → Option D) (verdicts : VerdictsOf) (K : Shape) (mint : List Output) (submissions : List FullTx) (E : ℕ → List Record)
+    → IsRun device back verdicts [] K mint submissions E → IsRecovered device back K mint submissions E
+recovered device back verdicts K mint submissions E run =
     let none : submissions ++ [] ≡ submissions = append-nil submissions in
     record {
       exit = run.exit;

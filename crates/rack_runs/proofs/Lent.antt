@@ -2,8 +2,7 @@
 use Rattle.std.proofs.Common.{List, Result, Ok, Err}
 use Rattle.std.specs.Prelude.{OnOk, IfOk, IfErr}
 use Rattle.cbdc_model.specs.Records.{Header}
-use Rattle.coord_log.specs.Logs.{LogOf}
-use Rattle.shard_node.specs.Shards.{ShardOf}
+use Rattle.node_journal.specs.Nodes.{NodeOf}
 use Rattle.file_runs.specs.Ledgers.{LedgerOf}
 
 pub on_ok_by : {B F : Type 0} {X Y : Type 0} (o : Result B F) → (X → Y) → OnOk o X → OnOk o Y
@@ -19,5 +18,5 @@ if_err_by P Q (Ok b) f so = tt
 if_err_by P Q (Err e) f so = f e so
 
 -- a ledger of these nodes is what it is
-abbrev pub ledger_of : {D : Type 0} → Header → List (LogOf D) → List (ShardOf D) → LedgerOf D
+abbrev pub ledger_of : {D : Type 0} → Header → List (NodeOf D) → List (NodeOf D) → LedgerOf D
 ledger_of h logs shards = record { header = h; logs = logs; shards = shards }

@@ -1,5 +1,6 @@
 -- A command's own test of the ledger at entry: where it refuses the ledger the disks are back unchanged; what it let pass is the ledger that a rack showed.
 use Rattle.std.proofs.Common.{◌≡◌, ◌⊎◌, inl, inr, ℕ, ◌+◌, ◌^◌, ◌<◌, ◌≤◌, List, length, Option, sym, ◌∙◌, subst}
+use Rattle.outside.specs.declared.disk.Disk.{Ghosts}
 use Rattle.cbdc_types.specs.declared.answer.Answer.{Answer}
 use Rattle.cbdc_types.specs.declared.answer.Answer.TheVariants as answers
 use Rattle.cbdc_model.specs.Records.{Shape, Record}
@@ -24,8 +25,8 @@ pub record ArePut {D : Type 0} (middle back : ℕ → Option D) (l : LedgerOf D)
   pub shards : ByPlace (λ s x. OfTold (back (length l.logs + s)) (λ d. d ≡ x.disk)) l.shards
   pub others : (n : ℕ) → length l.logs + length l.shards ≤ n → back n ≡ middle n
 
-module _ {D : Type 0} (content : D → Option (List ℕ)) (images : D → List ℕ → Type 0) (limit count : D → ℕ) (e : AtEntry D) (middle : ℕ → Option D) (can_put : ℕ → ℕ → Type 0) (can_take : ℕ → Type 0)
-    (begun : IsOpen content images limit count e middle can_put can_take) where
+module _ {D : Type 0} (device : Ghosts D) (e : AtEntry D) (middle : ℕ → Option D) (can_put : ℕ → ℕ → Type 0) (can_take : ℕ → Type 0)
+    (begun : IsOpen device e middle can_put can_take) where
   -- the nodes as they were opened, taken apart
   module _ (first l : LedgerOf D) (made : first ≡ entry_ledger e) (apart : first ≡ l) where
     same : l ≡ entry_ledger e
@@ -35,48 +36,48 @@ module _ {D : Type 0} (content : D → Option (List ℕ)) (images : D → List �
     pub back_few : length l.logs + length l.shards < 2 ^ 32
     back_few = subst (λ (x : LedgerOf D). length x.logs + length x.shards < 2 ^ 32) (sym same) begun.few
 
-    pub back_logs : EachFrom (MayReturn (λ x. count x.disk) can_put) 0 l.logs
-    back_logs = subst (λ (x : LedgerOf D). EachFrom (MayReturn (λ y. count y.disk) can_put) 0 x.logs) (sym same) begun.logs
+    pub back_logs : EachFrom (MayReturn (λ x. device.count x.disk) can_put) 0 l.logs
+    back_logs = subst (λ (x : LedgerOf D). EachFrom (MayReturn (λ y. device.count y.disk) can_put) 0 x.logs) (sym same) begun.logs
 
-    pub back_shards : EachFrom (MayReturn (λ x. count x.disk) can_put) (length l.logs) l.shards
-    back_shards = subst (λ (x : LedgerOf D). EachFrom (MayReturn (λ y. count y.disk) can_put) (length x.logs) x.shards) (sym same) begun.shards
+    pub back_shards : EachFrom (MayReturn (λ x. device.count x.disk) can_put) (length l.logs) l.shards
+    back_shards = subst (λ (x : LedgerOf D). EachFrom (MayReturn (λ y. device.count y.disk) can_put) (length x.logs) x.shards) (sym same) begun.shards
 
     pub back_others : (n : ℕ) → length l.logs + length l.shards ≤ n → can_take n
     back_others = subst (λ (x : LedgerOf D). (n : ℕ) → length x.logs + length x.shards ≤ n → can_take n) (sym same) begun.others_in
 
     module _ (back : ℕ → Option D) (put : ArePut middle back l) where
-      unchanged : AreUnchanged content images limit e.held back
+      unchanged : AreUnchanged device e.held back
       unchanged =
           let p : ArePut middle back (entry_ledger e) = subst (ArePut middle back) same put in
-          all_same content images limit count e.held middle back e.header e.logs e.shards begun.nodes begun.others p.logs p.shards p.others
+          all_same device e.held middle back e.header e.logs e.shards begun.nodes begun.others p.logs p.shards p.others
 
-      are_back : (now : ℕ → ℕ) → AreBack content images limit e.before now e.held back
-      are_back now n = same_back content images limit (e.before n) (now n) (e.held n) (back n) (unchanged n)
+      are_back : (now : ℕ → ℕ) → AreBack device e.before now e.held back
+      are_back now n = same_back device (e.before n) (now n) (e.held n) (back n) (unchanged n)
 
-      refused : (test : Test) (answer : Answer) → test.refuses first.header.shape (journals count limit first) answer → IsTestRefused content images limit e.held back test answer
+      refused : (test : Test) (answer : Answer) → test.refuses first.header.shape (journals first) answer → IsTestRefused device e.held back test answer
       refused test answer told =
-          let own : test.refuses e.header.shape (journals count limit (entry_ledger e)) answer = subst (λ (x : LedgerOf D). test.refuses x.header.shape (journals count limit x) answer) made told in
+          let own : test.refuses e.header.shape (journals (entry_ledger e)) answer = subst (λ (x : LedgerOf D). test.refuses x.header.shape (journals x) answer) made told in
           record {
             ledger = record {
               shape = e.header.shape;
               genesis = e.header.genesis;
               rows = begun.caused.rows;
-              history = told_history content images limit count e.held e.header e.logs e.shards begun.nodes begun.caused.rows begun.caused.merged;
+              history = told_history device e.held e.header e.logs e.shards begun.nodes begun.caused.rows begun.caused.merged;
               caused = begun.caused.caused;
             };
-            refused = subst (λ J. test.refuses e.header.shape J answer) (λ i n. same_journals content images limit count e.held e.header e.logs e.shards begun.nodes begun.caused n i) own;
+            refused = subst (λ J. test.refuses e.header.shape J answer) (λ i n. same_journals device e.held e.header e.logs e.shards begun.nodes begun.caused n i) own;
             unchanged = unchanged;
           }
 
       -- the test refused the ledger, or there was no memory for it
-      pub not_begun : {Done : Type 0} (d : Deed Done) (test : Test) (now : ℕ → ℕ) (answer : Answer) → (answer ≡ answers.Memory) ⊎ test.refuses first.header.shape (journals count limit first) answer
-          → WhyNotBegun content images limit count e.held back e.before now d test answer
+      pub not_begun : {Done : Type 0} (d : Deed Done) (test : Test) (now : ℕ → ℕ) (answer : Answer) → (answer ≡ answers.Memory) ⊎ test.refuses first.header.shape (journals first) answer
+          → WhyNotBegun device e.held back e.before now d test answer
       not_begun d test now answer (inl memory) = inl (inl (inr (inr memory), are_back now))
       not_begun d test now answer (inr told) = inr (refused test answer told)
 
   -- what holds of the opened ledger holds of whatever kept ledger the rack showed
-  pub passed_shown : (P : Shape → (ℕ → List Record) → Type 0) → P e.header.shape (journals count limit (entry_ledger e)) → OfShown content e.held (λ K mint submissions E. P K E)
+  pub passed_shown : (P : Shape → (ℕ → List Record) → Type 0) → P e.header.shape (journals (entry_ledger e)) → OfShown device e.held (λ K mint submissions E. P K E)
   passed_shown P told K mint submissions E within shows kept =
-      let there : P K (journals_of count limit K e.logs e.shards) =
-      subst (λ S. P S (journals_of count limit S e.logs e.shards)) (same_shape content images limit count e.held e.header e.logs e.shards begun.nodes K (genesis_id mint) E within shows) told in
-      subst (P K) (λ i n. shown_journals content images limit count e.held e.header e.logs e.shards begun.nodes K (genesis_id mint) E within shows (beyond K mint submissions E kept) n i) there
+      let there : P K (journals_of K e.logs e.shards) =
+      subst (λ S. P S (journals_of S e.logs e.shards)) (same_shape device e.held e.header e.logs e.shards begun.nodes K (genesis_id mint) E within shows) told in
+      subst (P K) (λ i n. shown_journals device e.held e.header e.logs e.shards begun.nodes K (genesis_id mint) E within shows (beyond K mint submissions E kept) n i) there

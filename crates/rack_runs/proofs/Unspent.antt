@@ -21,8 +21,7 @@ use Rattle.std.proofs.Common.{map, take, get_or}
 use Rattle.std.proofs.lemmas.List.{length-map, map-append, take_more, take_all}
 use Rattle.cbdc_model.specs.History.{header_of}
 use Rattle.cbdc_model.specs.Sights.{Sight}
-use Rattle.coord_log.specs.Logs.{LogOf, sight}
-use Rattle.shard_node.specs.Shards.{ShardOf, sight_of}
+use Rattle.node_journal.specs.Nodes.{NodeOf, sight}
 use Rattle.node_ports.specs.Nodes.{sight_at}
 use Rattle.run_laws.proofs.Seen.{seen_shard}
 use Rattle.file_runs.specs.Ledgers.{IsLedger, journals_of}
@@ -220,36 +219,36 @@ pub count_more : (Ls : List (List Record)) (L : List Record) (n own : ℕ) → C
 count_more [] L n own e counts = (own, 0, counts, refl, omega (arith, e))
 count_more (M ∷ Ls) L n own (first, rest, its, others, e) counts = (first, rest + own, its, count_more Ls L rest own others counts, omega (arith, e))
 
-pub count_next : {D : Type 0} (xs : List (ShardOf D)) (i n own sum : ℕ) (x : ShardOf D) → i < length xs → x ≡ get_or xs i x → CountAll (map (λ s. s.journal) (take i xs)) n → Counts x.journal own → sum ≡ n + own
+pub count_next : {D : Type 0} (xs : List (NodeOf D)) (i n own sum : ℕ) (x : NodeOf D) → i < length xs → x ≡ get_or xs i x → CountAll (map (λ s. s.journal) (take i xs)) n → Counts x.journal own → sum ≡ n + own
     → CountAll (map (λ s. s.journal) (take (i + 1) xs)) sum
 count_next xs i n own sum x low is before counts e =
     subst (λ m. CountAll (map (λ s. s.journal) (take (i + 1) xs)) m) (sym e)
     (subst (λ l. CountAll l (n + own)) (sym (ap (map (λ s. s.journal)) (take_more xs i x low ∙ ap (λ y. take i xs ++ y ∷ []) (sym is)) ∙ map-append (λ s. s.journal) (take i xs) (x ∷ [])))
     (count_more (map (λ s. s.journal) (take i xs)) x.journal n own before counts))
 
-pub count_whole : {D : Type 0} (xs : List (ShardOf D)) (i n : ℕ) → length xs ≤ i → CountAll (map (λ s. s.journal) (take i xs)) n → CountAll (map (λ s. s.journal) xs) n
+pub count_whole : {D : Type 0} (xs : List (NodeOf D)) (i n : ℕ) → length xs ≤ i → CountAll (map (λ s. s.journal) (take i xs)) n → CountAll (map (λ s. s.journal) xs) n
 count_whole xs i n past counts = subst (λ l. CountAll (map (λ s. s.journal) l) n) (take_all i xs past) counts
 
-module _ {D : Type 0} (count limit : D → ℕ) (h : Header) (logs : List (LogOf D)) (shards : List (ShardOf D)) (ledger : IsLedger h logs shards) where
+module _ {D : Type 0} (h : Header) (logs shards : List (NodeOf D)) (ledger : IsLedger h logs shards) where
   abbrev K : Shape
   K = h.shape
 
   abbrev J : ℕ → List Record
-  J = journals_of count limit h.shape logs shards
+  J = journals_of h.shape logs shards
 
-  its_own : (s : ShardOf D) (from : ℕ) → IsJournal s.header s.journal → s.header ≡ header_of h.shape h.genesis (shard_node h.shape from) → (x : Digest) → status s.journal x ≡ Unspent → shard_of K.shards x ≡ from
+  its_own : (s : NodeOf D) (from : ℕ) → IsJournal s.header s.journal → s.header ≡ header_of h.shape h.genesis (shard_node h.shape from) → (x : Digest) → status s.journal x ≡ Unspent → shard_of K.shards x ≡ from
   its_own s from journal header x u =
       let at = subst (λ g. shard_node g.shape (shard_of g.shape.shards x) ≡ g.node) header (unspent_here s.header s.journal journal x u) in
       omega (arith, at)
 
-  are_shards : (from : ℕ) (rest : List (ShardOf D)) → from + length rest ≡ length shards → ((f : ShardOf D → Sight) (i : ℕ) → sight_at f shards (from + i) ≡ sight_at f rest i)
+  are_shards : (from : ℕ) (rest : List (NodeOf D)) → from + length rest ≡ length shards → ((f : NodeOf D → Sight) (i : ℕ) → sight_at f shards (from + i) ≡ sight_at f rest i)
       → All (λ s. IsJournal s.header s.journal) rest → AreShards K J from (map (λ s. s.journal) rest)
   are_shards from [] long same all = tt
   are_shards from (s ∷ rest) long same all =
-      let here : (f : ShardOf D → Sight) → sight_at f shards from ≡ f s = λ f. ap (sight_at f shards) (omega arith) ∙ same f 0 in
+      let here : (f : NodeOf D → Sight) → sight_at f shards from ≡ f s = λ f. ap (sight_at f shards) (omega arith) ∙ same f 0 in
       let header : s.header ≡ header_of h.shape h.genesis (shard_node h.shape from) =
-      ap (λ t. t.header) (sym (here (sight_of (λ d. 0) (λ d. 0)))) ∙ ledger.shard_headers from (let k = ledger.shards_are in omega (arith, long, k)) in (
-        seen_shard K (sight_at sight logs) (sight_at (sight_of count limit) shards) from ∙ ap (λ t. t.seen) (here (sight_of count limit)),
+      ap (λ t. t.header) (sym (here sight)) ∙ ledger.shard_headers from (let k = ledger.shards_are in omega (arith, long, k)) in (
+        seen_shard K (sight_at sight logs) (sight_at sight shards) from ∙ ap (λ t. t.seen) (here sight),
         its_own s from (All-head (λ t. IsJournal t.header t.journal) s rest all) header,
         are_shards (suc from) rest (omega (arith, long)) (λ f i. ap (sight_at f shards) (omega arith) ∙ same f (suc i)) (All-tail (λ t. IsJournal t.header t.journal) s rest all),
       )

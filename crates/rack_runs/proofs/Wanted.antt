@@ -5,6 +5,7 @@ use Rattle.std.specs.List.{filter}
 use Rattle.std.proofs.lemmas.Nat.{div_below}
 use Rattle.std.proofs.lemmas.Bool.{cases_lt}
 use Rattle.std.proofs.lemmas.List.Elements.{All-nil, All-cons, All-head, All-tail, All-take, All-drop, All-map, All-filter, All-weaker}
+use Rattle.outside.specs.declared.disk.Disk.{Ghosts}
 use Rattle.cbdc_types.specs.Limits.{IsWithinLimits}
 use Rattle.cbdc_types.specs.declared.calls.LockCall.{LockCall}
 use Rattle.cbdc_model.specs.Records.{Digest, Shape, Header, Batch, Compact, Record, journal, record_of, last_stamp, stamp_of, Genesis, Lock, Finish, Forget, Start, Prepare, Commit, Discard, Done}
@@ -41,8 +42,7 @@ use Rattle.ledger_runs.specs.Faults.{IsWanted, wants_prepare, wants_lock}
 use Rattle.file_runs.specs.Runs.{AreFilesPieces, IsFilesPiece}
 use Rattle.rack_runs.specs.Kinds.{MayComeNext, StaysCaused}
 use Rattle.rack_runs.specs.Works.{FitsBatch}
-use Rattle.coord_log.specs.Logs.{LogOf, sight}
-use Rattle.shard_node.specs.Shards.{ShardOf, sight_of}
+use Rattle.node_journal.specs.Nodes.{NodeOf, sight}
 use Rattle.file_runs.specs.Ledgers.{IsLedger, journals_of, AreChecked}
 use Rattle.rack_laws.specs.Shown.{node_count}
 use Rattle.rack_laws.proofs.Opened.{at_place, sight_there}
@@ -274,42 +274,42 @@ wants_next K genesis m next E X limits checked were are fits lane node front r l
 
 -- ---- at open nodes
 
-module _ {D : Type 0} (content : D → Option (List ℕ)) (images : D → List ℕ → Type 0) (limit count : D → ℕ) where
+module _ {D : Type 0} (device : Ghosts D) where
   -- each node's journal has its header of the ledger
-  node_header : (h : Header) (logs : List (LogOf D)) (shards : List (ShardOf D)) → IsLedger h logs shards → (n : ℕ) → n < node_count h.shape → IsJournal (header_of h.shape h.genesis n) (journals_of count limit h.shape logs shards n)
+  node_header : (h : Header) (logs shards : List (NodeOf D)) → IsLedger h logs shards → (n : ℕ) → n < node_count h.shape → IsJournal (header_of h.shape h.genesis n) (journals_of h.shape logs shards n)
   node_header h logs shards is n inside = elim (cases_lt n h.shape.coordinators) [
     | inl low ↦
         let l = at_place logs n (omega (arith, low, is.coordinators)) in
         let head : l.0.header ≡ header_of h.shape h.genesis n = sym (ap (λ s. s.header) (sight_there sight logs n l.0 l.1)) ∙ is.log_headers n low in
-        subst (λ J. IsJournal (header_of h.shape h.genesis n) J) (sym (log_journal content images limit count h.shape logs shards n l.0 low l.1))
+        subst (λ J. IsJournal (header_of h.shape h.genesis n) J) (sym (log_journal h.shape logs shards n l.0 low l.1))
         (subst (λ k. IsJournal k l.0.journal) head (by_all (λ x. IsJournal x.header x.journal) logs is.log_journals n l.0 l.1))
     | inr high ↦
         let s : ℕ = n - h.shape.coordinators in
         let lt : s < h.shape.shards = omega (arith, high, inside) in
         let place : h.shape.coordinators + s ≡ n = omega (arith, high) in
         let x = at_place shards s (omega (arith, lt, is.shards_are)) in
-        let head : x.0.header ≡ header_of h.shape h.genesis (h.shape.coordinators + s) = sym (ap (λ t. t.header) (sight_there (sight_of (λ d. 0) (λ d. 0)) shards s x.0 x.1)) ∙ is.shard_headers s lt in
-        subst (λ k. IsJournal (header_of h.shape h.genesis k) (journals_of count limit h.shape logs shards k)) place
-        (subst (λ J. IsJournal (header_of h.shape h.genesis (h.shape.coordinators + s)) J) (sym (shard_journal content images limit count h.shape logs shards s x.0 x.1))
+        let head : x.0.header ≡ header_of h.shape h.genesis (h.shape.coordinators + s) = sym (ap (λ t. t.header) (sight_there sight shards s x.0 x.1)) ∙ is.shard_headers s lt in
+        subst (λ k. IsJournal (header_of h.shape h.genesis k) (journals_of h.shape logs shards k)) place
+        (subst (λ J. IsJournal (header_of h.shape h.genesis (h.shape.coordinators + s)) J) (sym (shard_journal h.shape logs shards s x.0 x.1))
         (subst (λ k. IsJournal k x.0.journal) head (by_all (λ y. IsJournal y.header y.journal) shards is.shard_journals s x.0 x.1)))
   ]
 
-  pub wants_there : (h g : Header) (logs now : List (LogOf D)) (shards after : List (ShardOf D)) → IsLedger h logs shards → IsLedger g now after → g.shape ≡ h.shape → AreChecked count limit h.shape now after
+  pub wants_there : (h g : Header) (logs now : List (NodeOf D)) (shards after : List (NodeOf D)) → IsLedger h logs shards → IsLedger g now after → g.shape ≡ h.shape → AreChecked h.shape now after
       → (next : ℕ → List Compact → Type 0) → ((lane : ℕ) (txs : List Compact) → next lane txs → FitsBatch h.shape txs)
-      → MayComeNext h.shape h.genesis next (journals_of count limit h.shape logs shards) (journals_of count limit h.shape now after)
+      → MayComeNext h.shape h.genesis next (journals_of h.shape logs shards) (journals_of h.shape now after)
   wants_there h g logs now shards after was is shape checked next fits =
-      wants_next h.shape h.genesis checked.0 next (journals_of count limit h.shape logs shards)
-      (journals_of count limit h.shape now after) was.limits checked.1 (node_header h logs shards was)
-      (λ n inside. subst (λ k. n < node_count k → (j : Header) × IsJournal j (journals_of count limit k now after n)) shape (λ i. (header_of g.shape g.genesis n, node_header g now after is n i)) inside)
+      wants_next h.shape h.genesis checked.0 next (journals_of h.shape logs shards)
+      (journals_of h.shape now after) was.limits checked.1 (node_header h logs shards was)
+      (λ n inside. subst (λ k. n < node_count k → (j : Header) × IsJournal j (journals_of k now after n)) shape (λ i. (header_of g.shape g.genesis n, node_header g now after is n i)) inside)
       fits
 
   -- journals at exit are those of a ledger with this genesis, each record of which is caused
-  pub stays_caused : (h g : Header) (logs now : List (LogOf D)) (shards after : List (ShardOf D)) → IsLedger h logs shards → IsLedger g now after → g.shape ≡ h.shape → AreChecked count limit h.shape now after
-      → ((n : ℕ) → IsEnd (journals_of count limit h.shape logs shards n) (journals_of count limit h.shape now after n)) → StaysCaused h.shape h.genesis (journals_of count limit h.shape now after)
+  pub stays_caused : (h g : Header) (logs now : List (NodeOf D)) (shards after : List (NodeOf D)) → IsLedger h logs shards → IsLedger g now after → g.shape ≡ h.shape → AreChecked h.shape now after
+      → ((n : ℕ) → IsEnd (journals_of h.shape logs shards n) (journals_of h.shape now after n)) → StaysCaused h.shape h.genesis (journals_of h.shape now after)
   stays_caused h g logs now shards after was is shape checked grows =
       let first : 0 < node_count h.shape = omega (arith, was.limits.some_shard) in (
         checked.0,
-        same_genesis h.shape h.genesis checked.0 (journals_of count limit h.shape logs shards) (journals_of count limit h.shape now after) 0 first checked.1 (node_header h logs shards was 0 first)
-            (header_of g.shape g.genesis 0) (subst (λ k. IsJournal (header_of g.shape g.genesis 0) (journals_of count limit k now after 0)) shape (node_header g now after is 0 (subst (λ k. 0 < node_count k) (sym shape) first))) (grows 0),
+        same_genesis h.shape h.genesis checked.0 (journals_of h.shape logs shards) (journals_of h.shape now after) 0 first checked.1 (node_header h logs shards was 0 first)
+            (header_of g.shape g.genesis 0) (subst (λ k. IsJournal (header_of g.shape g.genesis 0) (journals_of k now after 0)) shape (node_header g now after is 0 (subst (λ k. 0 < node_count k) (sym shape) first))) (grows 0),
         checked.1,
       )

@@ -1,6 +1,7 @@
 -- A work behind the open batches of a ledger: what is said of both, from the journals at entry.
 use Rattle.std.proofs.Common.{◌≡◌, inl, inr, ℕ, List, Option, Result, Ok, Err, refl, subst}
 use Rattle.std.specs.Global.{Vec}
+use Rattle.outside.specs.declared.disk.Disk.{Ghosts}
 use Rattle.cbdc_types.specs.Limits.{IsWithinLimits}
 use Rattle.cbdc_model.specs.Records.{Shape, Compact, Record}
 use Rattle.ledger_laws.proofs.Cuts.{end_self, end_trans}
@@ -63,18 +64,18 @@ module _ {Done : Type 0} (d : Deed Done) (K : Shape) (E M X : ℕ → List Recor
     );
   }
 
-module _ {D Done : Type 0} (count limit : D → ℕ) (content : D → Option (List ℕ)) (images : D → List ℕ → Type 0) (d : Deed Done) where
+module _ {D Done : Type 0} (device : Ghosts D) (d : Deed Done) where
   -- a lane met a fault as open batches were brought to their end: no work was begun
   pub stopped_run : (before now : LedgerOf D) (resumed : List ResumedBatch) (came : Result (Vec ResumedBatch) LaneFault) (e : LaneFault) → came ≡ Err e
-      → HasResumed count limit content images before now came → HasRun count limit content images d before now resumed (Err e)
+      → HasResumed device before now came → HasRun device d before now resumed (Err e)
   stopped_run before now resumed came e is r =
       let K : Shape = before.header.shape in
-      let E : ℕ → List Record = journals count limit before in
-      let M : ℕ → List Record = journals count limit now in
-      let F : ℕ → Option Record = flights count limit before in
-      let G : ℕ → Option Record = flights count limit now in
-      let failed : ℕ → Type 0 = HaveFailed (opened count limit now) (faults count limit now) in
-      let holds : ℕ → ℕ → Type 0 = MayHold (capacity count limit now) in
+      let E : ℕ → List Record = journals before in
+      let M : ℕ → List Record = journals now in
+      let F : ℕ → Option Record = flights before in
+      let G : ℕ → Option Record = flights now in
+      let failed : ℕ → Type 0 = HaveFailed (opened now) (faults now) in
+      let holds : ℕ → ℕ → Type 0 = MayHold (capacity now) in
       record {
         keeps_ledger = r.keeps_ledger;
         checked = r.checked;
@@ -99,19 +100,19 @@ module _ {D Done : Type 0} (count limit : D → ℕ) (content : D → Option (Li
 
   -- open batches are at their end, and the work was done behind that
   pub worked_run : (before middle now : LedgerOf D) (rs : Vec ResumedBatch) (came : Result (Vec ResumedBatch) LaneFault) (did : Result Done LaneFault) → came ≡ Ok rs
-      → HasResumed count limit content images before middle came → HasWorked count limit content images d middle now did
-      → HasRun count limit content images d before now rs.items did
+      → HasResumed device before middle came → HasWorked device d middle now did
+      → HasRun device d before now rs.items did
   worked_run before middle now rs came did is r w =
       let K : Shape = before.header.shape in
-      let E : ℕ → List Record = journals count limit before in
-      let M : ℕ → List Record = journals count limit middle in
-      let X : ℕ → List Record = journals count limit now in
-      let F : ℕ → Option Record = flights count limit before in
-      let G : ℕ → Option Record = flights count limit middle in
-      let L : ℕ → Option Record = flights count limit now in
-      let opens : ℕ → ℕ = opened count limit now in
-      let counts : ℕ → ℕ = faults count limit now in
-      let holds : ℕ → ℕ = capacity count limit now in
+      let E : ℕ → List Record = journals before in
+      let M : ℕ → List Record = journals middle in
+      let X : ℕ → List Record = journals now in
+      let F : ℕ → Option Record = flights before in
+      let G : ℕ → Option Record = flights middle in
+      let L : ℕ → Option Record = flights now in
+      let opens : ℕ → ℕ = opened now in
+      let counts : ℕ → ℕ = faults now in
+      let holds : ℕ → ℕ = capacity now in
       let same : middle.header.shape ≡ K = r.keeps_ledger.shape_same in
       let behind : IsBehind K E M = record {
         grows = r.grows;

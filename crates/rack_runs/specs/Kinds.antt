@@ -9,8 +9,7 @@ use Rattle.cbdc_model.specs.History.{Minted, header_of}
 use Rattle.cbdc_model.specs.Lanes.{IsEnd}
 use Rattle.cbdc_model.specs.Sights.{HasRisen}
 use Rattle.run_laws.specs.Checked.{CheckedJournals}
-use Rattle.coord_log.specs.Logs.{LogOf}
-use Rattle.shard_node.specs.Shards.{ShardOf}
+use Rattle.node_journal.specs.Nodes.{NodeOf}
 use Rattle.lane_driver.specs.declared.fault.LaneFault.{LaneFault}
 use Rattle.lane_driver.specs.declared.fault.LaneFaultKind.{LaneFaultKind}
 use Rattle.lane_driver.specs.declared.fault.LaneFaultKind.TheVariants.{DiskFault as DiskStopped, Full as NoRoom, ClockEnd as NoStamp, Memory as NoMemory}
@@ -44,13 +43,9 @@ abbrev pub MayComeNext : Shape → Digest → (ℕ → List Compact → Type 0) 
 MayComeNext K genesis next E X = (lane node : ℕ) (front : List Record) (wanted : Record) → IsLaneOf K lane → IsEnd (E node) front → IsEnd front (X node) → slot front lane ≡ slot (X node) lane
     → IsWanted K lane (next lane) X node front wanted → Follows (header_of K genesis node) front wanted × (stamp_of wanted ≤ 2 ^ 62 → After (header_of K genesis node) front wanted)
 
--- a record is in flight at a coordinator, and at a shard, only where its disk has failed since it was opened
-abbrev pub FliesBroken : {D : Type 0} → LogOf D → Type 0
-FliesBroken l = (r : Record) → l.flight ≡ Some r → HasRisen l.opened l.faults
-
--- `FliesBroken`, `ShardFliesBroken`: a record is in flight at a node only where its disk has failed since it was opened
-abbrev pub ShardFliesBroken : {D : Type 0} → (D → ℕ) → ShardOf D → Type 0
-ShardFliesBroken count s = (r : Record) → s.flight ≡ Some r → HasRisen s.opened (count s.disk)
+-- a record is in flight at a node only where its disk has failed since it was opened
+abbrev pub FliesBroken : {D : Type 0} → NodeOf D → Type 0
+FliesBroken n = (r : Record) → n.flight ≡ Some r → HasRisen n.opened n.faults
 
 -- these are journals of a ledger with this genesis, and each of their records is caused
 abbrev pub StaysCaused : Shape → Digest → (ℕ → List Record) → Type 0

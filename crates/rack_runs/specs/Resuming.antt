@@ -1,6 +1,7 @@
 -- What the resuming of a ledger's lanes came to.
 use Rattle.std.specs.Prelude.{◌⊎◌, ℕ, ◌*◌, List, Option, Result, IfOk, IfErr, OnOk}
 use Rattle.std.specs.Global.{Vec}
+use Rattle.outside.specs.declared.disk.Disk.{Ghosts}
 use Rattle.cbdc_model.specs.Lanes.{IsEnd}
 use Rattle.cbdc_model.specs.World.{AreIdle}
 use Rattle.cbdc_model.specs.Waves.{IsResumed}
@@ -14,31 +15,31 @@ use Rattle.ledger_runs.specs.Faults.{TakesInOrder, IsRunCause, AllRestOrWait, Ha
 use Rattle.file_runs.specs.Ledgers.{LedgerOf, journals, flights, faults, opened, capacity, IsChecked, IsQuiet, KeepsLedgerOf}
 
 -- The open batches of a ledger were brought to their end, or a lane met a fault: what the ledger is behind that, and what came of it.
-pub record HasResumed {D : Type 0} (count limit : D → ℕ) (content : D → Option (List ℕ)) (images : D → List ℕ → Type 0) (before now : LedgerOf D)
+pub record HasResumed {D : Type 0} (device : Ghosts D) (before now : LedgerOf D)
     (came : Result (Vec ResumedBatch) LaneFault) : Type 0 where
-  pub keeps_ledger : KeepsLedgerOf count limit content images before now
-  pub idle : OnOk came (AreIdle before.header.shape (journals count limit now))
-  pub keeps : OfKept before.header.shape (journals count limit before) (StaysKept before.header.shape (journals count limit before) (journals count limit now))
-  pub resumed : OnOk came (OfKept before.header.shape (journals count limit before) (λ _ _. IsResumed before.header.shape (journals count limit before) (journals count limit now)))
+  pub keeps_ledger : KeepsLedgerOf device.content device.images before now
+  pub idle : OnOk came (AreIdle before.header.shape (journals now))
+  pub keeps : OfKept before.header.shape (journals before) (StaysKept before.header.shape (journals before) (journals now))
+  pub resumed : OnOk came (OfKept before.header.shape (journals before) (λ _ _. IsResumed before.header.shape (journals before) (journals now)))
   -- the batches that were open, in order, each with the phase in which it stood and what is decided of it; and none was prepared
-  pub told : IfOk came (λ rs. OfKept before.header.shape (journals count limit before)
-      (λ _ _. TellResumed before.header.shape (journals count limit before) (journals count limit now) (before.header.shape.coordinators * before.header.shape.lanes) rs.items))
-  pub prepares : SamePrepared before.header.shape (journals count limit before) (journals count limit now)
+  pub told : IfOk came (λ rs. OfKept before.header.shape (journals before)
+      (λ _ _. TellResumed before.header.shape (journals before) (journals now) (before.header.shape.coordinators * before.header.shape.lanes) rs.items))
+  pub prepares : SamePrepared before.header.shape (journals before) (journals now)
   pub quiet : OnOk came (IsQuiet before → IsQuiet now)
-  pub flies : OfKept before.header.shape (journals count limit before)
-      (FliesOn before.header.shape (journals count limit before) (journals count limit now) (flights count limit before) (flights count limit now))
-  pub launches : Launches before.header.shape (λ _. Nothing) (journals count limit before) (journals count limit now) (flights count limit before) (flights count limit now)
-  pub checked : IsChecked count limit now
-  pub grows : (n : ℕ) → IsEnd (journals count limit before n) (journals count limit now n)
+  pub flies : OfKept before.header.shape (journals before)
+      (FliesOn before.header.shape (journals before) (journals now) (flights before) (flights now))
+  pub launches : Launches before.header.shape (λ _. Nothing) (journals before) (journals now) (flights before) (flights now)
+  pub checked : IsChecked now
+  pub grows : (n : ℕ) → IsEnd (journals before n) (journals now n)
   -- with a fault or without, lane by lane in rising order
-  pub order : TakesInOrder before.header.shape (journals count limit before) (journals count limit now)
+  pub order : TakesInOrder before.header.shape (journals before) (journals now)
   -- its fault has its cause
-  pub fault : IfErr came (IsRunCause before.header.shape (λ _. Nothing) (journals count limit before) (journals count limit now)
-      (HaveFailed (opened count limit now) (faults count limit now)) (MayHold (capacity count limit now)))
+  pub fault : IfErr came (IsRunCause before.header.shape (λ _. Nothing) (journals before) (journals now)
+      (HaveFailed (opened now) (faults now)) (MayHold (capacity now)))
   -- it is that of the least lane that met one: all lesser lanes are idle; only where memory ran out before the first was taken up is nothing done
-  pub least : IfErr came (IsLeastOpen before.header.shape (journals count limit before) (journals count limit now)
-      (HaveFailed (opened count limit now) (faults count limit now)) (MayHold (capacity count limit now)))
+  pub least : IfErr came (IsLeastOpen before.header.shape (journals before) (journals now)
+      (HaveFailed (opened now) (faults now)) (MayHold (capacity now)))
   -- behind the fault of a lane each lane was taken up: it is between batches, or its batch lacks a Lock, or the disk of a node that it asks has failed;
   -- or memory was wanting for its Locks, and it is prepared still
-  pub rests : IfErr came (λ e. IsUnbegun (journals count limit before) (journals count limit now) e
-      ⊎ AllRestOrWait before.header.shape (journals count limit before) (journals count limit now) (HaveFailed (opened count limit now) (faults count limit now)) (λ _. Unit {0}))
+  pub rests : IfErr came (λ e. IsUnbegun (journals before) (journals now) e
+      ⊎ AllRestOrWait before.header.shape (journals before) (journals now) (HaveFailed (opened now) (faults now)) (λ _. Unit {0}))

@@ -1,6 +1,7 @@
 -- What runs leave of the ledger that a rack showed.
 use Rattle.std.specs.Prelude.{◌≤◌, ◌≡◌, ◌⊎◌, ℕ, ◌<◌, Bool, true, false, List, [], ◌++◌, length, reverse, Option, Some}
 use Rattle.outside.specs.Counts.{Rose}
+use Rattle.outside.specs.declared.disk.Disk.{Ghosts}
 use Rattle.cbdc_types.specs.declared.answer.Answer.{Answer}
 use Rattle.cbdc_model.specs.Records.{Shape, Batch, Compact, Record, Prepare, journal}
 use Rattle.cbdc_model.specs.Coins.{Output, FullTx}
@@ -32,11 +33,11 @@ pub record IsGrown (K : Shape) (mint : List Output) (submissions : List FullTx) 
 
 -- a run: the open batches are brought to their end, lane by lane in rising order, one file's wave after another follows, each disk holds its journal and no record more
 -- and has room for it and for what is kept, and the sentence holds of the journals
-pub record IsRun {D : Type 0} (images : D → List ℕ → Type 0) (limit : D → ℕ) (held : ℕ → Option D) (verdicts : VerdictsOf) (files : List (List FullTx)) (K : Shape) (mint : List Output) (submissions : List FullTx) (E : ℕ → List Record) : Type 0 where
+pub record IsRun {D : Type 0} (device : Ghosts D) (held : ℕ → Option D) (verdicts : VerdictsOf) (files : List (List FullTx)) (K : Shape) (mint : List Output) (submissions : List FullTx) (E : ℕ → List Record) : Type 0 where
   pub exit : ℕ → List Record
   pub grown : IsGrown K mint (submissions ++ joined files) E exit
-  pub disks : HoldsEach images held K exit
-  pub rooms : HaveRoom limit held K exit
+  pub disks : HoldsEach device held K exit
+  pub rooms : HaveRoom device held K exit
   pub resumed : files ≡ [] → IsResumed K E exit
   pub waves : Waves K (sound_by verdicts) files E exit
   pub in_order : IsInOrder K E exit
@@ -44,51 +45,51 @@ pub record IsRun {D : Type 0} (images : D → List ℕ → Type 0) (limit : D �
 
 -- a recovery: the open batches are brought to their end, lane by lane in rising order, nothing else is done, each disk holds its journal and no record more and
 -- has room for it and for what is kept, and the sentence holds of the journals
-pub record IsRecovered {D : Type 0} (images : D → List ℕ → Type 0) (limit : D → ℕ) (held : ℕ → Option D) (K : Shape) (mint : List Output) (submissions : List FullTx) (E : ℕ → List Record) : Type 0 where
+pub record IsRecovered {D : Type 0} (device : Ghosts D) (held : ℕ → Option D) (K : Shape) (mint : List Output) (submissions : List FullTx) (E : ℕ → List Record) : Type 0 where
   pub exit : ℕ → List Record
   pub grown : IsGrown K mint submissions E exit
-  pub disks : HoldsEach images held K exit
-  pub rooms : HaveRoom limit held K exit
+  pub disks : HoldsEach device held K exit
+  pub rooms : HaveRoom device held K exit
   pub resumed : IsResumed K E exit
   pub in_order : IsInOrder K E exit
   pub headline : Clean mint submissions → Headline K mint submissions exit
 
 -- whatever a crash leaves of the disks opens to journals that have grown from those at entry, and are kept, and each disk has room for its journal
 -- and for what is kept for the batches that are open there
-abbrev pub SurvivesCrashes : {D : Type 0} → (D → List ℕ → Type 0) → (D → ℕ) → (ℕ → Option D) → Shape → List Output → List FullTx → (ℕ → List Record) → Type 0
-SurvivesCrashes images limit held K mint submissions E =
-    (contents : ℕ → List ℕ) → AreLeft images held K contents → (X : ℕ → List Record) × OpenTo held K contents X × IsGrown K mint submissions E X × HaveRoom limit held K X
+abbrev pub SurvivesCrashes : {D : Type 0} → Ghosts D → (ℕ → Option D) → Shape → List Output → List FullTx → (ℕ → List Record) → Type 0
+SurvivesCrashes device held K mint submissions E =
+    (contents : ℕ → List ℕ) → AreLeft device held K contents → (X : ℕ → List Record) × OpenTo held K contents X × IsGrown K mint submissions E X × HaveRoom device held K X
 
 -- a run that a lane's fault cut short: each disk keeps its journal at exit, with one record more or without, and has room for it and for what is kept
 -- for the batches that are open there; and whatever a crash leaves of the disks is kept
-pub record IsCutShort {D : Type 0} (images : D → List ℕ → Type 0) (limit : D → ℕ) (held : ℕ → Option D) (files : List (List FullTx)) (exit : ℕ → List Record) (K : Shape) (mint : List Output) (submissions : List FullTx) (E : ℕ → List Record) : Type 0 where
+pub record IsCutShort {D : Type 0} (device : Ghosts D) (held : ℕ → Option D) (files : List (List FullTx)) (exit : ℕ → List Record) (K : Shape) (mint : List Output) (submissions : List FullTx) (E : ℕ → List Record) : Type 0 where
   pub grown : IsGrown K mint (submissions ++ joined files) E exit
-  pub disks : KeepsEach images held K exit
-  pub rooms : HaveRoom limit held K exit
-  pub crashes : SurvivesCrashes images limit held K mint (submissions ++ joined files) E
+  pub disks : KeepsEach device held K exit
+  pub rooms : HaveRoom device held K exit
+  pub crashes : SurvivesCrashes device held K mint (submissions ++ joined files) E
 
 -- the journals of the ledger that the disks told
-abbrev pub entry_journals : {D : Type 0} {content : D → Option (List ℕ)} {held : ℕ → Option D} → IsCausedLedger content held → ℕ → List Record
+abbrev pub entry_journals : {D : Type 0} {content : D → Option (List ℕ)} {held : ℕ → Option D} → IsCausedLedger device held → ℕ → List Record
 entry_journals ledger n = journal n (reverse ledger.rows)
 
 -- the disks told a ledger in which each record was caused; each of its disks had room for its journal and for what is kept for the batches that were
 -- open there, and in each place there is as much room as there was; so each has room for its journal at exit, which has grown at its end from that at
 -- entry, by records that are caused too; where the disks told all each holds its journal and no record more; and the disks that are no nodes of it are
 -- as before
-pub record TookLedger {D : Type 0} (content : D → Option (List ℕ)) (images : D → List ℕ → Type 0) (limit : D → ℕ) (held back : ℕ → Option D) : Type 0 where
-  pub ledger : IsCausedLedger content held
-  pub room : HaveRoom limit held ledger.shape (entry_journals ledger)
-  pub same_room : (n : ℕ) → n < node_count ledger.shape → SameRoom limit (held n) (back n)
+pub record TookLedger {D : Type 0} (device : Ghosts D) (held back : ℕ → Option D) : Type 0 where
+  pub ledger : IsCausedLedger device held
+  pub room : HaveRoom device held ledger.shape (entry_journals ledger)
+  pub same_room : (n : ℕ) → n < node_count ledger.shape → SameRoom device (held n) (back n)
   pub exit : ℕ → List Record
   pub grows : (n : ℕ) → IsEnd (entry_journals ledger n) (exit n)
   pub caused : StaysCaused ledger.shape ledger.genesis exit
-  pub disks : AllTell content held ledger.shape → HoldsEach images back ledger.shape exit
-  pub rooms : HaveRoom limit back ledger.shape exit
+  pub disks : AllTell device held ledger.shape → HoldsEach device back ledger.shape exit
+  pub rooms : HaveRoom device back ledger.shape exit
   pub spared : (n : ℕ) → node_count ledger.shape ≤ n → back n ≡ held n
 
 -- whatever a crash may leave of a node's disk that is told opens to this journal, with what is in flight there or without
-abbrev pub KeepsFlights : {D : Type 0} → (D → List ℕ → Type 0) → (ℕ → Option D) → Shape → (ℕ → List Record) → (ℕ → Option Record) → Type 0
-KeepsFlights images held K X flights = (n : ℕ) → n < node_count K → OfTold (held n) (λ d. (c : List ℕ) → images d c → OpensToEither (reverse (X n)) (flights n) c)
+abbrev pub KeepsFlights : {D : Type 0} → Ghosts D → (ℕ → Option D) → Shape → (ℕ → List Record) → (ℕ → Option Record) → Type 0
+KeepsFlights device held K X flights = (n : ℕ) → n < node_count K → OfTold (held n) (λ d. (c : List ℕ) → device.images d c → OpensToEither (reverse (X n)) (flights n) c)
 
 -- a lane's fault ended a run over the ledger that the disks told, in which each record was caused: its journals have grown at their ends, by records
 -- that are caused too, as a run that began so far grows them; a record is in flight only at a node whose disk has failed since, a Prepare only of
@@ -98,9 +99,9 @@ KeepsFlights images held K X flights = (n : ℕ) → n < node_count K → OfTold
 -- or the disk of a node that it asks has failed, or its batch was prepared and is so still, for want of memory; each disk of the ledger had room for its
 -- journal and for what is kept for the batches that were open there, in each place there is as much room as there was, and so for its journal at
 -- exit; the disks that are no nodes of it are as before; and where the ledger was kept it is cut short
-pub record IsLaneFault {D : Type 0} (content : D → Option (List ℕ)) (images : D → List ℕ → Type 0) (limit : D → ℕ) (held back : ℕ → Option D) (before now : ℕ → ℕ) (next : Shape → (ℕ → List Record) → (ℕ → List Record) → ℕ → List Compact → Type 0)
+pub record IsLaneFault {D : Type 0} (device : Ghosts D) (held back : ℕ → Option D) (before now : ℕ → ℕ) (next : Shape → (ℕ → List Record) → (ℕ → List Record) → ℕ → List Compact → Type 0)
     (ends : Shape → (ℕ → List Record) → (ℕ → List Record) → (ℕ → Type 0) → (ℕ → ℕ → Type 0) → LaneFault → Type 0) (begun : Shape → (ℕ → List Record) → (ℕ → List Record) → Type 0) (files : List (List FullTx)) (answer : Answer) : Type 0 where
-  pub ledger : IsCausedLedger content held
+  pub ledger : IsCausedLedger device held
   pub exit : ℕ → List Record
   pub grows : (n : ℕ) → IsEnd (entry_journals ledger n) (exit n)
   pub caused : StaysCaused ledger.shape ledger.genesis exit
@@ -108,15 +109,15 @@ pub record IsLaneFault {D : Type 0} (content : D → Option (List ℕ)) (images 
   pub flights : ℕ → Option Record
   pub in_flight : (n : ℕ) (r : Record) → n < node_count ledger.shape → flights n ≡ Some r → Rose (before n) (now n)
   pub prepares : (n t : ℕ) (b : Batch) (txs : List Compact) → n < node_count ledger.shape → flights n ≡ Some (Prepare t b txs) → IsLaneOf ledger.shape b.lane × next ledger.shape (entry_journals ledger) exit b.lane txs
-  pub disks : AllTell content held ledger.shape → KeepsFlights images back ledger.shape exit flights
-  pub cause : IsLaneAnswer ledger.shape (next ledger.shape (entry_journals ledger) exit) (entry_journals ledger) exit (λ n. Rose (before n) (now n)) (λ n c. OfTold (held n) (λ d. c ≡ limit d)) answer
+  pub disks : AllTell device held ledger.shape → KeepsFlights device back ledger.shape exit flights
+  pub cause : IsLaneAnswer ledger.shape (next ledger.shape (entry_journals ledger) exit) (entry_journals ledger) exit (λ n. Rose (before n) (now n)) (λ n c. OfTold (held n) (λ d. c ≡ device.limit d)) answer
   pub may_come : MayComeNext ledger.shape ledger.genesis (next ledger.shape (entry_journals ledger) exit) (entry_journals ledger) exit
-  pub least : IsLeastAnswer (ends ledger.shape (entry_journals ledger) exit (λ n. Rose (before n) (now n)) (λ n c. OfTold (held n) (λ d. c ≡ limit d))) answer
+  pub least : IsLeastAnswer (ends ledger.shape (entry_journals ledger) exit (λ n. Rose (before n) (now n)) (λ n c. OfTold (held n) (λ d. c ≡ device.limit d))) answer
   pub rests : AllRestSince ledger.shape (entry_journals ledger) exit (λ n. Rose (before n) (now n))
-  pub room : HaveRoom limit held ledger.shape (entry_journals ledger)
-  pub same_room : (n : ℕ) → n < node_count ledger.shape → SameRoom limit (held n) (back n)
-  pub rooms : HaveRoom limit back ledger.shape exit
-  pub kept : OfShown content held (IsCutShort images limit back files exit)
+  pub room : HaveRoom device held ledger.shape (entry_journals ledger)
+  pub same_room : (n : ℕ) → n < node_count ledger.shape → SameRoom device (held n) (back n)
+  pub rooms : HaveRoom device back ledger.shape exit
+  pub kept : OfShown device held (IsCutShort device back files exit)
   pub spared : (n : ℕ) → node_count ledger.shape ≤ n → back n ≡ held n
 
 -- nothing is next for any lane

@@ -1,5 +1,6 @@
 -- A command's own test of the ledger at entry, and what its refusal leaves of the rack.
 use Rattle.std.specs.Prelude.{◌⊎◌, ℕ, List, Option}
+use Rattle.outside.specs.declared.disk.Disk.{Ghosts}
 use Rattle.cbdc_types.specs.declared.answer.Answer.{Answer}
 use Rattle.cbdc_model.specs.Records.{Shape, Record}
 use Rattle.rack_ledgers.specs.Racked.{AreUnchanged}
@@ -21,12 +22,12 @@ no_test = record {
 }
 
 -- the disks told a ledger in which each record was caused, the test refuses it with this answer, and the disks are back unchanged
-pub record IsTestRefused {D : Type 0} (content : D → Option (List ℕ)) (images : D → List ℕ → Type 0) (limit : D → ℕ) (held back : ℕ → Option D) (test : Test) (answer : Answer) : Type 0 where
-  pub ledger : IsCausedLedger content held
+pub record IsTestRefused {D : Type 0} (device : Ghosts D) (held back : ℕ → Option D) (test : Test) (answer : Answer) : Type 0 where
+  pub ledger : IsCausedLedger device held
   pub refused : test.refuses ledger.shape (entry_journals ledger) answer
-  pub unchanged : AreUnchanged content images limit held back
+  pub unchanged : AreUnchanged device held back
 
 -- a work did not come to be done: as `WhyNoTurns` says; or its own test refused the ledger
-abbrev pub WhyNotBegun : {D Done : Type 0} → (D → Option (List ℕ)) → (D → List ℕ → Type 0) → (D → ℕ) → (D → ℕ) → (ℕ → Option D) → (ℕ → Option D) → (ℕ → ℕ) → (ℕ → ℕ) → Deed Done → Test → Answer → Type 0
-WhyNotBegun content images limit count held back before now d test answer =
-    WhyNoTurns content images limit count held back before now d.next (EndsWork d) (BeginsWork d) d.handed answer ⊎ IsTestRefused content images limit held back test answer
+abbrev pub WhyNotBegun : {D Done : Type 0} → Ghosts D → (ℕ → Option D) → (ℕ → Option D) → (ℕ → ℕ) → (ℕ → ℕ) → Deed Done → Test → Answer → Type 0
+WhyNotBegun device held back before now d test answer =
+    WhyNoTurns device held back before now d.next (EndsWork d) (BeginsWork d) d.handed answer ⊎ IsTestRefused device held back test answer

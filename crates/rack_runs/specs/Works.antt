@@ -1,5 +1,6 @@
 -- What a command does over a ledger whose open batches are at their end, and what that leaves of the ledger that a rack showed.
 use Rattle.std.specs.Prelude.{◌≡◌, ◌⊎◌, ℕ, ◌+◌, ◌*◌, ◌^◌, ◌<◌, ◌≤◌, List, length, ◌++◌, Option, Result, All, IfOk, IfErr, OnOk}
+use Rattle.outside.specs.declared.disk.Disk.{Ghosts}
 use Rattle.cbdc_types.specs.Limits.{IsWithinLimits}
 use Rattle.cbdc_types.specs.declared.answer.Answer.{Answer}
 use Rattle.cbdc_model.specs.Records.{Shape, Header, Compact, Record}
@@ -10,8 +11,7 @@ use Rattle.cbdc_model.specs.Lanes.{IsEnd}
 use Rattle.cbdc_model.specs.World.{AreIdle}
 use Rattle.cbdc_model.specs.Headline.{Headline}
 use Rattle.cbdc_model.specs.Waves.{IsResumed}
-use Rattle.coord_log.specs.Logs.{LogOf}
-use Rattle.shard_node.specs.Shards.{ShardOf}
+use Rattle.node_journal.specs.Nodes.{NodeOf}
 use Rattle.lane_driver.specs.declared.fault.LaneFault.{LaneFault}
 use Rattle.recovery.specs.declared.resumed.ResumedBatch.{ResumedBatch}
 use Rattle.ledger_runs.specs.Turning.{IsLaneOf, OfKept, StaysKept}
@@ -24,9 +24,9 @@ use Rattle.file_runs.specs.Runs.{joined, FliesWith}
 use Rattle.rack_ledgers.specs.Places.{EachFrom, MayReturn}
 use Rattle.rack_ledgers.specs.Ledgers.{ByPlace, AreOpened}
 use Rattle.rack_ledgers.specs.Caused.{journals_of as told_journals, AreCaused}
-use Rattle.rack_laws.specs.Shown.{OfShown, HoldsEach, LogHasRoom, ShardHasRoom, LogFits, ShardFits, HaveRoom, node_count}
+use Rattle.rack_laws.specs.Shown.{OfShown, HoldsEach, NodeHasRoom, NodeFits, HaveRoom, node_count}
 use Rattle.printed_lines.specs.Unspent.{IsUnspentCount}
-use Rattle.rack_runs.specs.Kinds.{FliesBroken, ShardFliesBroken}
+use Rattle.rack_runs.specs.Kinds.{FliesBroken}
 use Rattle.rack_runs.specs.Endings.{IsInOrder}
 use Rattle.rack_runs.specs.Runs.{IsGrown, TookLedger, AddsOpen}
 use Rattle.rack_runs.specs.Stops.{WhyNoTurns}
@@ -84,16 +84,16 @@ pub record EndsBadly {Done : Type 0} (d : Deed Done) (K : Shape) (M X : ℕ → 
   pub ends : d.ends K M X failed may_hold e
 
 -- A work was done over the nodes of a ledger with no open batch: what the ledger is behind it, and what came of it.
-pub record HasWorked {D Done : Type 0} (count limit : D → ℕ) (content : D → Option (List ℕ)) (images : D → List ℕ → Type 0) (d : Deed Done)
+pub record HasWorked {D Done : Type 0} (device : Ghosts D) (d : Deed Done)
     (before now : LedgerOf D) (came : Result Done LaneFault) : Type 0 where
-  pub keeps_ledger : KeepsLedgerOf count limit content images before now
-  pub checked : IsChecked count limit now
+  pub keeps_ledger : KeepsLedgerOf device.content device.images before now
+  pub checked : IsChecked now
   pub quiet : OnOk came (IsQuiet before → IsQuiet now)
-  pub leaves : LeavesWork d before.header.shape (journals count limit before) (journals count limit now) (flights count limit before) (flights count limit now)
-      (HaveFailed (opened count limit now) (faults count limit now))
-  pub well : IfOk came (EndsWell d before.header.shape (journals count limit before) (journals count limit now))
-  pub badly : IfErr came (EndsBadly d before.header.shape (journals count limit before) (journals count limit now)
-      (HaveFailed (opened count limit now) (faults count limit now)) (MayHold (capacity count limit now)))
+  pub leaves : LeavesWork d before.header.shape (journals before) (journals now) (flights before) (flights now)
+      (HaveFailed (opened now) (faults now))
+  pub well : IfOk came (EndsWell d before.header.shape (journals before) (journals now))
+  pub badly : IfErr came (EndsBadly d before.header.shape (journals before) (journals now)
+      (HaveFailed (opened now) (faults now)) (MayHold (capacity now)))
 
 -- ---- the resuming and the work, from journals E at entry to X
 
@@ -145,28 +145,30 @@ pub record AllBadly {Done : Type 0} (d : Deed Done) (K : Shape) (E X : ℕ → L
   pub ends : EndsWork d K E X failed may_hold e
 
 -- The open batches of a ledger were brought to their end, and a work was done: what the ledger is behind it, and what came of it.
-pub record HasRun {D Done : Type 0} (count limit : D → ℕ) (content : D → Option (List ℕ)) (images : D → List ℕ → Type 0) (d : Deed Done)
+pub record HasRun {D Done : Type 0} (device : Ghosts D) (d : Deed Done)
     (before now : LedgerOf D) (resumed : List ResumedBatch) (came : Result Done LaneFault) : Type 0 where
-  pub keeps_ledger : KeepsLedgerOf count limit content images before now
-  pub checked : IsChecked count limit now
+  pub keeps_ledger : KeepsLedgerOf device.content device.images before now
+  pub checked : IsChecked now
   pub quiet : OnOk came (IsQuiet before → IsQuiet now)
-  pub leaves : LeavesAll d before.header.shape (journals count limit before) (journals count limit now) (flights count limit before) (flights count limit now)
-      (HaveFailed (opened count limit now) (faults count limit now))
-  pub well : IfOk came (AllWell d before.header.shape (journals count limit before) (journals count limit now) resumed)
-  pub badly : IfErr came (AllBadly d before.header.shape (journals count limit before) (journals count limit now)
-      (HaveFailed (opened count limit now) (faults count limit now)) (MayHold (capacity count limit now)))
+  pub leaves : LeavesAll d before.header.shape (journals before) (journals now) (flights before) (flights now)
+      (HaveFailed (opened now) (faults now))
+  pub well : IfOk came (AllWell d before.header.shape (journals before) (journals now) resumed)
+  pub badly : IfErr came (AllBadly d before.header.shape (journals before) (journals now)
+      (HaveFailed (opened now) (faults now)) (MayHold (capacity now)))
 
--- what nodes say of themselves: each one's count of faults and capacity are its disk's, which has room for its journal, for what is kept for its
--- open batches and for what is in flight; and a record is in flight only where the disk failed
-pub record AreSeen {D : Type 0} (count limit : D → ℕ) (logs : List (LogOf D)) (shards : List (ShardOf D)) : Type 0 where
-  pub counts : All (λ l. l.faults ≡ count l.disk) logs
-  pub capacities : All (λ l. l.capacity ≡ limit l.disk) logs
-  pub log_rooms : All (LogHasRoom limit) logs
-  pub shard_rooms : All (ShardHasRoom limit) shards
-  pub log_fits : All (LogFits limit) logs
-  pub shard_fits : All (ShardFits limit) shards
-  pub log_flown : All FliesBroken logs
-  pub shard_flown : All (ShardFliesBroken count) shards
+-- what a node says of itself: its count of faults and its capacity are its disk's, which has room for its journal, for what is kept for its open batches and
+-- for what is in flight; and a record is in flight only where the disk failed
+pub record IsSeen {D : Type 0} (device : Ghosts D) (n : NodeOf D) : Type 0 where
+  pub faults : n.faults ≡ device.count n.disk
+  pub capacity : n.capacity ≡ device.limit n.disk
+  pub room : NodeHasRoom n
+  pub fits : NodeFits n
+  pub flown : FliesBroken n
+
+-- all nodes of a ledger do
+pub record AreSeen {D : Type 0} (device : Ghosts D) (logs shards : List (NodeOf D)) : Type 0 where
+  pub logs_are : All (IsSeen device) logs
+  pub shards_are : All (IsSeen device) shards
 
 -- ---- on a rack
 
@@ -175,47 +177,47 @@ pub record AtEntry (D : Type 0) : Type 0 where
   pub held : ℕ → Option D
   pub before : ℕ → ℕ
   pub header : Header
-  pub logs : List (LogOf D)
-  pub shards : List (ShardOf D)
+  pub logs : List (NodeOf D)
+  pub shards : List (NodeOf D)
 
 abbrev pub entry_ledger : {D : Type 0} → AtEntry D → LedgerOf D
 entry_ledger e = record { header = e.header; logs = e.logs; shards = e.shards }
 
 -- all nodes of the ledger that the rack told were opened, each record of it is caused, and their disks may be put back
-pub record IsOpen {D : Type 0} (content : D → Option (List ℕ)) (images : D → List ℕ → Type 0) (limit count : D → ℕ) (e : AtEntry D) (held : ℕ → Option D)
+pub record IsOpen {D : Type 0} (device : Ghosts D) (e : AtEntry D) (held : ℕ → Option D)
     (can_put : ℕ → ℕ → Type 0) (can_take : ℕ → Type 0) : Type 0 where
-  pub nodes : AreOpened content images limit count e.held e.header e.logs e.shards
+  pub nodes : AreOpened device e.held e.header e.logs e.shards
   pub caused : AreCaused e.header.shape (told_journals e.logs e.shards)
   pub few : length e.logs + length e.shards < 2 ^ 32
-  pub logs_since : ByPlace (λ n x. e.before n ≤ count x.disk) e.logs
-  pub shards_since : ByPlace (λ s x. e.before (e.header.shape.coordinators + s) ≤ count x.disk) e.shards
-  pub logs : EachFrom (MayReturn (λ x. count x.disk) can_put) 0 e.logs
-  pub shards : EachFrom (MayReturn (λ x. count x.disk) can_put) (length e.logs) e.shards
+  pub logs_since : ByPlace (λ n x. e.before n ≤ device.count x.disk) e.logs
+  pub shards_since : ByPlace (λ s x. e.before (e.header.shape.coordinators + s) ≤ device.count x.disk) e.shards
+  pub logs : EachFrom (MayReturn (λ x. device.count x.disk) can_put) 0 e.logs
+  pub shards : EachFrom (MayReturn (λ x. device.count x.disk) can_put) (length e.logs) e.shards
   pub others : (n : ℕ) → length e.logs + length e.shards ≤ n → held n ≡ e.held n
   pub others_in : (n : ℕ) → length e.logs + length e.shards ≤ n → can_take n
 
 -- they were opened, their open batches were brought to their end, and a work was done
-pub record HasCome {D Done : Type 0} (content : D → Option (List ℕ)) (images : D → List ℕ → Type 0) (limit count : D → ℕ) (d : Deed Done) (e : AtEntry D) (held : ℕ → Option D)
+pub record HasCome {D Done : Type 0} (device : Ghosts D) (d : Deed Done) (e : AtEntry D) (held : ℕ → Option D)
     (can_put : ℕ → ℕ → Type 0) (can_take : ℕ → Type 0) (ledger : LedgerOf D) (resumed : List ResumedBatch) (came : Result Done LaneFault) : Type 0 where
-  pub begun : IsOpen content images limit count e held can_put can_take
-  pub ran : HasRun count limit content images d (entry_ledger e) ledger resumed came
+  pub begun : IsOpen device e held can_put can_take
+  pub ran : HasRun device d (entry_ledger e) ledger resumed came
 
 -- where the ledger that the disks told was kept: it came through, each disk holds its journal and no record more and has room for it and for what is
 -- kept, open batches were taken up in the order of their lanes, so many hashes are unspent now, and the sentence holds of the journals
-pub record HasEnded {D Done : Type 0} (images : D → List ℕ → Type 0) (limit : D → ℕ) (held : ℕ → Option D) (d : Deed Done) (told : Told Done)
+pub record HasEnded {D Done : Type 0} (device : Ghosts D) (held : ℕ → Option D) (d : Deed Done) (told : Told Done)
     (K : Shape) (mint : List Output) (submissions : List FullTx) (E : ℕ → List Record) : Type 0 where
   pub exit : ℕ → List Record
   pub well : AllWell d K E exit told.resumed.items told.done
   pub grown : IsGrown K mint (submissions ++ joined d.handed) E exit
-  pub disks : HoldsEach images held K exit
-  pub rooms : HaveRoom limit held K exit
+  pub disks : HoldsEach device held K exit
+  pub rooms : HaveRoom device held K exit
   pub in_order : IsInOrder K E exit
   pub unspent : IsUnspentCount K exit told.unspent
   pub headline : Clean mint (submissions ++ joined d.handed) → Headline K mint (submissions ++ joined d.handed) exit
 
 -- A work was done over the ledger on a rack: what came of it, and what that leaves of the disks.
-pub record HasDone {D Done : Type 0} (content : D → Option (List ℕ)) (images : D → List ℕ → Type 0) (limit count : D → ℕ) (held back : ℕ → Option D)
+pub record HasDone {D Done : Type 0} (device : Ghosts D) (held back : ℕ → Option D)
     (before now : ℕ → ℕ) (d : Deed Done) (came : Result (Told Done) Answer) : Type 0 where
-  pub caused : OnOk came (TookLedger content images limit held back)
-  pub ended : IfOk came (λ told. OfShown content held (HasEnded images limit back d told))
-  pub stopped : IfErr came (WhyNoTurns content images limit count held back before now d.next (EndsWork d) (BeginsWork d) d.handed)
+  pub caused : OnOk came (TookLedger device held back)
+  pub ended : IfOk came (λ told. OfShown device held (HasEnded device back d told))
+  pub stopped : IfErr came (WhyNoTurns device held back before now d.next (EndsWork d) (BeginsWork d) d.handed)

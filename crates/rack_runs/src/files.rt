@@ -48,10 +48,10 @@ pub(crate) fn work_files<
     options: RunOptions,
     gate: &G,
 ) -> Worked<D, Vec<Wave>>
-    requires idle { AreIdle ledger.header.shape (journals D.count D.limit ledger) }
+    requires idle { AreIdle ledger.header.shape (journals ledger) }
     requires short { All (λ txs. All IsShort txs) files.now }
-    requires checked { IsChecked D.count D.limit ledger }
-    ensures { HasWorked D.count D.limit D.content D.images (files_deed (V.verdict_of verifier.now) files.now) ledger result.ledger result.came }
+    requires checked { IsChecked ledger }
+    ensures { HasWorked D.Disk (files_deed (V.verdict_of verifier.now) files.now) ledger result.ledger result.came }
 {
     if files.is_empty() {
         return Worked {
@@ -79,9 +79,9 @@ impl Work for NoWork {
 
 /// Gives a ledger with no open batch back.
 pub(crate) fn work_none<D: Disk>(ledger: Ledger<D>) -> Worked<D, ()>
-    requires idle { AreIdle ledger.header.shape (journals D.count D.limit ledger) }
-    requires checked { IsChecked D.count D.limit ledger }
-    ensures { HasWorked D.count D.limit D.content D.images no_deed ledger result.ledger result.came }
+    requires idle { AreIdle ledger.header.shape (journals ledger) }
+    requires checked { IsChecked ledger }
+    ensures { HasWorked D.Disk no_deed ledger result.ledger result.came }
 {
     Worked {
         ledger,

@@ -1,9 +1,8 @@
 // The nodes of a ledger, as those that a rack keeps.
 ghost use Rattle.std.specs.Prelude.{◌≡◌, ◌⊎◌, Ok, Err, map, All, IfOk, IfSome, IfErr};
 ghost use Rattle.file_runs.specs.Ledgers.{IsLedger};
-ghost use Rattle.rack_laws.specs.Shown.{LogHasRoom, ShardHasRoom, LogFits, ShardFits};
-ghost use Rattle.rack_runs.specs.Kinds.{answer_to, FliesBroken, ShardFliesBroken};
-ghost use Rattle.rack_runs.specs.Works.{AreSeen};
+ghost use Rattle.rack_runs.specs.Kinds.{answer_to};
+ghost use Rattle.rack_runs.specs.Works.{IsSeen, AreSeen};
 ghost use Rattle.lane_driver.specs.declared.fault.LaneFault.{LaneFault as FaultOf};
 ghost use Rattle.rack_runs.specs.Telling.{CountAll};
 
@@ -18,24 +17,18 @@ use rack_ledgers::Nodes;
 use recovery::ResumedBatch;
 use shard_node::ShardNode;
 
-// Each coordinator's count of faults and its capacity are its disk's, which has room for what is kept for its open batches; a record is in flight only where the disk failed.
+// What each coordinator says of itself: a call that reads it says so.
 fn see_logs<D: Disk>(logs: &[CoordLog<D>])
-    ensures counts { All (λ l. l.faults ≡ D.count l.disk) logs.now }
-    ensures capacities { All (λ l. l.capacity ≡ D.limit l.disk) logs.now }
-    ensures rooms { All (LogHasRoom D.limit) logs.now }
-    ensures flown { All FliesBroken logs.now }
-    ensures fits { All (LogFits D.limit) logs.now }
+    ensures { All (IsSeen D.Disk) logs.now }
 {
     'logs: for log in logs {
         let _header = log.header();
     }
 }
 
-// The same of each shard's disk.
+// The same of each shard.
 fn see_shards<D: Disk>(shards: &[ShardNode<D>])
-    ensures rooms { All (ShardHasRoom D.limit) shards.now }
-    ensures flown { All (ShardFliesBroken D.count) shards.now }
-    ensures fits { All (ShardFits D.limit) shards.now }
+    ensures { All (IsSeen D.Disk) shards.now }
 {
     'shards: for shard in shards {
         let _header = shard.header();
@@ -100,7 +93,7 @@ pub(crate) fn ledger_of<D: Disk>(nodes: Nodes<D>) -> Ledger<D>
 pub(crate) fn nodes_of<D: Disk>(ledger: Ledger<D>) -> Nodes<D>
     ensures ledger { IsLedger result.header result.logs.items result.shards.items }
     ensures same { ledger ≡ record { header = result.header; logs = result.logs.items; shards = result.shards.items } }
-    ensures seen { AreSeen D.count D.limit result.logs.items result.shards.items }
+    ensures seen { AreSeen D.Disk result.logs.items result.shards.items }
 {
     let Ledger {
         header,

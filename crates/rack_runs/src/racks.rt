@@ -50,13 +50,13 @@ where
     // The nodes were opened as the rack told them at entry, and each record is caused; what the ledger is behind the resuming; and as it was at entry
     // the work's own test let it pass.
     ensures begun { IfOk result (λ b. (e : AtEntry R.Disk) × (e.held ≡ R.held rack.old) × (e.before ≡ R.count rack.old)
-        × IsOpen R.Disk.content R.Disk.images R.Disk.limit R.Disk.count e (R.held rack.new) (R.can_put rack.new) (R.can_take rack.new)
-        × HasResumed R.Disk.count R.Disk.limit R.Disk.content R.Disk.images (entry_ledger e) b.ledger (Ok b.resumed)
-        × (K.tests work.now).passes e.header.shape (journals R.Disk.count R.Disk.limit (entry_ledger e))) }
+        × IsOpen R.Disk.Disk e (R.held rack.new) (R.can_put rack.new) (R.can_take rack.new)
+        × HasResumed R.Disk.Disk (entry_ledger e) b.ledger (Ok b.resumed)
+        × (K.tests work.now).passes e.header.shape (journals (entry_ledger e))) }
 
     // The nodes could not be opened, or a record is not caused, and the disks are back; or a lane met a fault; or the work's own test refuses the
     // ledger, and the disks are back unchanged.
-    ensures stopped { IfErr result (WhyNotBegun R.Disk.content R.Disk.images R.Disk.limit R.Disk.count (R.held rack.old) (R.held rack.new)
+    ensures stopped { IfErr result (WhyNotBegun R.Disk.Disk (R.held rack.old) (R.held rack.new)
         (R.count rack.old) (R.count rack.new) (K.deed work.now) (K.tests work.now)) }
     ensures back { OnErr result ((n : ℕ) → R.can_take rack.new n) }
     ensures later { (n : ℕ) → R.count rack.old n ≤ R.count rack.new n }
@@ -89,12 +89,12 @@ pub fn end_on<R: Rack, K: Work>(
     came: Result<K::Done, LaneFault>,
 ) -> Result<Told<K::Done>, Answer>
     // The ledger was begun so on this rack, and the work was done behind that.
-    requires come { (e : AtEntry R.Disk) × HasCome R.Disk.content R.Disk.images R.Disk.limit R.Disk.count (K.deed work.now) e
+    requires come { (e : AtEntry R.Disk) × HasCome R.Disk.Disk (K.deed work.now) e
         (R.held rack.old) (R.can_put rack.old) (R.can_take rack.old) ledger resumed.items came }
     requires fit { AllFit (K.deed work.now) }
-    ensures done { (e : AtEntry R.Disk) → HasCome R.Disk.content R.Disk.images R.Disk.limit R.Disk.count (K.deed work.now) e
+    ensures done { (e : AtEntry R.Disk) → HasCome R.Disk.Disk (K.deed work.now) e
         (R.held rack.old) (R.can_put rack.old) (R.can_take rack.old) ledger resumed.items came
-        → HasDone R.Disk.content R.Disk.images R.Disk.limit R.Disk.count e.held (R.held rack.new) e.before (R.count rack.new) (K.deed work.now) result }
+        → HasDone R.Disk.Disk e.held (R.held rack.new) e.before (R.count rack.new) (K.deed work.now) result }
     ensures back { (n : ℕ) → R.can_take rack.new n }
     ensures later { (n : ℕ) → R.count rack.old n ≤ R.count rack.new n }
 {
@@ -153,21 +153,21 @@ where
     // The rack showed a ledger, each record of its history is caused by what stands before it, and the disks had the room that is kept for its
     // open batches. Its journals have grown at their ends by records that are caused too, and where all disks told each holds just its own; in
     // each place there is as much room as there was, and so for its journal and for what is kept. The disks that are no nodes of it are as they were.
-    ensures caused { OnOk result (TookLedger R.Disk.content R.Disk.images R.Disk.limit (R.held rack.old) (R.held rack.new)) }
+    ensures caused { OnOk result (TookLedger R.Disk.Disk (R.held rack.old) (R.held rack.new)) }
 
     // Where that ledger was kept, it has its open batches at their end and the files' waves behind them, and each disk holds its journal.
-    ensures ran { OnOk result (OfShown R.Disk.content (R.held rack.old) (IsRun R.Disk.images R.Disk.limit (R.held rack.new) (V.verdict_of verifier.now) files.now)) }
+    ensures ran { OnOk result (OfShown R.Disk.Disk (R.held rack.old) (IsRun R.Disk.Disk (R.held rack.new) (V.verdict_of verifier.now) files.now)) }
 
     // And what was done is told: the batches that were open, what came of each submission, and how many hashes are unspent now.
-    ensures told { IfOk result (λ r. OfShown R.Disk.content (R.held rack.old) (IsTold R.Disk.images R.Disk.limit (R.held rack.new) (V.verdict_of verifier.now) files.now r)) }
+    ensures told { IfOk result (λ r. OfShown R.Disk.Disk (R.held rack.old) (IsTold R.Disk.Disk (R.held rack.new) (V.verdict_of verifier.now) files.now r)) }
 
     // The nodes could not be opened, or a record is not caused, and the disks are back; or the rack showed such a ledger and a lane met a
     // fault, which has its cause and is that of the least lane that met one: what a lane wants may come next where it would stand, journals have
     // grown at their ends, they lie within the disks' capacities, and a Prepare in flight is that of its lane's next piece. Where they were kept
     // they still are, whatever a crash leaves.
-    ensures stopped { IfErr result (λ e. (IsUnresumed R.Disk.content R.Disk.images R.Disk.limit R.Disk.count (R.held rack.old) (R.count rack.old) (R.count rack.new) e
-        × AreBack R.Disk.content R.Disk.images R.Disk.limit (R.count rack.old) (R.count rack.new) (R.held rack.old) (R.held rack.new))
-        ⊎ (IsLaneFault R.Disk.content R.Disk.images R.Disk.limit (R.held rack.old) (R.held rack.new) (R.count rack.old) (R.count rack.new) (PieceNext (V.verdict_of verifier.now) files.now)
+    ensures stopped { IfErr result (λ e. (IsUnresumed R.Disk.Disk (R.held rack.old) (R.count rack.old) (R.count rack.new) e
+        × AreBack R.Disk.Disk (R.count rack.old) (R.count rack.new) (R.held rack.old) (R.held rack.new))
+        ⊎ (IsLaneFault R.Disk.Disk (R.held rack.old) (R.held rack.new) (R.count rack.old) (R.count rack.new) (PieceNext (V.verdict_of verifier.now) files.now)
         (EndsRun (V.verdict_of verifier.now) files.now) (PiecesPrepared (V.verdict_of verifier.now) files.now) files.now e)) }
 
     ensures back { (n : ℕ) → R.can_take rack.new n }
@@ -195,12 +195,12 @@ pub fn recover_on<W: Wait + Threads + Sync, R: Rack, G: Gate + Sync>(
 where
     R::Disk: Send,
     requires all { (n : ℕ) → R.can_take rack.old n }
-    ensures caused { OnOk result (TookLedger R.Disk.content R.Disk.images R.Disk.limit (R.held rack.old) (R.held rack.new)) }
-    ensures recovered { OnOk result (OfShown R.Disk.content (R.held rack.old) (IsRecovered R.Disk.images R.Disk.limit (R.held rack.new))) }
-    ensures told { IfOk result (λ r. (verdicts : VerdictsOf) × OfShown R.Disk.content (R.held rack.old) (IsTold R.Disk.images R.Disk.limit (R.held rack.new) verdicts [] r)) }
-    ensures stopped { IfErr result (λ e. (IsUnresumed R.Disk.content R.Disk.images R.Disk.limit R.Disk.count (R.held rack.old) (R.count rack.old) (R.count rack.new) e
-        × AreBack R.Disk.content R.Disk.images R.Disk.limit (R.count rack.old) (R.count rack.new) (R.held rack.old) (R.held rack.new))
-        ⊎ (IsLaneFault R.Disk.content R.Disk.images R.Disk.limit (R.held rack.old) (R.held rack.new) (R.count rack.old) (R.count rack.new) NothingNext IsLeastOpen NonePrepared [] e)) }
+    ensures caused { OnOk result (TookLedger R.Disk.Disk (R.held rack.old) (R.held rack.new)) }
+    ensures recovered { OnOk result (OfShown R.Disk.Disk (R.held rack.old) (IsRecovered R.Disk.Disk (R.held rack.new))) }
+    ensures told { IfOk result (λ r. (verdicts : VerdictsOf) × OfShown R.Disk.Disk (R.held rack.old) (IsTold R.Disk.Disk (R.held rack.new) verdicts [] r)) }
+    ensures stopped { IfErr result (λ e. (IsUnresumed R.Disk.Disk (R.held rack.old) (R.count rack.old) (R.count rack.new) e
+        × AreBack R.Disk.Disk (R.count rack.old) (R.count rack.new) (R.held rack.old) (R.held rack.new))
+        ⊎ (IsLaneFault R.Disk.Disk (R.held rack.old) (R.held rack.new) (R.count rack.old) (R.count rack.new) NothingNext IsLeastOpen NonePrepared [] e)) }
     ensures back { (n : ℕ) → R.can_take rack.new n }
     ensures later { (n : ℕ) → R.count rack.old n ≤ R.count rack.new n }
 {

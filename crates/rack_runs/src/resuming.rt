@@ -23,8 +23,8 @@ pub(crate) fn resume_ledger<W: Wait, D: Disk, G: Gate>(
     ledger: Ledger<D>,
     gate: &G,
 ) -> ResumeRun<D>
-    requires checked { IsChecked D.count D.limit ledger }
-    ensures { HasResumed D.count D.limit D.content D.images ledger result.ledger result.came }
+    requires checked { IsChecked ledger }
+    ensures { HasResumed D.Disk ledger result.ledger result.came }
 {
     let mut lent = lend(rt, ledger);
     let came = resume_all(alloc, &mut lent, gate);

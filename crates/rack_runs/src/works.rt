@@ -26,9 +26,9 @@ pub trait Work {
     /// relation `passes` of `tests` holds of the ledger's shape and its journals, and where the answer is another one than that memory ran out,
     /// `refuses` holds of them and of the answer.
     fn test<D: Disk>(&self, alloc: Global, ledger: &Ledger<D>) -> Result<(), Answer>
-        requires { IsChecked D.count D.limit ledger.now }
-        ensures passes { OnOk result ((tests self.now).passes ledger.now.header.shape (journals D.count D.limit ledger.now)) }
-        ensures refuses { IfErr result (λ a. (a ≡ Answer.Memory) ⊎ (tests self.now).refuses ledger.now.header.shape (journals D.count D.limit ledger.now) a) };
+        requires { IsChecked ledger.now }
+        ensures passes { OnOk result ((tests self.now).passes ledger.now.header.shape (journals ledger.now)) }
+        ensures refuses { IfErr result (λ a. (a ≡ Answer.Memory) ⊎ (tests self.now).refuses ledger.now.header.shape (journals ledger.now) a) };
 }
 
 /// A ledger with no open batch, and the batches that an earlier command had left open, in rising order of their lanes.

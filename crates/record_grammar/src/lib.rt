@@ -1,11 +1,13 @@
-//! Which records may stand in a journal, whatever stands before them.
+//! Which records may stand in a journal, whatever stands before them; and what a node without its disk is, that takes in the records of a journal.
 //!
 //! - Tested in `journal_rows`.
 #![tactic(auto)]
 
+mod cores;
 mod entries;
 mod hashes;
 mod limits;
 mod records;
 
+pub use cores::Core;
 pub use records::is_in_grammar;

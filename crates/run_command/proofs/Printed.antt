@@ -1,5 +1,6 @@
 -- What a run prints, by what its waves tell.
 use Rattle.std.proofs.Common.{ℕ, ◌≤◌, List, ◌++◌, Option}
+use Rattle.outside.specs.declared.disk.Disk.{Ghosts}
 use Rattle.cbdc_model.specs.Coins.{FullTx}
 use Rattle.submissions.specs.SoundTest.{sound_by}
 use Rattle.submissions.proofs.Telling.{is_sound_law}
@@ -19,9 +20,9 @@ use Rattle.run_command.specs.Outcomes.{DidRun, PrintsRun, WasRun}
 use Rattle.run_command.specs.Told.{IsCountable, ran_text}
 use Rattle.run_command.proofs.Numbers.{lanes_there, run_text, countable}
 
-pub prints_run : {D : Type 0} (content : D → Option (List ℕ)) (images : D → List ℕ → Type 0) (limit : D → ℕ) (before now : ℕ → Option D) (printed : Text → Type 0) (verdicts : VerdictsOf) (files : List (List FullTx)) (ran : Ran) → all_txs files ≤ 1000000
-    → OfShown content before (IsTold images limit now verdicts files ran) → (IsCountable ran → printed (ran_text ran)) → PrintsRun content images limit before now printed verdicts files
-prints_run content images limit before now printed verdicts files ran few shown is K mint submissions E within shows kept =
+pub prints_run : {D : Type 0} (device : Ghosts D) (before now : ℕ → Option D) (printed : Text → Type 0) (verdicts : VerdictsOf) (files : List (List FullTx)) (ran : Ran) → all_txs files ≤ 1000000
+    → OfShown device before (IsTold device now verdicts files ran) → (IsCountable ran → printed (ran_text ran)) → PrintsRun device before now printed verdicts files
+prints_run device before now printed verdicts files ran few shown is K mint submissions E within shows kept =
     let told = shown K mint submissions E within shows kept in
     let tests = is_sound_law verdicts in
     let more = kept_more K mint submissions (joined files) E kept in
@@ -34,13 +35,13 @@ prints_run content images limit before now printed verdicts files ran few shown 
       free = free_confirmed_law K mint (submissions ++ joined files) verdicts files E told.run.exit within.some_shard (lanes_there K within) more told.run.grown.kept;
     }
 
-pub did_run : {D : Type 0} (inbox : Text → Option (List ℕ)) (content : D → Option (List ℕ)) (images : D → List ℕ → Type 0) (limit : D → ℕ) (before now : ℕ → Option D) (printed : Text → Type 0) (verdicts : FileWord) (clients : List FileWord) (ran : Ran)
-    → WasRun inbox content images limit before now verdicts clients ran → (IsCountable ran → printed (ran_text ran)) → DidRun inbox content images limit before now printed verdicts clients
-did_run inbox content images limit before now printed verdicts clients ran was is = record {
+pub did_run : {D : Type 0} (inbox : Text → Option (List ℕ)) (device : Ghosts D) (before now : ℕ → Option D) (printed : Text → Type 0) (verdicts : FileWord) (clients : List FileWord) (ran : Ran)
+    → WasRun inbox device before now verdicts clients ran → (IsCountable ran → printed (ran_text ran)) → DidRun inbox device before now printed verdicts clients
+did_run inbox device before now printed verdicts clients ran was is = record {
   handed = was.handed;
   known = was.known;
   read = was.read;
   verdicts_read = was.verdicts_read;
   caused = was.caused;
-  ran = prints_run content images limit before now printed (of_file was.known) was.handed ran was.few was.tells is;
+  ran = prints_run device before now printed (of_file was.known) was.handed ran was.few was.tells is;
 }

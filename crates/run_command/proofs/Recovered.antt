@@ -5,6 +5,7 @@ use Rattle.std.specs.Prelude.{not}
 use Rattle.std.proofs.lemmas.List.{append-nil, length-append, take_more}
 use Rattle.std.proofs.lemmas.List.Elements.{filter-append}
 use Rattle.std.proofs.Math.ListN.{drop_of_length-le}
+use Rattle.outside.specs.declared.disk.Disk.{Ghosts}
 use Rattle.cbdc_model.specs.Records.{Shape, Outcome, Record, is_won, outcomes_of, Won, Lacks, Blocked}
 use Rattle.cbdc_model.specs.Ranges.{home_of}
 use Rattle.cbdc_model.specs.Slots.{slot}
@@ -82,14 +83,14 @@ texts_below K E X (suc lane) rs (before, found, all, at, e) =
 abbrev pub recovered_text : Ran → Text
 recovered_text ran = batch_texts ran.resumed.items ++ recovery_text (length ran.resumed.items) ran.unspent
 
-pub prints_recovery : {D : Type 0} (content : D → Option (List ℕ)) (images : D → List ℕ → Type 0) (limit : D → ℕ) (before now : ℕ → Option D) (printed : Text → Type 0) (ran : Ran)
-    → (verdicts : VerdictsOf) × OfShown content before (IsTold images limit now verdicts [] ran) → printed (recovered_text ran) → PrintsRecovery content images limit before now printed
+pub prints_recovery : {D : Type 0} (device : Ghosts D) (before now : ℕ → Option D) (printed : Text → Type 0) (ran : Ran)
+    → (verdicts : VerdictsOf) × OfShown device before (IsTold device now verdicts [] ran) → printed (recovered_text ran) → PrintsRecovery device before now printed
 unfolding recovered
-prints_recovery content images limit before now printed ran (verdicts, shown) is K mint submissions E within shows kept =
+prints_recovery device before now printed ran (verdicts, shown) is K mint submissions E within shows kept =
     let told = shown K mint submissions E within shows kept in
     let at : told.tells.middle ≡ told.run.exit = λ i n. sym (told.tells.told.1 n) i in
     let all : TellResumed K E told.run.exit (K.coordinators * K.lanes) ran.resumed.items = subst (λ X. TellResumed K E X (K.coordinators * K.lanes) ran.resumed.items) at told.tells.batches in
     let text_is : recovered_text ran ≡ recover_lines K E told.run.exit ran.unspent
     = ap (λ l. l ++ recovery_text (length ran.resumed.items) ran.unspent) (texts_below K E told.run.exit (K.coordinators * K.lanes) ran.resumed.items all)
     ∙ ap (λ n. resumed_lines K E told.run.exit ++ recovery_text n ran.unspent) (count_below K E told.run.exit (K.coordinators * K.lanes) ran.resumed.items all) in
-    record { recovered = recovered images limit now verdicts K mint submissions E told.run; text = recovered_text ran; lines = (ran.unspent, told.unspent, text_is); prints = is }
+    record { recovered = recovered device now verdicts K mint submissions E told.run; text = recovered_text ran; lines = (ran.unspent, told.unspent, text_is); prints = is }

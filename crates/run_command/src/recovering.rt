@@ -89,9 +89,9 @@ where
     R::Disk: Send,
     requires { (n : ℕ) → R.can_take rack.old n }
     ensures cause { IsDone (λ file. ⊥) (λ file. ⊥) (Rose (O.count out.old) (O.count out.new)) result }
-    ensures did { IsWell result → DidRecover R.Disk.content R.Disk.images R.Disk.limit (R.held rack.old) (R.held rack.new) (IsPrinted (O.taken out.old) (O.taken out.new) result) }
-    ensures why { IsTold (WhyNoTurns R.Disk.content R.Disk.images R.Disk.limit R.Disk.count (R.held rack.old) (R.held rack.new) (R.count rack.old) (R.count rack.new) NothingNext IsLeastOpen NonePrepared []) result }
-    ensures left { (IsWell result → ⊥) → TurnsLeave R.Disk.content R.Disk.images R.Disk.limit (R.held rack.old) (R.held rack.new) (R.count rack.old) (R.count rack.new) NothingNext IsLeastOpen NonePrepared [] result }
+    ensures did { IsWell result → DidRecover R.Disk.Disk (R.held rack.old) (R.held rack.new) (IsPrinted (O.taken out.old) (O.taken out.new) result) }
+    ensures why { IsTold (WhyNoTurns R.Disk.Disk (R.held rack.old) (R.held rack.new) (R.count rack.old) (R.count rack.new) NothingNext IsLeastOpen NonePrepared []) result }
+    ensures left { (IsWell result → ⊥) → TurnsLeave R.Disk.Disk (R.held rack.old) (R.held rack.new) (R.count rack.old) (R.count rack.new) NothingNext IsLeastOpen NonePrepared [] result }
     ensures silent { IsSilent (O.taken out.old) (O.taken out.new) result }
     ensures written_later { O.count out.old ≤ O.count out.new }
     ensures untouched { IsBeforeDisks result → rack.new ≡ rack.old }

@@ -41,11 +41,11 @@ fn run_all<W: Wait + Threads + Sync, I: Inbox, R: Rack, G: Gate + Sync>(
 where
     R::Disk: Send,
     requires { (n : ℕ) → R.can_take rack.old n }
-    ensures did { IfOk result (λ r. WasRun (I.file inbox.old) R.Disk.content R.Disk.images R.Disk.limit (R.held rack.old) (R.held rack.new) verdicts.now clients.now r.ran) }
-    ensures why { IfErr result (WhyNoRun (I.file inbox.old) (I.count inbox.old) (I.count inbox.new) R.Disk.content R.Disk.images R.Disk.limit R.Disk.count (R.held rack.old) (R.held rack.new) (R.count rack.old) (R.count rack.new) verdicts.now clients.now) }
+    ensures did { IfOk result (λ r. WasRun (I.file inbox.old) R.Disk.Disk (R.held rack.old) (R.held rack.new) verdicts.now clients.now r.ran) }
+    ensures why { IfErr result (WhyNoRun (I.file inbox.old) (I.count inbox.old) (I.count inbox.new) R.Disk.Disk (R.held rack.old) (R.held rack.new) (R.count rack.old) (R.count rack.new) verdicts.now clients.now) }
     ensures fault { IfErr result (IsFault (λ place. OnePlace clients.now place ⊎ (place ≡ verdicts.now.place)) (λ place. OneRose (I.count inbox.old) (I.count inbox.new) clients.now place ⊎ FileRose (I.count inbox.old) (I.count inbox.new) verdicts.now place)) }
     ensures untouched { IfErr result (λ e. IsBeforeDisks e → rack.new ≡ rack.old) }
-    ensures left { IfErr result (λ e. (rack.new ≡ rack.old) ⊎ RunLeaves (I.file inbox.old) R.Disk.content R.Disk.images R.Disk.limit (R.held rack.old) (R.held rack.new) (R.count rack.old) (R.count rack.new) verdicts.now clients.now e) }
+    ensures left { IfErr result (λ e. (rack.new ≡ rack.old) ⊎ RunLeaves (I.file inbox.old) R.Disk.Disk (R.held rack.old) (R.held rack.new) (R.count rack.old) (R.count rack.new) verdicts.now clients.now e) }
     ensures files { (name : Text) → I.file inbox.new name ≡ I.file inbox.old name }
     ensures back { (n : ℕ) → R.can_take rack.new n }
 {
@@ -126,12 +126,12 @@ where
     requires { (n : ℕ) → R.can_take rack.old n }
     ensures cause { IsDone (λ place. OnePlace clients.now place ⊎ (place ≡ verdicts.now.place)) (λ place. OneRose (I.count inbox.old) (I.count inbox.new) clients.now place ⊎ FileRose (I.count inbox.old) (I.count inbox.new) verdicts.now place)
         (Rose (O.count out.old) (O.count out.new)) result }
-    ensures did { IsWell result → DidRun (I.file inbox.old) R.Disk.content R.Disk.images R.Disk.limit (R.held rack.old) (R.held rack.new) (IsPrinted (O.taken out.old) (O.taken out.new) result) verdicts.now clients.now }
-    ensures why { IsTold (WhyNoRun (I.file inbox.old) (I.count inbox.old) (I.count inbox.new) R.Disk.content R.Disk.images R.Disk.limit R.Disk.count (R.held rack.old) (R.held rack.new) (R.count rack.old) (R.count rack.new) verdicts.now clients.now) result }
+    ensures did { IsWell result → DidRun (I.file inbox.old) R.Disk.Disk (R.held rack.old) (R.held rack.new) (IsPrinted (O.taken out.old) (O.taken out.new) result) verdicts.now clients.now }
+    ensures why { IsTold (WhyNoRun (I.file inbox.old) (I.count inbox.old) (I.count inbox.new) R.Disk.Disk (R.held rack.old) (R.held rack.new) (R.count rack.old) (R.count rack.new) verdicts.now clients.now) result }
     ensures silent { IsSilent (O.taken out.old) (O.taken out.new) result }
     ensures written_later { O.count out.old ≤ O.count out.new }
     ensures untouched { IsBeforeDisks result → rack.new ≡ rack.old }
-    ensures left { (IsWell result → ⊥) → (rack.new ≡ rack.old) ⊎ RunLeaves (I.file inbox.old) R.Disk.content R.Disk.images R.Disk.limit (R.held rack.old) (R.held rack.new) (R.count rack.old) (R.count rack.new) verdicts.now clients.now result }
+    ensures left { (IsWell result → ⊥) → (rack.new ≡ rack.old) ⊎ RunLeaves (I.file inbox.old) R.Disk.Disk (R.held rack.old) (R.held rack.new) (R.count rack.old) (R.count rack.new) verdicts.now clients.now result }
     ensures files { (name : Text) → I.file inbox.new name ≡ I.file inbox.old name }
     ensures back { (n : ℕ) → R.can_take rack.new n }
 {

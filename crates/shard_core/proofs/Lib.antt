@@ -9,3 +9,4 @@ pub mod Moves
 pub mod Applies
 pub mod Remembering
 pub mod Follow
+pub mod Same

@@ -12,6 +12,7 @@ mod copying;
 mod core_state;
 mod judging;
 mod plans;
+mod replaying;
 mod replying;
 mod slots;
 

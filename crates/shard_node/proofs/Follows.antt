@@ -12,20 +12,11 @@ use Rattle.cbdc_model.specs.Grammar.{IsHash, IsBatchOf, IsShard, IsEntry, IsRepl
 use Rattle.cbdc_model.specs.After.{After, FitsReplies, IsJournal}
 use Rattle.shard_core.proofs.Follow.{entries_answered, fits_all}
 use Rattle.shard_core.proofs.Places.{misfit_is}
+use Rattle.node_journal.proofs.Journals.{in_grammar}
 use Rattle.cbdc_model.specs.Calls.{PlacesRise, IsPartEntry, IsLockCall, IsFinishCall, IsForgetCall}
 use Rattle.cbdc_types.specs.declared.calls.LockCall.{LockCall}
 use Rattle.cbdc_types.specs.declared.calls.FinishCall.{FinishCall}
 use Rattle.cbdc_types.specs.declared.calls.ForgetCall.{ForgetCall}
-
--- the records of a journal are in the grammar
-pub in_grammar : (h : Header) (J : List Record) → IsJournal h J → All (IsInGrammar h) J
-in_grammar h [] is = absurd is
-in_grammar h (r ∷ []) is = All-cons (IsInGrammar h) r [] is.1.0 (All-nil (IsInGrammar h))
-in_grammar h (r ∷ (q ∷ past)) is = All-cons (IsInGrammar h) r (q ∷ past) is.0.0 (in_grammar h (q ∷ past) is.1)
-
-pub goes_on : (h : Header) (J : List Record) (r : Record) → IsJournal h J → After h J r → IsJournal h (r ∷ J)
-goes_on h [] r is next = absurd is
-goes_on h (q ∷ past) r is next = (next, is)
 
 -- ---- Lock
 

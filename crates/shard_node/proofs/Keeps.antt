@@ -1,6 +1,6 @@
 -- A shard's parts stay a shard's behind a record.
-use Rattle.std.proofs.Common.{◌≡◌, ℕ, ◌+◌, ◌*◌, ◌≤◌, List, [], ◌∷◌, length, reverse, Option, Some, None, option_map, refl, sym, ◌∙◌, ap, subst, arith}
-use Rattle.std.specs.Prelude.{slice_get, IfSome}
+use Rattle.std.proofs.Common.{◌≡◌, ℕ, ◌+◌, ◌*◌, ◌≤◌, List, [], ◌∷◌, length, reverse, Option, Some, None, refl, sym, ◌∙◌, ap, subst, arith}
+use Rattle.std.specs.Prelude.{IfSome}
 use Rattle.std.proofs.lemmas.List.{reverse-append}
 use Rattle.std.proofs.lemmas.List.Sums.{sum_by-cons}
 use Rattle.cbdc_types.specs.Limits.{IsWithinLimits}
@@ -14,24 +14,13 @@ use Rattle.outside.specs.declared.disk.Disk.{Ghosts}
 use Rattle.gate_journal.specs.Shown.{disk_of, gate_of, broken_of}
 use Rattle.record_log.specs.Logs.{HasRoom}
 use Rattle.record_log.proofs.LogSizes.{size_is}
-use Rattle.shard_core.specs.declared.slots.Slot.{Slot as LaneSlot}
 use Rattle.shard_core.specs.declared.core_state.ShardCore.{ShardCore}
 use Rattle.shard_core.specs.Stands.{Stands, IsSameState}
 use Rattle.shard_node.specs.declared.parts.Parts.{Parts}
-use Rattle.shard_node.specs.Shards.{sight_of}
+use Rattle.node_journal.specs.Nodes.{sight}
 use Rattle.shard_node.specs.Parts.{HaveDecisions, HasRecords, IsShardOf, HasWritten, HasFailed, journal_of, view_of}
-use Rattle.shard_node.proofs.Follows.{goes_on}
-
--- room made in the core changes nothing that it stands for
-pub stands_same : (old new : ShardCore) (J : List Record) → IsSameState old new → Stands old J → Stands new J
-stands_same old new J same stands = record {
-  lanes = λ lane s is. stands.lanes lane s (subst (λ (slots : List LaneSlot). slice_get slots lane ≡ Some s) same.slots is);
-  last = same.last ∙ stands.last;
-  hashes = record {
-    unspent = λ x. same.unspent x ∙ stands.hashes.unspent x;
-    locked = λ x. ap (option_map (λ p. p.0)) (same.locks x) ∙ stands.hashes.locked x;
-  };
-}
+use Rattle.shard_core.proofs.Same.{stands_same}
+use Rattle.node_journal.proofs.Journals.{goes_on}
 
 none_some : {A : Type 0} (n : ℕ) (o : Option ℕ) → o ≡ Some n → o ≡ None → A
 none_some n o e f = cc
@@ -135,11 +124,11 @@ module _ {D : Type 0} {G : Ghosts D} where
 
   -- ---- what a caller sees
 
-  pub stays : (p : Parts D G) → Stays (sight_of G.count G.limit (view_of p)) (sight_of G.count G.limit (view_of p)) (journal_of p)
+  pub stays : (p : Parts D G) → Stays (sight (view_of p)) (sight (view_of p)) (journal_of p)
   stays p = record { node = record { header = refl; opened = refl; capacity = refl; later = omega arith }; seen = refl; flight = refl }
 
-  pub appends : (p new : Parts D G) (r : Record) → HasWritten p new r → Appends (sight_of G.count G.limit (view_of p)) (sight_of G.count G.limit (view_of new)) (journal_of p) r
+  pub appends : (p new : Parts D G) (r : Record) → HasWritten p new r → Appends (sight (view_of p)) (sight (view_of new)) (journal_of p) r
   appends p new r w = record { node = record { header = w.header; opened = w.opened; capacity = w.limit; later = w.later }; seen = pushed p new r w; flight = w.flight }
 
-  pub fails : (p new : Parts D G) (r : Record) → HasFailed p new r → Fails (sight_of G.count G.limit (view_of p)) (sight_of G.count G.limit (view_of new)) (journal_of p) r
+  pub fails : (p new : Parts D G) (r : Record) → HasFailed p new r → Fails (sight (view_of p)) (sight (view_of new)) (journal_of p) r
   fails p new r f = record { node = record { header = f.header; opened = f.opened; capacity = f.limit; later = f.later }; seen = ap reverse f.records; flight = f.flight; rose = f.rose }

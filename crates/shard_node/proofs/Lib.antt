@@ -5,8 +5,5 @@ pub mod Keeps
 pub mod Owed
 pub mod Stamps
 pub mod Locks
-pub mod Going
 pub mod Opens
 pub mod Later
-pub mod Stops
-pub mod Leaving

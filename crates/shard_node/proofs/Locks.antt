@@ -29,11 +29,14 @@ use Rattle.shard_core.proofs.Applies.{Yes, No, same_nat}
 use Rattle.shard_core.proofs.Follow.{answered_same}
 use Rattle.shard_node.specs.declared.parts.Parts.{Parts}
 use Rattle.cbdc_model.specs.Calls.{IsLockCall}
-use Rattle.shard_node.specs.Shards.{ShardOf, sight_of}
+use Rattle.node_journal.specs.Nodes.{NodeOf, sight}
 use Rattle.shard_node.specs.Parts.{HaveDecisions, HasRecords, IsShardOf, HasWritten, HasFailed, IsLockOf, journal_of, view_of}
 use Rattle.shard_node.proofs.Lanes.{IsLockedWith, same_room, same_lock, past_lock, own_lock, locked_room, room_idle}
-use Rattle.shard_node.proofs.Rooms.{kept_moves, kept_small}
-use Rattle.shard_node.proofs.Follows.{IsNextLock, lock_appends, lock_after, length_answered, in_grammar}
+use Rattle.shard_node.proofs.Rooms.{kept_moves}
+use Rattle.shard_node.proofs.Follows.{IsNextLock, lock_appends, lock_after, length_answered}
+use Rattle.node_journal.proofs.Journals.{in_grammar}
+use Rattle.node_journal.proofs.Kept.{kept_small}
+use Rattle.node_journal.proofs.Leaving.{shown_same}
 use Rattle.shard_node.proofs.Keeps.{standing, wrote, failed, appends, fails}
 use Rattle.shard_node.proofs.Owed.{lock_writes, lock_full}
 
@@ -71,16 +74,6 @@ module _ {D : Type 0} {G : Ghosts D} where
     pub untouched : IsUntouched p.log log
     pub records : log.records.items ≡ p.log.records.items
     pub header : log.header ≡ p.log.header
-
-  same_view : (p : Parts D G) (log : RecordLog D G) (memory : Vec (Vec Bool)) (lane : ℕ) → HasTaken p log memory lane
-      → view_of {D = D} {G = G} (record { log = log; core = p.core; decisions = memory; flight = p.flight; opened = p.opened }) ≡ view_of p
-  same_view p log memory lane t =
-      let v : Header → List Record → Option ℕ → ℕ → D → ShardOf D = λ h j b k d. record { header = h; journal = j; flight = p.flight; opened = p.opened; broken = b; gate = k; disk = d } in
-      ap (λ h. v h (reverse log.records.items) (broken_of log.journal) (gate_of log.journal) (disk_of log.journal)) t.header
-      ∙ ap (λ (j : List Record). v p.log.header (reverse j) (broken_of log.journal) (gate_of log.journal) (disk_of log.journal)) t.records
-      ∙ ap (λ b. v p.log.header (journal_of p) b (gate_of log.journal) (disk_of log.journal)) t.untouched.broken
-      ∙ ap (λ k. v p.log.header (journal_of p) (broken_of p.log.journal) k (disk_of log.journal)) t.untouched.gate
-      ∙ ap (λ d. v p.log.header (journal_of p) (broken_of p.log.journal) (gate_of p.log.journal) d) t.untouched.disk
 
   module _ (p : Parts D G) (c : LockCall) (r : Replied) (is : IsShardOf p) (call : IsLockCall p.log.header c) (whole : broken_of p.log.journal ≡ None) (planned : next_lock (journal_of p) c.batch c.part c.cause ≡ Append (replies_at r)) where
     lock_next : IsNextLock (journal_of p) c.batch c.part c.cause (replies_at r)
@@ -224,7 +217,7 @@ module _ {D : Type 0} {G : Ghosts D} where
               (omega (arith, keeps, len_is, kept_is, kept_now)) sound.landed
 
           pub lock_done : (new : Parts D G) → HasWritten {D = D} {G = G} (record { log = log; core = p.core; decisions = memory; flight = p.flight; opened = p.opened }) new next
-              → Meets true (lock_due p.log.header.shape (G.limit (disk_of p.log.journal)) c None (journal_of p)) (sight_of G.count G.limit (view_of p)) (sight_of G.count G.limit (view_of new)) (journal_of p) (Ok r)
+              → Meets true (lock_due p.log.header.shape (G.limit (disk_of p.log.journal)) c None (journal_of p)) (sight (view_of p)) (sight (view_of new)) (journal_of p) (Ok r)
           lock_done new w =
               let mid : Parts D G = record { log = log; core = p.core; decisions = memory; flight = p.flight; opened = p.opened } in
               let N : Record = lock_record (journal_of p) c in
@@ -233,22 +226,22 @@ module _ {D : Type 0} {G : Ghosts D} where
               inr (
                 N,
                 due,
-                subst (λ (v : ShardOf D). Appends (sight_of G.count G.limit v) (sight_of G.count G.limit (view_of new)) (journal_of p) N) (same_view p log memory c.batch.lane t)
-                    (subst (λ (j : List Record). Appends (sight_of G.count G.limit (view_of mid)) (sight_of G.count G.limit (view_of new)) j N) same (appends mid new N w2)),
+                subst (λ (v : NodeOf D). Appends (sight v) (sight (view_of new)) (journal_of p) N) (shown_same p.log log p.opened p.flight t.untouched t.records t.header)
+                    (subst (λ (j : List Record). Appends (sight (view_of mid)) (sight (view_of new)) j N) same (appends mid new N w2)),
               )
 
           pub lock_failed : (new : Parts D G) (fault : NodeFault) → fault ≡ DiskFault → HasFailed {D = D} {G = G} (record { log = log; core = p.core; decisions = memory; flight = p.flight; opened = p.opened }) new next
-              → Meets true (lock_due p.log.header.shape (G.limit (disk_of p.log.journal)) c None (journal_of p)) (sight_of G.count G.limit (view_of p)) (sight_of G.count G.limit (view_of new)) (journal_of p) (Err fault)
+              → Meets true (lock_due p.log.header.shape (G.limit (disk_of p.log.journal)) c None (journal_of p)) (sight (view_of p)) (sight (view_of new)) (journal_of p) (Err fault)
           lock_failed new fault e f =
               let mid : Parts D G = record { log = log; core = p.core; decisions = memory; flight = p.flight; opened = p.opened } in
               let N : Record = lock_record (journal_of p) c in
               let f2 : HasFailed mid new N = subst (λ (x : Record). HasFailed mid new x) next_is f in
               let same : reverse log.records.items ≡ journal_of p = ap reverse t.records in
-              let told : MeetsFault true (lock_due p.log.header.shape (G.limit (disk_of p.log.journal)) c None (journal_of p)) (sight_of G.count G.limit (view_of p)) (sight_of G.count G.limit (view_of new)) (journal_of p) DiskFault = (
+              let told : MeetsFault true (lock_due p.log.header.shape (G.limit (disk_of p.log.journal)) c None (journal_of p)) (sight (view_of p)) (sight (view_of new)) (journal_of p) DiskFault = (
                 r,
                 N,
                 due,
-                subst (λ (v : ShardOf D). Fails (sight_of G.count G.limit v) (sight_of G.count G.limit (view_of new)) (journal_of p) N) (same_view p log memory c.batch.lane t)
-                    (subst (λ (j : List Record). Fails (sight_of G.count G.limit (view_of mid)) (sight_of G.count G.limit (view_of new)) j N) same (fails mid new N f2)),
+                subst (λ (v : NodeOf D). Fails (sight v) (sight (view_of new)) (journal_of p) N) (shown_same p.log log p.opened p.flight t.untouched t.records t.header)
+                    (subst (λ (j : List Record). Fails (sight (view_of mid)) (sight (view_of new)) j N) same (fails mid new N f2)),
               ) in
-              subst (λ (x : NodeFault). MeetsFault true (lock_due p.log.header.shape (G.limit (disk_of p.log.journal)) c None (journal_of p)) (sight_of G.count G.limit (view_of p)) (sight_of G.count G.limit (view_of new)) (journal_of p) x) (sym e) told
+              subst (λ (x : NodeFault). MeetsFault true (lock_due p.log.header.shape (G.limit (disk_of p.log.journal)) c None (journal_of p)) (sight (view_of p)) (sight (view_of new)) (journal_of p) x) (sym e) told

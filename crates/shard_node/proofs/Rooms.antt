@@ -1,11 +1,8 @@
 -- What is kept free for unfinished batches, as records come.
-use Rattle.std.proofs.Common.{◌≡◌, ◌≢◌, ℕ, zero, suc, ◌+◌, ◌*◌, ◌^◌, ◌≤◌, ◌<◌, List, All, refl, ap, arith, mul-le-mul_left}
-use Rattle.cbdc_types.specs.Limits.{IsWithinLimits}
-use Rattle.cbdc_model.specs.Records.{Header, Record}
-use Rattle.cbdc_model.specs.Grammar.{IsInGrammar}
-use Rattle.cbdc_model.specs.Room.{lane_room, kept_below, kept_room}
+use Rattle.std.proofs.Common.{◌≡◌, ◌≢◌, ℕ, zero, suc, ◌+◌, ◌≤◌, ◌<◌, List, refl, ap, arith}
+use Rattle.cbdc_model.specs.Records.{Record}
+use Rattle.cbdc_model.specs.Room.{lane_room, kept_below}
 use Rattle.shard_core.proofs.Applies.{Yes, No, same_nat}
-use Rattle.shard_node.proofs.Lanes.{lane_few}
 
 kept_same : (J N : List Record) (lane n : ℕ) → ((l : ℕ) → lane ≢ l → lane_room N l ≡ lane_room J l) → n ≤ lane → kept_below N n ≡ kept_below J n
 kept_same J N lane zero others le = refl
@@ -35,16 +32,3 @@ lane_le J lane (suc n) lt = elim (same_nat lane n) [
   | Yes e ↦ let same : lane_room J lane ≡ lane_room J n = ap (lane_room J) e in omega arith
   | No apart ↦ let below : lane_room J lane ≤ kept_below J n = lane_le J lane n (omega arith) in omega arith
 ]
-
-kept_few : (h : Header) (J : List Record) (n : ℕ) → IsWithinLimits h.shape → All (IsInGrammar h) J → kept_below J n ≤ n * 65536
-kept_few h J zero limits all = omega arith
-kept_few h J (suc n) limits all = omega (arith, kept_few h J n limits all, lane_few h J n limits all)
-
--- less than 32 MiB is kept
-pub kept_small : (h : Header) (J : List Record) → IsWithinLimits h.shape → All (IsInGrammar h) J → kept_room h.shape J < 2 ^ 25
-kept_small h J limits all =
-    let lanes : h.shape.coordinators * h.shape.lanes ≤ 256 = lanes_few h.shape.coordinators h.shape.lanes limits.coordinators limits.lanes in
-    omega (arith, kept_few h J (h.shape.coordinators * h.shape.lanes) limits all, lanes)
-  where
-    lanes_few : (m n : ℕ) → m ≤ 16 → n ≤ 16 → m * n ≤ 256
-    lanes_few m n mle nle = omega (arith, mul-le-mul_left m nle, mle)

@@ -22,7 +22,7 @@ use Rattle.record_log.proofs.LogSizes.{size_is}
 use Rattle.shard_core.proofs.Applies.{Yes, No, same_nat}
 use Rattle.shard_node.specs.declared.parts.Parts.{Parts}
 use Rattle.cbdc_model.specs.Calls.{IsFinishCall, IsForgetCall}
-use Rattle.shard_node.specs.Shards.{sight_of}
+use Rattle.node_journal.specs.Nodes.{sight}
 use Rattle.shard_node.specs.Parts.{HasRecords, IsShardOf, HasWritten, HasFailed, journal_of, view_of}
 use Rattle.shard_node.proofs.Lanes.{IsLockedWith, same_room, same_lock, past_finish, past_forget, own_finish, own_forget, room_locked, room_finished, finished_room, forgotten_room}
 use Rattle.shard_node.proofs.Rooms.{kept_moves}
@@ -103,15 +103,15 @@ module _ {D : Type 0} {G : Ghosts D} where
         (let sound = is.sound whole in omega (arith, sound.used, finish_room, finish_size))
 
     pub finish_done : (memory : Vec (Vec Bool)) (new : Parts D G) → HasWritten (record p { decisions = memory }) new (Finish t c.batch c.decisions)
-        → Meets false (finish_due c None (journal_of p)) (sight_of G.count G.limit (view_of p)) (sight_of G.count G.limit (view_of new)) (journal_of p) (Ok t)
+        → Meets false (finish_due c None (journal_of p)) (sight (view_of p)) (sight (view_of new)) (journal_of p) (Ok t)
     finish_done memory new w = inr (Finish t c.batch c.decisions, finish_writes c (journal_of p) t planned finish_next.is early, appends (record p { decisions = memory }) new (Finish t c.batch c.decisions) w)
 
     pub finish_failed : (memory : Vec (Vec Bool)) (new : Parts D G) (fault : NodeFault) → fault ≡ DiskFault → HasFailed (record p { decisions = memory }) new (Finish t c.batch c.decisions)
-        → Meets false (finish_due c None (journal_of p)) (sight_of G.count G.limit (view_of p)) (sight_of G.count G.limit (view_of new)) (journal_of p) (Err fault)
+        → Meets false (finish_due c None (journal_of p)) (sight (view_of p)) (sight (view_of new)) (journal_of p) (Err fault)
     finish_failed memory new fault e f =
-        let told : MeetsFault false (finish_due c None (journal_of p)) (sight_of G.count G.limit (view_of p)) (sight_of G.count G.limit (view_of new)) (journal_of p) DiskFault
+        let told : MeetsFault false (finish_due c None (journal_of p)) (sight (view_of p)) (sight (view_of new)) (journal_of p) DiskFault
         = (t, Finish t c.batch c.decisions, finish_writes c (journal_of p) t planned finish_next.is early, fails (record p { decisions = memory }) new (Finish t c.batch c.decisions) f) in
-        subst (λ (x : NodeFault). MeetsFault false (finish_due c None (journal_of p)) (sight_of G.count G.limit (view_of p)) (sight_of G.count G.limit (view_of new)) (journal_of p) x) (sym e) told
+        subst (λ (x : NodeFault). MeetsFault false (finish_due c None (journal_of p)) (sight (view_of p)) (sight (view_of new)) (journal_of p) x) (sym e) told
 
   -- ---- Forget
 
@@ -150,12 +150,12 @@ module _ {D : Type 0} {G : Ghosts D} where
     forget_left new f = failed p new (Forget t c.batch) (standing p is) f forget_fits (let sound = is.sound whole in omega (arith, sound.used, forget_room, forget_size))
 
     pub forget_done : (new : Parts D G) → HasWritten p new (Forget t c.batch)
-        → Meets false (forget_due c None (journal_of p)) (sight_of G.count G.limit (view_of p)) (sight_of G.count G.limit (view_of new)) (journal_of p) (Ok t)
+        → Meets false (forget_due c None (journal_of p)) (sight (view_of p)) (sight (view_of new)) (journal_of p) (Ok t)
     forget_done new w = inr (Forget t c.batch, forget_writes c (journal_of p) t planned forget_next.is early, appends p new (Forget t c.batch) w)
 
     pub forget_failed : (new : Parts D G) (fault : NodeFault) → fault ≡ DiskFault → HasFailed p new (Forget t c.batch)
-        → Meets false (forget_due c None (journal_of p)) (sight_of G.count G.limit (view_of p)) (sight_of G.count G.limit (view_of new)) (journal_of p) (Err fault)
+        → Meets false (forget_due c None (journal_of p)) (sight (view_of p)) (sight (view_of new)) (journal_of p) (Err fault)
     forget_failed new fault e f =
-        let told : MeetsFault false (forget_due c None (journal_of p)) (sight_of G.count G.limit (view_of p)) (sight_of G.count G.limit (view_of new)) (journal_of p) DiskFault
+        let told : MeetsFault false (forget_due c None (journal_of p)) (sight (view_of p)) (sight (view_of new)) (journal_of p) DiskFault
         = (t, Forget t c.batch, forget_writes c (journal_of p) t planned forget_next.is early, fails p new (Forget t c.batch) f) in
-        subst (λ (x : NodeFault). MeetsFault false (forget_due c None (journal_of p)) (sight_of G.count G.limit (view_of p)) (sight_of G.count G.limit (view_of new)) (journal_of p) x) (sym e) told
+        subst (λ (x : NodeFault). MeetsFault false (forget_due c None (journal_of p)) (sight (view_of p)) (sight (view_of new)) (journal_of p) x) (sym e) told

@@ -1,3 +1,2 @@
-pub mod Shards
 pub mod Parts
 pub mod Opening

@@ -19,8 +19,13 @@ use Rattle.record_log.specs.Logs.{HasRoom}
 use Rattle.outside.specs.Counts.{Rose}
 use Rattle.record_log.specs.Bodies.{body_of}
 use Rattle.shard_core.specs.Stands.{Stands}
+use Rattle.shard_core.specs.declared.core_state.ShardCore.{ShardCore}
 use Rattle.shard_node.specs.declared.parts.Parts.{Parts}
-use Rattle.shard_node.specs.Shards.{ShardOf}
+use Rattle.node_journal.specs.Nodes.{NodeOf}
+use Rattle.node_journal.specs.Shown.{shown}
+use Rattle.node_journal.specs.Opened.{IsOpened}
+use Rattle.node_journal.specs.declared.opening.Opened.{Opened}
+use Rattle.record_grammar.specs.Kinds.{IsShardHeader}
 
 -- for each locked batch there is memory for a decision on each entry
 abbrev pub HaveDecisions : List Record → List (Vec Bool) → Type 0
@@ -46,16 +51,8 @@ abbrev pub journal_of : {D : Type 0} {G : Ghosts D} → Parts D G → List Recor
 journal_of p = reverse p.log.records.items
 
 -- what contracts see of it
-abbrev pub view_of : {D : Type 0} {G : Ghosts D} → Parts D G → ShardOf D
-view_of p = record {
-  header = p.log.header;
-  journal = journal_of p;
-  flight = p.flight;
-  opened = p.opened;
-  broken = broken_of p.log.journal;
-  gate = gate_of p.log.journal;
-  disk = disk_of p.log.journal;
-}
+abbrev pub view_of : {D : Type 0} {G : Ghosts D} → Parts D G → NodeOf D
+view_of p = shown p.log p.opened p.flight
 
 -- the core stands for the journal, which is a shard's
 pub record IsShardOf {D : Type 0} {G : Ghosts D} (p : Parts D G) : Type 0 where
@@ -72,6 +69,10 @@ pub record IsShardOf {D : Type 0} {G : Ghosts D} (p : Parts D G) : Type 0 where
   pub room : used_of (journal_of p) + kept_room p.log.header.shape (journal_of p) ≤ G.limit (disk_of p.log.journal)
   pub unbroken : p.flight ≡ None → broken_of p.log.journal ≡ None
   pub fits : IfSome p.flight (λ r. used_of (journal_of p) + need_of p.log.header.shape (journal_of p) r ≤ G.limit (disk_of p.log.journal))
+
+-- its journal was just opened
+abbrev pub IsShardOpened : {D : Type 0} {G : Ghosts D} → Opened ShardCore D G → Type 0
+IsShardOpened o = IsOpened (λ core. core.header) Stands IsShardHeader o
 
 -- the record was written and taken in
 pub record HasWritten {D : Type 0} {G : Ghosts D} (old new : Parts D G) (r : Record) : Type 0 where

@@ -9,7 +9,7 @@ ghost use Rattle.record_log.specs.Logs.{HasRoom, KeepsRoom, IsUntouched};
 ghost use Rattle.shard_core.specs.Plans.{replies_at};
 ghost use Rattle.shard_core.specs.Stands.{IsReady, IsFree};
 ghost use Rattle.cbdc_model.specs.Calls.{IsLockCall};
-ghost use Rattle.shard_node.specs.Shards.{HoldsJournal, LeavesBetween, sight_of, broken_behind};
+ghost use Rattle.node_journal.specs.Nodes.{sight, HoldsJournal, LeavesBetween, broken_behind};
 ghost use Rattle.shard_node.specs.Parts.{IsShardOf, IsLockOf, journal_of, view_of};
 
 use crate::parts::Parts;
@@ -86,7 +86,7 @@ fn append_lock<D: Disk>(
     requires free { IsFree parts.old.core call.now.batch.lane }
     ensures shard { IsShardOf parts.new }
     ensures meets { Meets true (lock_due parts.old.log.header.shape (D.limit (disk_of parts.old.log.journal)) call.now None (journal_of parts.old))
-        (sight_of D.count D.limit (view_of parts.old)) (sight_of D.count D.limit (view_of parts.new)) (journal_of parts.old) result }
+        (sight (view_of parts.old)) (sight (view_of parts.new)) (journal_of parts.old) result }
     ensures broken { broken_of parts.new.log.journal ≡ broken_behind result (D.count (disk_of parts.new.log.journal)) None }
     ensures holds { HoldsJournal D.content D.images (view_of parts.old) → HoldsJournal D.content D.images (view_of parts.new) }
     ensures leaves { HoldsJournal D.content D.images (view_of parts.old)
@@ -139,7 +139,7 @@ pub(crate) fn lock_parts<D: Disk>(
     requires call { IsLockCall parts.old.log.header call.now }
     ensures shard { IsShardOf parts.new }
     ensures meets { Meets true (lock_due parts.old.log.header.shape (D.limit (disk_of parts.old.log.journal)) call.now (broken_of parts.old.log.journal) (journal_of parts.old))
-        (sight_of D.count D.limit (view_of parts.old)) (sight_of D.count D.limit (view_of parts.new)) (journal_of parts.old) result }
+        (sight (view_of parts.old)) (sight (view_of parts.new)) (journal_of parts.old) result }
     ensures broken { broken_of parts.new.log.journal ≡ broken_behind result (D.count (disk_of parts.new.log.journal)) (broken_of parts.old.log.journal) }
     ensures holds { HoldsJournal D.content D.images (view_of parts.old) → HoldsJournal D.content D.images (view_of parts.new) }
     ensures leaves { HoldsJournal D.content D.images (view_of parts.old)

@@ -10,7 +10,7 @@ ghost use Rattle.cbdc_model.specs.Fates.{fate};
 ghost use Rattle.shard_core.specs.Counts.{Counts};
 ghost use Rattle.shard_core.specs.Remembers.{told};
 ghost use Rattle.cbdc_model.specs.Calls.{IsLockCall, IsFinishCall, IsForgetCall};
-ghost use Rattle.shard_node.specs.Shards.{HoldsJournal, LeavesBetween, sight_of, broken_behind};
+ghost use Rattle.node_journal.specs.Nodes.{sight, HoldsJournal, LeavesBetween, broken_behind};
 
 use crate::locking::lock_parts;
 use crate::parts::Parts;
@@ -23,9 +23,7 @@ use shard_core::Remembered;
 use std::alloc::Global;
 use std::marker::Model;
 
-/// A shard on its disk. Contracts see its header, its journal (the newest record first), a record that a failed call
-/// may have left on the disk, the disk's counts of faults when it was opened and behind an append that has failed
-/// since, the journal's closing gate, and the disk.
+/// A shard on its disk. Contracts see of it what they see of any node (`NodeOf`).
 #[derive(Drop)]
 pub struct ShardNode<D: Disk> {
     alloc: Global,
@@ -33,9 +31,9 @@ pub struct ShardNode<D: Disk> {
 }
 
 impl<D: Disk> Model for ShardNode<D> {
-    ghost use Rattle.shard_node.specs.Shards.{ShardOf};
+    ghost use Rattle.node_journal.specs.Nodes.{NodeOf};
 
-    ghost Value = { ShardOf D };
+    ghost Value = { NodeOf D };
 
     ghost use Rattle.shard_node.specs.Parts.{IsShardOf, view_of};
 
@@ -60,10 +58,10 @@ impl<D: Disk> ShardNode<D> {
     /// Out of memory: before its first write; the shard's journal is as before.
     pub fn lock(&mut self, call: &LockCall) -> Result<Replied, NodeFault>
         requires { IsLockCall self.old.header call.now }
-        ensures meets { Meets true (lock_due self.old.header.shape (D.limit self.old.disk) call.now self.old.broken self.old.journal)
-            (sight_of D.count D.limit self.old) (sight_of D.count D.limit self.new) self.old.journal result }
-        ensures broken { self.new.broken ≡ broken_behind result (D.count self.new.disk) self.old.broken }
-        ensures later { D.count self.old.disk ≤ D.count self.new.disk }
+        ensures meets { Meets true (lock_due self.old.header.shape self.old.capacity call.now self.old.broken self.old.journal)
+            (sight self.old) (sight self.new) self.old.journal result }
+        ensures broken { self.new.broken ≡ broken_behind result self.new.faults self.old.broken }
+        ensures later { self.old.faults ≤ self.new.faults }
         ensures header { self.new.header ≡ self.old.header }
         ensures journal { IsJournal self.new.header self.new.journal }
         ensures holds { HoldsJournal D.content D.images self.old → HoldsJournal D.content D.images self.new }
@@ -80,9 +78,9 @@ impl<D: Disk> ShardNode<D> {
     pub fn finish(&mut self, call: &FinishCall) -> Result<Stamp, NodeFault>
         requires { IsFinishCall self.old.header call.now }
         ensures meets { Meets false (finish_due call.now self.old.broken self.old.journal)
-            (sight_of D.count D.limit self.old) (sight_of D.count D.limit self.new) self.old.journal result }
-        ensures broken { self.new.broken ≡ broken_behind result (D.count self.new.disk) self.old.broken }
-        ensures later { D.count self.old.disk ≤ D.count self.new.disk }
+            (sight self.old) (sight self.new) self.old.journal result }
+        ensures broken { self.new.broken ≡ broken_behind result self.new.faults self.old.broken }
+        ensures later { self.old.faults ≤ self.new.faults }
         ensures header { self.new.header ≡ self.old.header }
         ensures journal { IsJournal self.new.header self.new.journal }
         ensures holds { HoldsJournal D.content D.images self.old → HoldsJournal D.content D.images self.new }
@@ -99,9 +97,9 @@ impl<D: Disk> ShardNode<D> {
     pub fn forget(&mut self, call: &ForgetCall) -> Result<Stamp, NodeFault>
         requires { IsForgetCall self.old.header call.now }
         ensures meets { Meets false (forget_due call.now self.old.broken self.old.journal)
-            (sight_of D.count D.limit self.old) (sight_of D.count D.limit self.new) self.old.journal result }
-        ensures broken { self.new.broken ≡ broken_behind result (D.count self.new.disk) self.old.broken }
-        ensures later { D.count self.old.disk ≤ D.count self.new.disk }
+            (sight self.old) (sight self.new) self.old.journal result }
+        ensures broken { self.new.broken ≡ broken_behind result self.new.faults self.old.broken }
+        ensures later { self.old.faults ≤ self.new.faults }
         ensures header { self.new.header ≡ self.old.header }
         ensures journal { IsJournal self.new.header self.new.journal }
         ensures holds { HoldsJournal D.content D.images self.old → HoldsJournal D.content D.images self.new }
@@ -138,16 +136,18 @@ impl<D: Disk> ShardNode<D> {
         ensures header { result.now ≡ self.now.header }
 
         // Its disk's count has not fallen since it was opened, and has risen if an append has failed since.
-        ensures since_opened { self.now.opened ≤ D.count self.now.disk }
-        ensures since_broken { IsBrokenSince self.now.opened (D.count self.now.disk) self.now.broken }
+        ensures since_opened { self.now.opened ≤ self.now.faults }
+        ensures since_broken { IsBrokenSince self.now.opened self.now.faults self.now.broken }
+        ensures count { self.now.faults ≡ D.count self.now.disk }
+        ensures capacity { self.now.capacity ≡ D.limit self.now.disk }
 
         // A record is in flight exactly where an append has failed since, and it had room.
         ensures landed { self.now.broken ≡ None → self.now.flight ≡ None }
         ensures unbroken { self.now.flight ≡ None → self.now.broken ≡ None }
-        ensures fits { IfSome self.now.flight (λ r. used_of self.now.journal + need_of self.now.header.shape self.now.journal r ≤ D.limit self.now.disk) }
+        ensures fits { IfSome self.now.flight (λ r. used_of self.now.journal + need_of self.now.header.shape self.now.journal r ≤ self.now.capacity) }
 
         // What its journal takes, with what is kept for its unfinished batches, lies within the capacity.
-        ensures room { used_of self.now.journal + kept_room self.now.header.shape self.now.journal ≤ D.limit self.now.disk }
+        ensures room { used_of self.now.journal + kept_room self.now.header.shape self.now.journal ≤ self.now.capacity }
     {
         &self.parts.log.header
     }

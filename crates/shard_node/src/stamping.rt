@@ -8,7 +8,7 @@ ghost use Rattle.cbdc_model.specs.Sights.{Meets};
 ghost use Rattle.shard_core.specs.Admitted.{IsFinishable};
 ghost use Rattle.shard_core.specs.Stands.{IsDone};
 ghost use Rattle.cbdc_model.specs.Calls.{IsFinishCall, IsForgetCall};
-ghost use Rattle.shard_node.specs.Shards.{HoldsJournal, LeavesBetween, sight_of, broken_behind};
+ghost use Rattle.node_journal.specs.Nodes.{sight, HoldsJournal, LeavesBetween, broken_behind};
 ghost use Rattle.shard_node.specs.Parts.{IsShardOf, journal_of, view_of};
 
 use crate::parts::Parts;
@@ -55,7 +55,7 @@ fn append_finish<D: Disk>(
     requires locked { IsFinishable parts.old.core call.now.batch call.now.decisions }
     ensures shard { IsShardOf parts.new }
     ensures meets { Meets false (finish_due call.now None (journal_of parts.old))
-        (sight_of D.count D.limit (view_of parts.old)) (sight_of D.count D.limit (view_of parts.new)) (journal_of parts.old) result }
+        (sight (view_of parts.old)) (sight (view_of parts.new)) (journal_of parts.old) result }
     ensures broken { broken_of parts.new.log.journal ≡ broken_behind result (D.count (disk_of parts.new.log.journal)) None }
     ensures holds { HoldsJournal D.content D.images (view_of parts.old) → HoldsJournal D.content D.images (view_of parts.new) }
     ensures leaves { HoldsJournal D.content D.images (view_of parts.old)
@@ -94,7 +94,7 @@ fn append_forget<D: Disk>(
     requires done { IsDone parts.old.core call.now.batch.lane }
     ensures shard { IsShardOf parts.new }
     ensures meets { Meets false (forget_due call.now None (journal_of parts.old))
-        (sight_of D.count D.limit (view_of parts.old)) (sight_of D.count D.limit (view_of parts.new)) (journal_of parts.old) result }
+        (sight (view_of parts.old)) (sight (view_of parts.new)) (journal_of parts.old) result }
     ensures broken { broken_of parts.new.log.journal ≡ broken_behind result (D.count (disk_of parts.new.log.journal)) None }
     ensures holds { HoldsJournal D.content D.images (view_of parts.old) → HoldsJournal D.content D.images (view_of parts.new) }
     ensures leaves { HoldsJournal D.content D.images (view_of parts.old)
@@ -123,7 +123,7 @@ pub(crate) fn finish_parts<D: Disk>(
     requires call { IsFinishCall parts.old.log.header call.now }
     ensures shard { IsShardOf parts.new }
     ensures meets { Meets false (finish_due call.now (broken_of parts.old.log.journal) (journal_of parts.old))
-        (sight_of D.count D.limit (view_of parts.old)) (sight_of D.count D.limit (view_of parts.new)) (journal_of parts.old) result }
+        (sight (view_of parts.old)) (sight (view_of parts.new)) (journal_of parts.old) result }
     ensures broken { broken_of parts.new.log.journal ≡ broken_behind result (D.count (disk_of parts.new.log.journal)) (broken_of parts.old.log.journal) }
     ensures holds { HoldsJournal D.content D.images (view_of parts.old) → HoldsJournal D.content D.images (view_of parts.new) }
     ensures leaves { HoldsJournal D.content D.images (view_of parts.old)
@@ -148,7 +148,7 @@ pub(crate) fn forget_parts<D: Disk>(
     requires call { IsForgetCall parts.old.log.header call.now }
     ensures shard { IsShardOf parts.new }
     ensures meets { Meets false (forget_due call.now (broken_of parts.old.log.journal) (journal_of parts.old))
-        (sight_of D.count D.limit (view_of parts.old)) (sight_of D.count D.limit (view_of parts.new)) (journal_of parts.old) result }
+        (sight (view_of parts.old)) (sight (view_of parts.new)) (journal_of parts.old) result }
     ensures broken { broken_of parts.new.log.journal ≡ broken_behind result (D.count (disk_of parts.new.log.journal)) (broken_of parts.old.log.journal) }
     ensures holds { HoldsJournal D.content D.images (view_of parts.old) → HoldsJournal D.content D.images (view_of parts.new) }
     ensures leaves { HoldsJournal D.content D.images (view_of parts.old)

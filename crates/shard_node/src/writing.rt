@@ -1,33 +1,17 @@
 // Writing a record down, and then taking it in.
-ghost use Rattle.std.specs.Prelude.{◌≡◌, ◌+◌, ◌≤◌, ◌∷◌, List as Items, None, length, OnOk, OnErr, IfErr};
+ghost use Rattle.std.specs.Prelude.{◌≡◌, ◌+◌, ◌≤◌, None, length, OnOk, OnErr, IfErr};
 ghost use Rattle.gate_journal.specs.Shown.{disk_of, gate_of, broken_of};
-ghost use Rattle.cbdc_model.specs.Records.{Record as AnyRecord};
 ghost use Rattle.record_log.specs.Bodies.{body_of};
 ghost use Rattle.record_log.specs.Logs.{HasRoom};
 ghost use Rattle.shard_core.specs.Admitted.{IsAdmitted};
-ghost use Rattle.shard_core.specs.Stands.{Stands};
-ghost use Rattle.shard_node.specs.Shards.{HoldsJournal, LeavesBetween};
+ghost use Rattle.node_journal.specs.Nodes.{HoldsJournal, LeavesBetween};
 ghost use Rattle.shard_node.specs.Parts.{HasWritten, HasFailed, view_of};
 
 use crate::parts::Parts;
 use cbdc_types::{NodeFault, Record};
 use outside::Disk;
+use record_grammar::Core;
 use record_log::LogFault;
-use shard_core::ShardCore;
-
-/// Takes an appended record in.
-pub(crate) fn apply(core: &mut ShardCore, next: &Record)
-    requires { IsAdmitted core.old next.now }
-    ensures stands { (J : Items AnyRecord) → Stands core.old J → Stands core.new (next.now ∷ J) }
-    ensures header { core.new.header ≡ core.old.header }
-{
-    match next {
-        Record::Lock { .. } => core.apply_lock(next),
-        Record::Finish { .. } => core.apply_finish(next),
-        Record::Forget { .. } => core.apply_forget(next),
-        _ => unreachable!(),
-    }
-}
 
 /// Writes a record, for which there is room, and then takes it in. Where the disk fails, the record is in flight.
 pub(crate) fn write<D: Disk>(parts: &mut Parts<D>, next: Record) -> Result<(), NodeFault>
@@ -45,7 +29,7 @@ pub(crate) fn write<D: Disk>(parts: &mut Parts<D>, next: Record) -> Result<(), N
 {
     match parts.log.write(&next) {
         Ok(()) => {
-            apply(&mut parts.core, &next);
+            parts.core.apply(&next);
             parts.log.keep(next);
             Ok(())
         }

@@ -7,7 +7,7 @@ use Rattle.std.proofs.lemmas.Option.{slice_get-get_or, slice_get_past}
 use Rattle.cbdc_model.specs.Records.{Digest, Record}
 use Rattle.cbdc_model.specs.Ranges.{shard_of}
 use Rattle.cbdc_model.specs.Status.{status, Absent}
-use Rattle.shard_node.specs.Shards.{ShardOf}
+use Rattle.node_journal.specs.Nodes.{NodeOf}
 use Rattle.status_command.specs.Texts.{journal_there, status_among}
 
 -- one item more was taken through a function
@@ -16,12 +16,6 @@ map_more {A} {B} f xs i x before now inside here pushed so_far =
     let next : suc i ≡ i + 1 = omega arith in
     pushed ∙ ap (λ (l : List B). l ++ (f x ∷ [])) so_far ∙ ap (λ (y : A). map f (take i xs) ++ (f y ∷ [])) here ∙ sym (map-append f (take i xs) (slice_index_or xs i x ∷ []))
     ∙ ap (map f) (sym (take-suc xs i x inside)) ∙ ap (λ (k : ℕ). map f (take k xs)) next
-
--- each place of a list has an item
-pub at_place : {N : Type 0} (xs : List N) (n : ℕ) → n < length xs → (x : N) × (slice_get xs n ≡ Some x)
-at_place [] n inside = absurd (omega (arith, inside))
-at_place (x ∷ xs) zero inside = (x, refl)
-at_place (x ∷ xs) (suc n) inside = at_place xs n (omega (arith, inside))
 
 module _ {N : Type 0} (journal : N → List Record) where
   pub journal_some : (nodes : List N) (n : ℕ) (x : N) → slice_get nodes n ≡ Some x → journal_there journal nodes n ≡ journal x
@@ -34,17 +28,17 @@ module _ {N : Type 0} (journal : N → List Record) where
   journal_none (y ∷ nodes) zero at = absurd (cc)
   journal_none (y ∷ nodes) (suc n) at = journal_none nodes n at
 
-module _ {D : Type 0} (shards : List (ShardOf D)) (count : ℕ) (x : Digest) (k : ℕ) (same : count ≡ length shards) (place : k ≡ shard_of count x) where
+module _ {D : Type 0} (shards : List (NodeOf D)) (count : ℕ) (x : Digest) (k : ℕ) (same : count ≡ length shards) (place : k ≡ shard_of count x) where
   there : k ≡ shard_of (length shards) x
   there = place ∙ ap (λ (n : ℕ). shard_of n x) same
 
   -- the shard that holds a hash says its status
-  pub status_there : (s : ShardOf D) → k < length shards → s ≡ slice_index_or shards k s → status s.journal x ≡ status_among shards x
+  pub status_there : (s : NodeOf D) → k < length shards → s ≡ slice_index_or shards k s → status s.journal x ≡ status_among shards x
   status_there s inside is =
-      let at : slice_get shards k ≡ Some s = slice_get-get_or shards k s inside ∙ ap (λ (y : ShardOf D). Some y) (sym is) in
-      ap (λ (J : List Record). status J x) (sym (journal_some (λ (y : ShardOf D). y.journal) shards k s at) ∙ ap (λ (n : ℕ). journal_there (λ (y : ShardOf D). y.journal) shards n) there)
+      let at : slice_get shards k ≡ Some s = slice_get-get_or shards k s inside ∙ ap (λ (y : NodeOf D). Some y) (sym is) in
+      ap (λ (J : List Record). status J x) (sym (journal_some (λ (y : NodeOf D). y.journal) shards k s at) ∙ ap (λ (n : ℕ). journal_there (λ (y : NodeOf D). y.journal) shards n) there)
 
   -- where there is none, nothing is known of it
   pub status_past : length shards ≤ k → Absent ≡ status_among shards x
   status_past past =
-      ap (λ (J : List Record). status J x) (sym (journal_none (λ (y : ShardOf D). y.journal) shards k (slice_get_past shards k past)) ∙ ap (λ (n : ℕ). journal_there (λ (y : ShardOf D). y.journal) shards n) there)
+      ap (λ (J : List Record). status J x) (sym (journal_none (λ (y : NodeOf D). y.journal) shards k (slice_get_past shards k past)) ∙ ap (λ (n : ℕ). journal_there (λ (y : NodeOf D). y.journal) shards n) there)

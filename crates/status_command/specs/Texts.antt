@@ -5,8 +5,7 @@ use Rattle.cbdc_model.specs.Ranges.{shard_of}
 use Rattle.cbdc_model.specs.Status.{Status, status}
 use Rattle.line_text.specs.Lines.{Text}
 use Rattle.line_text.specs.Reports.{status_line}
-use Rattle.coord_log.specs.Logs.{LogOf}
-use Rattle.shard_node.specs.Shards.{ShardOf}
+use Rattle.node_journal.specs.Nodes.{NodeOf}
 
 -- a line for each hash, as long as there are statuses
 abbrev pub told_lines : List Digest → List Status → Text
@@ -21,10 +20,10 @@ journal_there journal (x ∷ nodes) zero = journal x
 journal_there journal (x ∷ nodes) (suc place) = journal_there journal nodes place
 
 -- the status of a hash at the shard that holds it, of these
-abbrev pub status_among : {D : Type 0} → List (ShardOf D) → Digest → Status
+abbrev pub status_among : {D : Type 0} → List (NodeOf D) → Digest → Status
 status_among shards x = status (journal_there (λ s. s.journal) shards (shard_of (length shards) x)) x
 
 -- the journals of a ledger's nodes, the coordinators before the shards
-abbrev pub journals_at : {D : Type 0} → Shape → List (LogOf D) → List (ShardOf D) → ℕ → List Record
+abbrev pub journals_at : {D : Type 0} → Shape → List (NodeOf D) → List (NodeOf D) → ℕ → List Record
 journals_at K logs shards n =
     if nat_lt n K.coordinators then journal_there (λ l. l.journal) logs n else journal_there (λ s. s.journal) shards (n - K.coordinators)

@@ -11,7 +11,7 @@ use Rattle.audit_command.proofs.auditing.audit.Goals as goal
 
 pub returns-in-Err-clause-why : goal.returns-in-Err-clause-why
 returns-in-Err-clause-why g c =
-    told (WhyNoAudit (g.I.Inbox.file c.args.inbox.now) (g.I.Inbox.count c.args.inbox.now) (g.I.Inbox.count c.audit_all.new.inbox) g.R.Disk.Disk.content g.R.Disk.Disk.images g.R.Disk.Disk.limit g.R.Disk.Disk.count (g.R.Rack.held c.args.rack.now) (g.R.Rack.held c.audit_all.new.rack)
+    told (WhyNoAudit (g.I.Inbox.file c.args.inbox.now) (g.I.Inbox.count c.args.inbox.now) (g.I.Inbox.count c.audit_all.new.inbox) g.R.Disk.Disk (g.R.Rack.held c.args.rack.now) (g.R.Rack.held c.audit_all.new.rack)
     (g.R.Rack.count c.args.rack.now) (g.R.Rack.count c.audit_all.new.rack) c.args.mint.now c.args.clients.now)
     c.in-Err.fault (c.audit_all.ensures.held, inr c.in-Err.ensures.why)
 
@@ -26,22 +26,22 @@ returns-in-Err-clause-silent g c = silent_same (g.O.Sink.taken c.args.out.now) c
 
 pub returns-in-Ok-Sound-clause-did : goal.returns-in-Ok-Sound-clause-did
 returns-in-Ok-Sound-clause-did g c = λ well.
-    let was = subst (λ v. WasAudited (g.I.Inbox.file c.args.inbox.now) g.R.Disk.Disk.content g.R.Disk.Disk.images g.R.Disk.Disk.limit (g.R.Rack.held c.args.rack.now) (g.R.Rack.held c.audit_all.new.rack) c.args.mint.now c.args.clients.now v) c.in-Ok-Sound.field-0-is c.in-Ok-Sound.ensures.did in
+    let was = subst (λ v. WasAudited (g.I.Inbox.file c.args.inbox.now) g.R.Disk.Disk (g.R.Rack.held c.args.rack.now) (g.R.Rack.held c.audit_all.new.rack) c.args.mint.now c.args.clients.now v) c.in-Ok-Sound.field-0-is c.in-Ok-Sound.ensures.did in
     record {
       totals = c.in-Ok-Sound.totals;
       was = was;
-      sentence = verdicts_account g.R.Disk.Disk.content (g.R.Rack.held c.args.rack.now) was.mint (joined was.handed) (Sound c.in-Ok-Sound.totals) was.audited;
+      sentence = verdicts_account g.R.Disk.Disk (g.R.Rack.held c.args.rack.now) was.mint (joined was.handed) (Sound c.in-Ok-Sound.totals) was.audited;
       prints = c.print.ensures.prints;
     }
 
 pub returns-in-Ok-Sound-clause-why : goal.returns-in-Ok-Sound-clause-why
 returns-in-Ok-Sound-clause-why g c =
-    well_told (WhyNoAudit (g.I.Inbox.file c.args.inbox.now) (g.I.Inbox.count c.args.inbox.now) (g.I.Inbox.count c.audit_all.new.inbox) g.R.Disk.Disk.content g.R.Disk.Disk.images g.R.Disk.Disk.limit g.R.Disk.Disk.count (g.R.Rack.held c.args.rack.now) (g.R.Rack.held c.audit_all.new.rack)
+    well_told (WhyNoAudit (g.I.Inbox.file c.args.inbox.now) (g.I.Inbox.count c.args.inbox.now) (g.I.Inbox.count c.audit_all.new.inbox) g.R.Disk.Disk (g.R.Rack.held c.args.rack.now) (g.R.Rack.held c.audit_all.new.rack)
     (g.R.Rack.count c.args.rack.now) (g.R.Rack.count c.audit_all.new.rack) c.args.mint.now c.args.clients.now)
     c.print.result c.print.ensures.shown
 
 pub returns-in-Ok-Unsound-clause-why : goal.returns-in-Ok-Unsound-clause-why
 returns-in-Ok-Unsound-clause-why g c = (
   c.audit_all.ensures.held,
-  inl (subst (λ v. WasAudited (g.I.Inbox.file c.args.inbox.now) g.R.Disk.Disk.content g.R.Disk.Disk.images g.R.Disk.Disk.limit (g.R.Rack.held c.args.rack.now) (g.R.Rack.held c.audit_all.new.rack) c.args.mint.now c.args.clients.now v) c.in-Ok-Unsound.field-0-is c.in-Ok-Unsound.ensures.did),
+  inl (subst (λ v. WasAudited (g.I.Inbox.file c.args.inbox.now) g.R.Disk.Disk (g.R.Rack.held c.args.rack.now) (g.R.Rack.held c.audit_all.new.rack) c.args.mint.now c.args.clients.now v) c.in-Ok-Unsound.field-0-is c.in-Ok-Unsound.ensures.did),
 )

@@ -35,13 +35,13 @@ returns-in-Err-clause-fault g c =
     (λ file at. inl at) (λ file at rose. inl (at, rose)) c.in-Err.fault c.in-Err.ensures.fault
 
 pub returns-in-Err-clause-held : goal.returns-in-Err-clause-held
-returns-in-Err-clause-held g c n = back_same g.R.Disk.Disk.content g.R.Disk.Disk.images g.R.Disk.Disk.limit _ _ (g.R.Rack.held c.args.rack.now n) (g.R.Rack.held c.args.rack.now n) refl
+returns-in-Err-clause-held g c n = back_same g.R.Disk.Disk _ _ (g.R.Rack.held c.args.rack.now n) (g.R.Rack.held c.args.rack.now n) refl
 
 pub returns-in-Err-all_clients_in-clause-held : goal.returns-in-Err-all_clients_in-clause-held
-returns-in-Err-all_clients_in-clause-held g c n = back_same g.R.Disk.Disk.content g.R.Disk.Disk.images g.R.Disk.Disk.limit _ _ (g.R.Rack.held c.args.rack.now n) (g.R.Rack.held c.args.rack.now n) refl
+returns-in-Err-all_clients_in-clause-held g c n = back_same g.R.Disk.Disk _ _ (g.R.Rack.held c.args.rack.now n) (g.R.Rack.held c.args.rack.now n) refl
 
 pub returns-in_default-clause-held : goal.returns-in_default-clause-held
-returns-in_default-clause-held g c n = back_same g.R.Disk.Disk.content g.R.Disk.Disk.images g.R.Disk.Disk.limit _ _ (g.R.Rack.held c.args.rack.now n) (g.R.Rack.held c.args.rack.now n) refl
+returns-in_default-clause-held g c n = back_same g.R.Disk.Disk _ _ (g.R.Rack.held c.args.rack.now n) (g.R.Rack.held c.args.rack.now n) refl
 
 pub returns-in_default-clause-why : goal.returns-in_default-clause-why
 returns-in_default-clause-why g c = inl tt
@@ -53,9 +53,9 @@ returns-clause-did g c =
     let now = g.R.Rack.held c.audit_on.new.rack in
     if_ok_and _ _ _ c.audit_on.result
     (λ v unchanged is.
-    let found : (was : IsAudited g.R.Disk.Disk.content held c.in-Ok.mint (joined c.in-Ok-all_clients_in.files.items) v) × HistoryHasRoom g.R.Disk.Disk.limit held was.shape was.rows × HistoryIsHeld g.R.Disk.Disk.content g.R.Disk.Disk.images held now was.shape (genesis_id c.in-Ok.mint) was.rows =
-    subst (λ (m : List Output). (was : IsAudited g.R.Disk.Disk.content held m (joined c.in-Ok-all_clients_in.files.items) v) × HistoryHasRoom g.R.Disk.Disk.limit held was.shape was.rows × HistoryIsHeld g.R.Disk.Disk.content g.R.Disk.Disk.images held now was.shape (genesis_id m) was.rows) c.as_slice.ensures
-    (subst (λ (h : List FullTx). (was : IsAudited g.R.Disk.Disk.content held c.as_slice.result.now h v) × HistoryHasRoom g.R.Disk.Disk.limit held was.shape was.rows × HistoryIsHeld g.R.Disk.Disk.content g.R.Disk.Disk.images held now was.shape (genesis_id c.as_slice.result.now) was.rows) all is) in
+    let found : (was : IsAudited g.R.Disk.Disk held c.in-Ok.mint (joined c.in-Ok-all_clients_in.files.items) v) × HistoryHasRoom g.R.Disk.Disk held was.shape was.rows × HistoryIsHeld g.R.Disk.Disk held now was.shape (genesis_id c.in-Ok.mint) was.rows =
+    subst (λ (m : List Output). (was : IsAudited g.R.Disk.Disk held m (joined c.in-Ok-all_clients_in.files.items) v) × HistoryHasRoom g.R.Disk.Disk held was.shape was.rows × HistoryIsHeld g.R.Disk.Disk held now was.shape (genesis_id m) was.rows) c.as_slice.ensures
+    (subst (λ (h : List FullTx). (was : IsAudited g.R.Disk.Disk held c.as_slice.result.now h v) × HistoryHasRoom g.R.Disk.Disk held was.shape was.rows × HistoryIsHeld g.R.Disk.Disk held now was.shape (genesis_id c.as_slice.result.now) was.rows) all is) in
     record {
       mint = c.in-Ok.mint;
       handed = c.in-Ok-all_clients_in.files.items;
@@ -77,7 +77,7 @@ returns-clause-why g c =
       inr (
         c.in-Ok-all_clients_in.files.items,
         are_read_same (g.I.Inbox.file c.mint_in.new.inbox) (g.I.Inbox.file c.args.inbox.now) c.mint_in.ensures.same c.args.clients.now c.in-Ok-all_clients_in.files.items 0 c.in-Ok-all_clients_in.ensures.read,
-        subst (λ m. WhyUnopened g.R.Disk.Disk.content g.R.Disk.Disk.images g.R.Disk.Disk.limit g.R.Disk.Disk.count (g.R.Rack.held c.args.rack.now) (g.R.Rack.count c.args.rack.now) (g.R.Rack.count c.audit_on.new.rack) m e) c.as_slice.ensures why,
+        subst (λ m. WhyUnopened g.R.Disk.Disk (g.R.Rack.held c.args.rack.now) (g.R.Rack.count c.args.rack.now) (g.R.Rack.count c.audit_on.new.rack) m e) c.as_slice.ensures why,
       ),
     ))
     c.audit_on.ensures.refusal

@@ -20,7 +20,7 @@ returns-in-Ok-clause-did g c well = (c.in-Ok.request, c.in-Ok.ensures.asked, c.a
 
 pub returns-in-Ok-clause-why : goal.returns-in-Ok-clause-why
 returns-in-Ok-clause-why g c =
-    let why : Request → Answer → Type 0 = λ r a. Why (g.I.Inbox.file c.args.inbox.now) (g.I.Inbox.count c.args.inbox.now) (g.I.Inbox.count c.answer_to-status.new.inbox) g.R.Disk.Disk.content g.R.Disk.Disk.images g.R.Disk.Disk.limit g.R.Disk.Disk.count (g.R.Rack.held c.args.rack.now) (g.R.Rack.held c.answer_to-status.new.rack) (g.R.Rack.count c.args.rack.now) (g.R.Rack.count c.answer_to-status.new.rack) r a in
+    let why : Request → Answer → Type 0 = λ r a. Why (g.I.Inbox.file c.args.inbox.now) (g.I.Inbox.count c.args.inbox.now) (g.I.Inbox.count c.answer_to-status.new.inbox) g.R.Disk.Disk (g.R.Rack.held c.args.rack.now) (g.R.Rack.held c.answer_to-status.new.rack) (g.R.Rack.count c.args.rack.now) (g.R.Rack.count c.answer_to-status.new.rack) r a in
     told_by (why c.in-Ok.request) (λ a. (r : Request) × IsAsked (texts c.args.words.now) r × why r a) c.answer_to-status.result (λ a so. (c.in-Ok.request, c.in-Ok.ensures.asked, so)) c.answer_to-status.ensures.why
 
 pub returns-in-Ok-clause-told : goal.returns-in-Ok-clause-told

@@ -17,7 +17,7 @@ returns-clause-did g c well =
     let (r, asked, was) = c.answer_words-status.ensures.did well in (
       r,
       asked,
-      did_by (g.I.Inbox.file c.args.inbox.now) g.R.Disk.Disk.content g.R.Disk.Disk.images g.R.Disk.Disk.limit (g.R.Rack.held c.args.rack) (g.R.Rack.held c.answer_words-status.new.rack)
+      did_by (g.I.Inbox.file c.args.inbox.now) g.R.Disk.Disk (g.R.Rack.held c.args.rack) (g.R.Rack.held c.answer_words-status.new.rack)
           (IsPrinted (g.O.Sink.taken c.args.out.now) (g.O.Sink.taken c.answer_words-status.new.out) c.answer_words-status.result.status)
           (IsPrinted (g.O.Sink.taken c.args.out.now) (g.O.Sink.taken c.write_fault.new.out) c.answer_words-status.result.status)
           (λ text. printed_still (g.O.Sink.taken c.args.out.now) (g.O.Sink.taken c.answer_words-status.new.out) (g.O.Sink.taken c.write_fault.new.out) c.answer_words-status.result.name.now text c.write_fault.result c.answer_words-status.result.status c.write_fault.ensures.prints)
@@ -54,21 +54,21 @@ returns-clause-fault_line g c =
 pub returns-clause-complete : goal.returns-clause-complete
 returns-clause-complete g c r asked free =
     let status = c.answer_words-status.result.status in
-    complete (g.I.Inbox.file c.args.inbox.now) (g.I.Inbox.count c.args.inbox.now) (g.I.Inbox.count c.answer_words-status.new.inbox) g.R.Disk.Disk.content g.R.Disk.Disk.images g.R.Disk.Disk.limit g.R.Disk.Disk.count
+    complete (g.I.Inbox.file c.args.inbox.now) (g.I.Inbox.count c.args.inbox.now) (g.I.Inbox.count c.answer_words-status.new.inbox) g.R.Disk.Disk
     (g.R.Rack.held c.args.rack) (g.R.Rack.held c.answer_words-status.new.rack) (g.R.Rack.count c.args.rack) (g.R.Rack.count c.answer_words-status.new.rack)
     (texts c.args.words.now) r asked free status c.answer_words-status.ensures.why
     (λ is. subst (λ a. IsAnswered (texts c.args.words.now) (g.I.Inbox.count c.args.inbox.now) (g.I.Inbox.count c.answer_words-status.new.inbox) (Rose (g.O.Sink.count c.args.out.now) (g.O.Sink.count c.answer_words-status.new.out)) a) is c.answer_words-status.ensures.cause)
 
 pub returns-clause-exact : goal.returns-clause-exact
 returns-clause-exact g c r asked came =
-    exact g.R.Disk.Disk.content g.R.Disk.Disk.images g.R.Disk.Disk.limit g.R.Disk.Disk.count (g.R.Rack.held c.args.rack) (g.I.Inbox.file c.args.inbox.now) (g.R.Rack.held c.answer_words-status.new.rack) (g.R.Rack.count c.args.rack) (g.R.Rack.count c.answer_words-status.new.rack)
+    exact g.R.Disk.Disk (g.R.Rack.held c.args.rack) (g.I.Inbox.file c.args.inbox.now) (g.R.Rack.held c.answer_words-status.new.rack) (g.R.Rack.count c.args.rack) (g.R.Rack.count c.answer_words-status.new.rack)
     (IsPrinted (g.O.Sink.taken c.args.out.now) (g.O.Sink.taken c.answer_words-status.new.out) c.answer_words-status.result.status) (texts c.args.words.now) r c.answer_words-status.result.status asked
     (⊎_elim (λ well. inl (c.answer_words-status.ensures.did well)) (λ later. inr later) came)
 
 pub returns-clause-survives : goal.returns-clause-survives
 returns-clause-survives g c K mint submissions E within shown kept whatever =
     let e = c.answer_words-status.ensures in
-    survives g.R.Disk.Disk.content g.R.Disk.Disk.images c.see_images.ensures g.R.Disk.Disk.limit (g.R.Rack.held c.args.rack) (g.R.Rack.held c.answer_words-status.new.rack) K mint submissions E within shown kept
+    survives g.R.Disk.Disk c.see_images.ensures (g.R.Rack.held c.args.rack) (g.R.Rack.held c.answer_words-status.new.rack) K mint submissions E within shown kept
     (g.I.Inbox.file c.args.inbox.now) (texts c.args.words.now) (g.R.Rack.count c.args.rack) (g.R.Rack.count c.answer_words-status.new.rack)
     (IsPrinted (g.O.Sink.taken c.args.out.now) (g.O.Sink.taken c.answer_words-status.new.out) c.answer_words-status.result.status) whatever
     (λ of n. ap (λ r. g.R.Rack.held r n) (e.spared of)) c.answer_words-status.result.status e.did

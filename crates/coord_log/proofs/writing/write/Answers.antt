@@ -1,7 +1,8 @@
 use Rattle.std.proofs.Common.{◌+◌, ◌∷◌, [], ◌++◌, reverse, refl, ap, ◌∙◌, arith}
 use Rattle.gate_journal.specs.Shown.{gate_of, broken_of}
-use Rattle.coord_log.proofs.Written.{disk_failed, sound_after, sound_broken, to_journal, from_journal, to_broken}
-use Rattle.coord_log.proofs.Leaving.{written_between, failed_between}
+use Rattle.coord_log.proofs.Written.{disk_failed, sound_after, sound_broken}
+use Rattle.node_journal.proofs.Leaving.{to_journal, from_journal, to_broken}
+use Rattle.node_journal.proofs.Leaving.{written_between, failed_between}
 use Rattle.coord_log.proofs.writing.write.Goals as goal
 
 pub returns-in-Ok-clause-sound : goal.returns-in-Ok-clause-sound

@@ -8,14 +8,13 @@ use Rattle.cbdc_model.specs.Records.{txs_of}
 use Rattle.cbdc_model.specs.Ranges.{home_of}
 use Rattle.cbdc_model.specs.Slots.{slot, Idle}
 use Rattle.cbdc_model.specs.Due.{open_batch}
-use Rattle.coord_log.specs.Logs.{sight}
-use Rattle.shard_node.specs.Shards.{sight_of}
+use Rattle.node_journal.specs.Nodes.{sight}
 use Rattle.node_ports.specs.Nodes.{sight_at}
 use Rattle.run_laws.proofs.Seen.{seen_log}
 use Rattle.lane_laws.specs.Resuming.{IsTakenUp}
 use Rattle.recovery.specs.Open.{IsOpen, LanesRise, KeepsUnlisted, IsResumed, AreResumed, IsUnfinished, AreUnfinished, HasItsOutcomes, IsResumeStopped, IsOneTaken, AreTakenUp, IsStoppedAmong}
 use Rattle.thread_laws.proofs.OpenThere.{told_lane}
-use Rattle.file_runs.specs.Ledgers.{IsLogNext, IsShardNext}
+use Rattle.file_runs.specs.Ledgers.{FliesNext}
 use Rattle.file_runs.proofs.Steps.{is_step, are_shards, at_home, open_at}
 use Rattle.file_runs.proofs.Turns.{is_unfinished}
 use Rattle.file_runs.proofs.Ones.{are_one, others_keep, one_taken, one_idle, one_left, given_ok, given_each, each_ok}
@@ -28,52 +27,52 @@ go-came-requires-clause-is_open g c = subst (λ os. All (IsOpen (sight_at sight 
     (All-cons (IsOpen (sight_at sight c.args.ports.now.log.logs.items c.home-ports.result).header
     (λ l. (slot (sight_at sight c.args.ports.now.log.logs.items c.home-ports.result).seen l).phase)
     (λ l. txs_of (sight_at sight c.args.ports.now.log.logs.items c.home-ports.result).seen (open_batch (sight_at sight c.args.ports.now.log.logs.items c.home-ports.result).seen l))) c.args.unfinished.now []
-    (open_at g.D.Disk.count g.D.Disk.limit c.args.header.now c.args.ports.now.log.logs.items c.args.ports.now.shards.nodes.items c.args.lane c.home-ports.result c.args.unfinished.now c.requires.ledger c.requires.lane c.home-ports.ensures.place c.requires.told)
+    (open_at c.args.header.now c.args.ports.now.log.logs.items c.args.ports.now.shards.nodes.items c.args.lane c.home-ports.result c.args.unfinished.now c.requires.ledger c.requires.lane c.home-ports.ensures.place c.requires.told)
     (All-nil _))
 
 pub go-came-requires-clause-ledger : goal.go-came-requires-clause-ledger
-go-came-requires-clause-ledger g c = subst (λ (p : PlanOf). AreShardsOf p.shape (sight_at (sight_of g.D.Disk.count g.D.Disk.limit) c.args.ports.now.shards.nodes.items)) (sym c.requires.plan) (are_shards g.D.Disk.count g.D.Disk.limit c.args.header.now c.args.ports.now.log.logs.items c.args.ports.now.shards.nodes.items c.requires.ledger)
+go-came-requires-clause-ledger g c = subst (λ (p : PlanOf). AreShardsOf p.shape (sight_at sight c.args.ports.now.shards.nodes.items)) (sym c.requires.plan) (are_shards c.args.header.now c.args.ports.now.log.logs.items c.args.ports.now.shards.nodes.items c.requires.ledger)
 
 pub returns-clause-step : goal.returns-clause-step
-returns-clause-step g c = is_step g.D.Disk.count g.D.Disk.limit g.D.Disk.content g.D.Disk.images c.args.header.now c.args.lane c.home-ports.result c.go-came.new.ports.log.at
+returns-clause-step g c = is_step g.D.Disk.content g.D.Disk.images c.args.header.now c.args.lane c.home-ports.result c.go-came.new.ports.log.at
     c.args.ports.now.log.logs.items c.args.ports.now.shards.nodes.items c.go-came.new.ports.log.logs.items c.go-came.new.ports.shards.nodes.items
     c.requires.ledger c.requires.lane c.home-ports.ensures.place c.go-came.ensures.keeps_log.at_same c.args.unfinished.now.batch.lane (told_lane (sight_at sight c.args.ports.now.log.logs.items (home_of c.args.header.now.shape c.args.lane)).seen c.args.lane c.args.unfinished.now c.requires.told) c.go-came.ensures.keeps_log.count_same c.go-came.ensures.keeps_shards.count_same c.go-came.ensures.keeps_log.elsewhere c.go-came.ensures.keeps_log.nodes c.go-came.ensures.keeps_shards.nodes
     (others_keep (sight_at sight c.args.ports.now.log.logs.items c.home-ports.result).header c.args.unfinished.now (λ l. (slot (sight_at sight c.args.ports.now.log.logs.items c.home-ports.result).seen l).phase) (λ l. (slot (sight_at sight c.go-came.new.ports.log.logs.items c.go-came.new.ports.log.at).seen l).phase) (λ l. txs_of (sight_at sight c.args.ports.now.log.logs.items c.home-ports.result).seen (open_batch (sight_at sight c.args.ports.now.log.logs.items c.home-ports.result).seen l)) (λ l. txs_of (sight_at sight c.go-came.new.ports.log.logs.items c.go-came.new.ports.log.at).seen (open_batch (sight_at sight c.go-came.new.ports.log.logs.items c.go-came.new.ports.log.at).seen l))
     (subst (λ os. KeepsUnlisted (sight_at sight c.args.ports.now.log.logs.items c.home-ports.result).header os (λ l. (slot (sight_at sight c.args.ports.now.log.logs.items c.home-ports.result).seen l).phase) (λ l. (slot (sight_at sight c.go-came.new.ports.log.logs.items c.go-came.new.ports.log.at).seen l).phase) (λ l. txs_of (sight_at sight c.args.ports.now.log.logs.items c.home-ports.result).seen (open_batch (sight_at sight c.args.ports.now.log.logs.items c.home-ports.result).seen l)) (λ l. txs_of (sight_at sight c.go-came.new.ports.log.logs.items c.go-came.new.ports.log.at).seen (open_batch (sight_at sight c.go-came.new.ports.log.logs.items c.go-came.new.ports.log.at).seen l))) (ap (λ (p : PlanOf). p.lanes) c.requires.plan) (c.go-came.ensures.others refl))) c.go-came.ensures.keeps_log.held c.go-came.ensures.keeps_shards.held c.go-came.ensures.keeps_log.later c.go-came.ensures.keeps_shards.later
     (subst (All (λ l. IsJournal l.header l.journal)) c.as_slice.ensures.value c.see_logs.ensures.journals) (subst (All (λ s. IsJournal s.header s.journal)) c.as_slice-2.ensures.value c.see_shards.ensures.journals)
-    (subst (All IsLogNext) c.as_slice.ensures.value c.see_logs.ensures.next) (subst (All IsShardNext) c.as_slice-2.ensures.value c.see_shards.ensures.next)
+    (subst (All FliesNext) c.as_slice.ensures.value c.see_logs.ensures.next) (subst (All FliesNext) c.as_slice-2.ensures.value c.see_shards.ensures.next)
 
 -- it was taken up, as a list of one
 pub returns-clause-taken : goal.returns-clause-taken
-returns-clause-taken g c = at_home (λ x y. OnOk c.one_of.result (IsUnfinished c.args.unfinished.now.phase c.args.header.now.shape c.args.unfinished.now x (λ n. sight_at (sight_of g.D.Disk.count g.D.Disk.limit) c.args.ports.now.shards.nodes.items n) → IsTakenUp c.args.header.now.shape true c.args.unfinished.now.batch x (λ n. sight_at (sight_of g.D.Disk.count g.D.Disk.limit) c.args.ports.now.shards.nodes.items n) y (λ n. sight_at (sight_of g.D.Disk.count g.D.Disk.limit) c.go-came.new.ports.shards.nodes.items n)))
+returns-clause-taken g c = at_home (λ x y. OnOk c.one_of.result (IsUnfinished c.args.unfinished.now.phase c.args.header.now.shape c.args.unfinished.now x (λ n. sight_at sight c.args.ports.now.shards.nodes.items n) → IsTakenUp c.args.header.now.shape true c.args.unfinished.now.batch x (λ n. sight_at sight c.args.ports.now.shards.nodes.items n) y (λ n. sight_at sight c.go-came.new.ports.shards.nodes.items n)))
     (λ n. sight_at sight c.args.ports.now.log.logs.items n) (λ n. sight_at sight c.go-came.new.ports.log.logs.items n) c.home-ports.result c.go-came.new.ports.log.at (home_of c.args.header.now.shape c.args.lane) c.home-ports.ensures.place c.go-came.ensures.keeps_log.at_same
-    (given_ok c.one_of.result (IsOneTaken c.args.header.now.shape true c.args.unfinished.now (sight_at sight c.args.ports.now.log.logs.items c.home-ports.result) (λ n. sight_at (sight_of g.D.Disk.count g.D.Disk.limit) c.args.ports.now.shards.nodes.items n) (sight_at sight c.go-came.new.ports.log.logs.items c.go-came.new.ports.log.at) (λ n. sight_at (sight_of g.D.Disk.count g.D.Disk.limit) c.go-came.new.ports.shards.nodes.items n)) (IsUnfinished c.args.unfinished.now.phase c.args.header.now.shape c.args.unfinished.now (sight_at sight c.args.ports.now.log.logs.items c.home-ports.result) (λ n. sight_at (sight_of g.D.Disk.count g.D.Disk.limit) c.args.ports.now.shards.nodes.items n))
-    (IsTakenUp c.args.header.now.shape true c.args.unfinished.now.batch (sight_at sight c.args.ports.now.log.logs.items c.home-ports.result) (λ n. sight_at (sight_of g.D.Disk.count g.D.Disk.limit) c.args.ports.now.shards.nodes.items n) (sight_at sight c.go-came.new.ports.log.logs.items c.go-came.new.ports.log.at) (λ n. sight_at (sight_of g.D.Disk.count g.D.Disk.limit) c.go-came.new.ports.shards.nodes.items n))
-    (one_taken c.args.header.now.shape true c.args.unfinished.now (sight_at sight c.args.ports.now.log.logs.items c.home-ports.result) (sight_at sight c.go-came.new.ports.log.logs.items c.go-came.new.ports.log.at) (λ n. sight_at (sight_of g.D.Disk.count g.D.Disk.limit) c.args.ports.now.shards.nodes.items n) (λ n. sight_at (sight_of g.D.Disk.count g.D.Disk.limit) c.go-came.new.ports.shards.nodes.items n) c.go-came.result c.one_of.result c.one_of.ensures
-    (subst (λ (p : PlanOf). IfOk c.go-came.result (λ r. AreTakenUp p.shape true p.lanes r.batches (sight_at sight c.args.ports.now.log.logs.items c.home-ports.result) (λ n. sight_at (sight_of g.D.Disk.count g.D.Disk.limit) c.args.ports.now.shards.nodes.items n) (sight_at sight c.go-came.new.ports.log.logs.items c.go-came.new.ports.log.at) (λ n. sight_at (sight_of g.D.Disk.count g.D.Disk.limit) c.go-came.new.ports.shards.nodes.items n))) c.requires.plan c.go-came.ensures.taken)) (λ r is. is.taken))
+    (given_ok c.one_of.result (IsOneTaken c.args.header.now.shape true c.args.unfinished.now (sight_at sight c.args.ports.now.log.logs.items c.home-ports.result) (λ n. sight_at sight c.args.ports.now.shards.nodes.items n) (sight_at sight c.go-came.new.ports.log.logs.items c.go-came.new.ports.log.at) (λ n. sight_at sight c.go-came.new.ports.shards.nodes.items n)) (IsUnfinished c.args.unfinished.now.phase c.args.header.now.shape c.args.unfinished.now (sight_at sight c.args.ports.now.log.logs.items c.home-ports.result) (λ n. sight_at sight c.args.ports.now.shards.nodes.items n))
+    (IsTakenUp c.args.header.now.shape true c.args.unfinished.now.batch (sight_at sight c.args.ports.now.log.logs.items c.home-ports.result) (λ n. sight_at sight c.args.ports.now.shards.nodes.items n) (sight_at sight c.go-came.new.ports.log.logs.items c.go-came.new.ports.log.at) (λ n. sight_at sight c.go-came.new.ports.shards.nodes.items n))
+    (one_taken c.args.header.now.shape true c.args.unfinished.now (sight_at sight c.args.ports.now.log.logs.items c.home-ports.result) (sight_at sight c.go-came.new.ports.log.logs.items c.go-came.new.ports.log.at) (λ n. sight_at sight c.args.ports.now.shards.nodes.items n) (λ n. sight_at sight c.go-came.new.ports.shards.nodes.items n) c.go-came.result c.one_of.result c.one_of.ensures
+    (subst (λ (p : PlanOf). IfOk c.go-came.result (λ r. AreTakenUp p.shape true p.lanes r.batches (sight_at sight c.args.ports.now.log.logs.items c.home-ports.result) (λ n. sight_at sight c.args.ports.now.shards.nodes.items n) (sight_at sight c.go-came.new.ports.log.logs.items c.go-came.new.ports.log.at) (λ n. sight_at sight c.go-came.new.ports.shards.nodes.items n))) c.requires.plan c.go-came.ensures.taken)) (λ r is. is.taken))
 
 pub returns-clause-resumed : goal.returns-clause-resumed
 returns-clause-resumed g c =
-    each_ok c.one_of.result (IsOneTaken c.args.header.now.shape true c.args.unfinished.now (sight_at sight c.args.ports.now.log.logs.items c.home-ports.result) (λ n. sight_at (sight_of g.D.Disk.count g.D.Disk.limit) c.args.ports.now.shards.nodes.items n) (sight_at sight c.go-came.new.ports.log.logs.items c.go-came.new.ports.log.at) (λ n. sight_at (sight_of g.D.Disk.count g.D.Disk.limit) c.go-came.new.ports.shards.nodes.items n)) (IsResumed c.args.unfinished.now)
-    (one_taken c.args.header.now.shape true c.args.unfinished.now (sight_at sight c.args.ports.now.log.logs.items c.home-ports.result) (sight_at sight c.go-came.new.ports.log.logs.items c.go-came.new.ports.log.at) (λ n. sight_at (sight_of g.D.Disk.count g.D.Disk.limit) c.args.ports.now.shards.nodes.items n) (λ n. sight_at (sight_of g.D.Disk.count g.D.Disk.limit) c.go-came.new.ports.shards.nodes.items n) c.go-came.result c.one_of.result c.one_of.ensures
-    (subst (λ (p : PlanOf). IfOk c.go-came.result (λ r. AreTakenUp p.shape true p.lanes r.batches (sight_at sight c.args.ports.now.log.logs.items c.home-ports.result) (λ n. sight_at (sight_of g.D.Disk.count g.D.Disk.limit) c.args.ports.now.shards.nodes.items n) (sight_at sight c.go-came.new.ports.log.logs.items c.go-came.new.ports.log.at) (λ n. sight_at (sight_of g.D.Disk.count g.D.Disk.limit) c.go-came.new.ports.shards.nodes.items n))) c.requires.plan c.go-came.ensures.taken)) (λ r is. is.resumed)
+    each_ok c.one_of.result (IsOneTaken c.args.header.now.shape true c.args.unfinished.now (sight_at sight c.args.ports.now.log.logs.items c.home-ports.result) (λ n. sight_at sight c.args.ports.now.shards.nodes.items n) (sight_at sight c.go-came.new.ports.log.logs.items c.go-came.new.ports.log.at) (λ n. sight_at sight c.go-came.new.ports.shards.nodes.items n)) (IsResumed c.args.unfinished.now)
+    (one_taken c.args.header.now.shape true c.args.unfinished.now (sight_at sight c.args.ports.now.log.logs.items c.home-ports.result) (sight_at sight c.go-came.new.ports.log.logs.items c.go-came.new.ports.log.at) (λ n. sight_at sight c.args.ports.now.shards.nodes.items n) (λ n. sight_at sight c.go-came.new.ports.shards.nodes.items n) c.go-came.result c.one_of.result c.one_of.ensures
+    (subst (λ (p : PlanOf). IfOk c.go-came.result (λ r. AreTakenUp p.shape true p.lanes r.batches (sight_at sight c.args.ports.now.log.logs.items c.home-ports.result) (λ n. sight_at sight c.args.ports.now.shards.nodes.items n) (sight_at sight c.go-came.new.ports.log.logs.items c.go-came.new.ports.log.at) (λ n. sight_at sight c.go-came.new.ports.shards.nodes.items n))) c.requires.plan c.go-came.ensures.taken)) (λ r is. is.resumed)
 
 pub returns-clause-outcomes : goal.returns-clause-outcomes
-returns-clause-outcomes g c = at_home (λ x y. IfOk c.one_of.result (λ r. IsUnfinished c.args.unfinished.now.phase c.args.header.now.shape c.args.unfinished.now x (λ n. sight_at (sight_of g.D.Disk.count g.D.Disk.limit) c.args.ports.now.shards.nodes.items n) → HasItsOutcomes c.args.unfinished.now.phase c.args.unfinished.now y.seen r))
+returns-clause-outcomes g c = at_home (λ x y. IfOk c.one_of.result (λ r. IsUnfinished c.args.unfinished.now.phase c.args.header.now.shape c.args.unfinished.now x (λ n. sight_at sight c.args.ports.now.shards.nodes.items n) → HasItsOutcomes c.args.unfinished.now.phase c.args.unfinished.now y.seen r))
     (λ n. sight_at sight c.args.ports.now.log.logs.items n) (λ n. sight_at sight c.go-came.new.ports.log.logs.items n) c.home-ports.result c.go-came.new.ports.log.at (home_of c.args.header.now.shape c.args.lane) c.home-ports.ensures.place c.go-came.ensures.keeps_log.at_same
-    (given_each c.one_of.result (IsOneTaken c.args.header.now.shape true c.args.unfinished.now (sight_at sight c.args.ports.now.log.logs.items c.home-ports.result) (λ n. sight_at (sight_of g.D.Disk.count g.D.Disk.limit) c.args.ports.now.shards.nodes.items n) (sight_at sight c.go-came.new.ports.log.logs.items c.go-came.new.ports.log.at) (λ n. sight_at (sight_of g.D.Disk.count g.D.Disk.limit) c.go-came.new.ports.shards.nodes.items n)) (λ r. HasItsOutcomes c.args.unfinished.now.phase c.args.unfinished.now (sight_at sight c.go-came.new.ports.log.logs.items c.go-came.new.ports.log.at).seen r) (IsUnfinished c.args.unfinished.now.phase c.args.header.now.shape c.args.unfinished.now (sight_at sight c.args.ports.now.log.logs.items c.home-ports.result) (λ n. sight_at (sight_of g.D.Disk.count g.D.Disk.limit) c.args.ports.now.shards.nodes.items n))
-    (one_taken c.args.header.now.shape true c.args.unfinished.now (sight_at sight c.args.ports.now.log.logs.items c.home-ports.result) (sight_at sight c.go-came.new.ports.log.logs.items c.go-came.new.ports.log.at) (λ n. sight_at (sight_of g.D.Disk.count g.D.Disk.limit) c.args.ports.now.shards.nodes.items n) (λ n. sight_at (sight_of g.D.Disk.count g.D.Disk.limit) c.go-came.new.ports.shards.nodes.items n) c.go-came.result c.one_of.result c.one_of.ensures
-    (subst (λ (p : PlanOf). IfOk c.go-came.result (λ r. AreTakenUp p.shape true p.lanes r.batches (sight_at sight c.args.ports.now.log.logs.items c.home-ports.result) (λ n. sight_at (sight_of g.D.Disk.count g.D.Disk.limit) c.args.ports.now.shards.nodes.items n) (sight_at sight c.go-came.new.ports.log.logs.items c.go-came.new.ports.log.at) (λ n. sight_at (sight_of g.D.Disk.count g.D.Disk.limit) c.go-came.new.ports.shards.nodes.items n))) c.requires.plan c.go-came.ensures.taken)) (λ r is. is.outcomes))
+    (given_each c.one_of.result (IsOneTaken c.args.header.now.shape true c.args.unfinished.now (sight_at sight c.args.ports.now.log.logs.items c.home-ports.result) (λ n. sight_at sight c.args.ports.now.shards.nodes.items n) (sight_at sight c.go-came.new.ports.log.logs.items c.go-came.new.ports.log.at) (λ n. sight_at sight c.go-came.new.ports.shards.nodes.items n)) (λ r. HasItsOutcomes c.args.unfinished.now.phase c.args.unfinished.now (sight_at sight c.go-came.new.ports.log.logs.items c.go-came.new.ports.log.at).seen r) (IsUnfinished c.args.unfinished.now.phase c.args.header.now.shape c.args.unfinished.now (sight_at sight c.args.ports.now.log.logs.items c.home-ports.result) (λ n. sight_at sight c.args.ports.now.shards.nodes.items n))
+    (one_taken c.args.header.now.shape true c.args.unfinished.now (sight_at sight c.args.ports.now.log.logs.items c.home-ports.result) (sight_at sight c.go-came.new.ports.log.logs.items c.go-came.new.ports.log.at) (λ n. sight_at sight c.args.ports.now.shards.nodes.items n) (λ n. sight_at sight c.go-came.new.ports.shards.nodes.items n) c.go-came.result c.one_of.result c.one_of.ensures
+    (subst (λ (p : PlanOf). IfOk c.go-came.result (λ r. AreTakenUp p.shape true p.lanes r.batches (sight_at sight c.args.ports.now.log.logs.items c.home-ports.result) (λ n. sight_at sight c.args.ports.now.shards.nodes.items n) (sight_at sight c.go-came.new.ports.log.logs.items c.go-came.new.ports.log.at) (λ n. sight_at sight c.go-came.new.ports.shards.nodes.items n))) c.requires.plan c.go-came.ensures.taken)) (λ r is. is.outcomes))
 
 pub returns-clause-left : goal.returns-clause-left
-returns-clause-left g c = at_home (λ x y. IfErr c.one_of.result (λ e. IsResumeStopped c.args.header.now.shape true c.args.unfinished.now x (λ n. sight_at (sight_of g.D.Disk.count g.D.Disk.limit) c.args.ports.now.shards.nodes.items n) y (λ n. sight_at (sight_of g.D.Disk.count g.D.Disk.limit) c.go-came.new.ports.shards.nodes.items n) e))
+returns-clause-left g c = at_home (λ x y. IfErr c.one_of.result (λ e. IsResumeStopped c.args.header.now.shape true c.args.unfinished.now x (λ n. sight_at sight c.args.ports.now.shards.nodes.items n) y (λ n. sight_at sight c.go-came.new.ports.shards.nodes.items n) e))
     (λ n. sight_at sight c.args.ports.now.log.logs.items n) (λ n. sight_at sight c.go-came.new.ports.log.logs.items n) c.home-ports.result c.go-came.new.ports.log.at (home_of c.args.header.now.shape c.args.lane) c.home-ports.ensures.place c.go-came.ensures.keeps_log.at_same
-    (one_left c.args.header.now.shape true c.args.unfinished.now (sight_at sight c.args.ports.now.log.logs.items c.home-ports.result) (sight_at sight c.go-came.new.ports.log.logs.items c.go-came.new.ports.log.at) (λ n. sight_at (sight_of g.D.Disk.count g.D.Disk.limit) c.args.ports.now.shards.nodes.items n) (λ n. sight_at (sight_of g.D.Disk.count g.D.Disk.limit) c.go-came.new.ports.shards.nodes.items n) c.go-came.result c.one_of.result c.one_of.ensures
-    (subst (λ (p : PlanOf). IfErr c.go-came.result (IsStoppedAmong p.shape true p.lanes (sight_at sight c.args.ports.now.log.logs.items c.home-ports.result) (λ n. sight_at (sight_of g.D.Disk.count g.D.Disk.limit) c.args.ports.now.shards.nodes.items n) (sight_at sight c.go-came.new.ports.log.logs.items c.go-came.new.ports.log.at) (λ n. sight_at (sight_of g.D.Disk.count g.D.Disk.limit) c.go-came.new.ports.shards.nodes.items n))) c.requires.plan c.go-came.ensures.left))
+    (one_left c.args.header.now.shape true c.args.unfinished.now (sight_at sight c.args.ports.now.log.logs.items c.home-ports.result) (sight_at sight c.go-came.new.ports.log.logs.items c.go-came.new.ports.log.at) (λ n. sight_at sight c.args.ports.now.shards.nodes.items n) (λ n. sight_at sight c.go-came.new.ports.shards.nodes.items n) c.go-came.result c.one_of.result c.one_of.ensures
+    (subst (λ (p : PlanOf). IfErr c.go-came.result (IsStoppedAmong p.shape true p.lanes (sight_at sight c.args.ports.now.log.logs.items c.home-ports.result) (λ n. sight_at sight c.args.ports.now.shards.nodes.items n) (sight_at sight c.go-came.new.ports.log.logs.items c.go-came.new.ports.log.at) (λ n. sight_at sight c.go-came.new.ports.shards.nodes.items n))) c.requires.plan c.go-came.ensures.left))
 
 pub returns-clause-idle : goal.returns-clause-idle
 returns-clause-idle g c = subst (λ L. OnOk c.one_of.result ((slot L c.args.lane).phase ≡ Idle))
-    (sym (seen_log c.args.header.now.shape (λ n. sight_at sight c.go-came.new.ports.log.logs.items n) (λ n. sight_at (sight_of g.D.Disk.count g.D.Disk.limit) c.go-came.new.ports.shards.nodes.items n) (home_of c.args.header.now.shape c.args.lane) (subst (λ n. n < c.args.header.now.shape.coordinators) c.home-ports.ensures.place c.home-ports.ensures.inside)))
+    (sym (seen_log c.args.header.now.shape (λ n. sight_at sight c.go-came.new.ports.log.logs.items n) (λ n. sight_at sight c.go-came.new.ports.shards.nodes.items n) (home_of c.args.header.now.shape c.args.lane) (subst (λ n. n < c.args.header.now.shape.coordinators) c.home-ports.ensures.place c.home-ports.ensures.inside)))
     (at_home (λ x y. OnOk c.one_of.result ((slot y.seen c.args.lane).phase ≡ Idle))
     (λ n. sight_at sight c.args.ports.now.log.logs.items n) (λ n. sight_at sight c.go-came.new.ports.log.logs.items n) c.home-ports.result c.go-came.new.ports.log.at (home_of c.args.header.now.shape c.args.lane) c.home-ports.ensures.place c.go-came.ensures.keeps_log.at_same
     (subst (λ l. OnOk c.one_of.result ((slot (sight_at sight c.go-came.new.ports.log.logs.items c.go-came.new.ports.log.at).seen l).phase ≡ Idle))
@@ -83,10 +82,10 @@ returns-clause-idle g c = subst (λ L. OnOk c.one_of.result ((slot L c.args.lane
 
 pub go-came-requires-clause-stand : goal.go-came-requires-clause-stand
 go-came-requires-clause-stand g c =
-    subst (λ (p : PlanOf). AreUnfinished p.shape p.lanes (sight_at sight c.args.ports.now.log.logs.items c.home-ports.result) (λ n. sight_at (sight_of g.D.Disk.count g.D.Disk.limit) c.args.ports.now.shards.nodes.items n)) (sym c.requires.plan)
-    (All-cons (λ x. IsUnfinished x.phase c.args.header.now.shape x (sight_at sight c.args.ports.now.log.logs.items c.home-ports.result) (λ n. sight_at (sight_of g.D.Disk.count g.D.Disk.limit) c.args.ports.now.shards.nodes.items n)) c.args.unfinished.now []
-    (is_unfinished g.D.Disk.count g.D.Disk.limit g.D.Disk.content g.D.Disk.images c.args.header.now c.args.lane c.args.ports.now.log.logs.items c.args.ports.now.shards.nodes.items c.requires.ledger c.requires.lane c.args.unfinished.now c.requires.told c.requires.checked c.home-ports.result c.home-ports.ensures.place)
-    (All-nil (λ x. IsUnfinished x.phase c.args.header.now.shape x (sight_at sight c.args.ports.now.log.logs.items c.home-ports.result) (λ n. sight_at (sight_of g.D.Disk.count g.D.Disk.limit) c.args.ports.now.shards.nodes.items n))))
+    subst (λ (p : PlanOf). AreUnfinished p.shape p.lanes (sight_at sight c.args.ports.now.log.logs.items c.home-ports.result) (λ n. sight_at sight c.args.ports.now.shards.nodes.items n)) (sym c.requires.plan)
+    (All-cons (λ x. IsUnfinished x.phase c.args.header.now.shape x (sight_at sight c.args.ports.now.log.logs.items c.home-ports.result) (λ n. sight_at sight c.args.ports.now.shards.nodes.items n)) c.args.unfinished.now []
+    (is_unfinished g.D.Disk.content g.D.Disk.images c.args.header.now c.args.lane c.args.ports.now.log.logs.items c.args.ports.now.shards.nodes.items c.requires.ledger c.requires.lane c.args.unfinished.now c.requires.told c.requires.checked c.home-ports.result c.home-ports.ensures.place)
+    (All-nil (λ x. IsUnfinished x.phase c.args.header.now.shape x (sight_at sight c.args.ports.now.log.logs.items c.home-ports.result) (λ n. sight_at sight c.args.ports.now.shards.nodes.items n))))
 
 pub go-came-requires-clause-alone : goal.go-came-requires-clause-alone
 go-came-requires-clause-alone g c more = absurd (omega (arith, more, ap (λ (p : PlanOf). length p.lanes) c.requires.plan))

@@ -13,13 +13,13 @@ abbrev pub invariant-files : goal.invariant-files
 invariant-files g l =
     let K = l.fn.ledger.header.shape in
     record {
-      keeps_ledger : KeepsLedgerOf g.D.Disk.count g.D.Disk.limit g.D.Disk.content g.D.Disk.images l.fn.ledger l.ledger;
-      so : FilesSo K (g.V.Verifier.verdict_of l.fn.verifier) (take l.txs-index l.files) (journals g.D.Disk.count g.D.Disk.limit l.fn.ledger) (journals g.D.Disk.count g.D.Disk.limit l.ledger);
-      told : OfKept K (journals g.D.Disk.count g.D.Disk.limit l.fn.ledger) (λ _ _. TellFiles K (g.V.Verifier.verdict_of l.fn.verifier) (take l.txs-index l.files) (journals g.D.Disk.count g.D.Disk.limit l.fn.ledger) (journals g.D.Disk.count g.D.Disk.limit l.ledger) l.waves.items);
+      keeps_ledger : KeepsLedgerOf g.D.Disk.content g.D.Disk.images l.fn.ledger l.ledger;
+      so : FilesSo K (g.V.Verifier.verdict_of l.fn.verifier) (take l.txs-index l.files) (journals l.fn.ledger) (journals l.ledger);
+      told : OfKept K (journals l.fn.ledger) (λ _ _. TellFiles K (g.V.Verifier.verdict_of l.fn.verifier) (take l.txs-index l.files) (journals l.fn.ledger) (journals l.ledger) l.waves.items);
       quiet : IsQuiet l.fn.ledger → IsQuiet l.ledger;
-      checked : IsChecked g.D.Disk.count g.D.Disk.limit l.ledger;
-      flies : FlyFiles K (take l.txs-index l.files) (journals g.D.Disk.count g.D.Disk.limit l.fn.ledger) (journals g.D.Disk.count g.D.Disk.limit l.ledger) (flights g.D.Disk.count g.D.Disk.limit l.fn.ledger) (flights g.D.Disk.count g.D.Disk.limit l.ledger);
-      launches : Launches K (IsFilesPiece K (g.V.Verifier.verdict_of l.fn.verifier) l.files (journals g.D.Disk.count g.D.Disk.limit l.fn.ledger) (journals g.D.Disk.count g.D.Disk.limit l.ledger)) (journals g.D.Disk.count g.D.Disk.limit l.fn.ledger) (journals g.D.Disk.count g.D.Disk.limit l.ledger) (flights g.D.Disk.count g.D.Disk.limit l.fn.ledger) (flights g.D.Disk.count g.D.Disk.limit l.ledger);
-      grows : (n : ℕ) → IsEnd (journals g.D.Disk.count g.D.Disk.limit l.fn.ledger n) (journals g.D.Disk.count g.D.Disk.limit l.ledger n);
-      prepared : HavePreparedFiles K (g.V.Verifier.verdict_of l.fn.verifier) (take l.txs-index l.files) (journals g.D.Disk.count g.D.Disk.limit l.fn.ledger) (journals g.D.Disk.count g.D.Disk.limit l.ledger);
+      checked : IsChecked l.ledger;
+      flies : FlyFiles K (take l.txs-index l.files) (journals l.fn.ledger) (journals l.ledger) (flights l.fn.ledger) (flights l.ledger);
+      launches : Launches K (IsFilesPiece K (g.V.Verifier.verdict_of l.fn.verifier) l.files (journals l.fn.ledger) (journals l.ledger)) (journals l.fn.ledger) (journals l.ledger) (flights l.fn.ledger) (flights l.ledger);
+      grows : (n : ℕ) → IsEnd (journals l.fn.ledger n) (journals l.ledger n);
+      prepared : HavePreparedFiles K (g.V.Verifier.verdict_of l.fn.verifier) (take l.txs-index l.files) (journals l.fn.ledger) (journals l.ledger);
     }

@@ -34,18 +34,18 @@ pub returns-in_default : goal.returns-in_default
 returns-in_default g c = record {
   keeps_ledger = ledger_same c.args.ledger;
   idle = search rules;
-  keeps = stays_more c.args.ledger.header.shape (journals g.D.Disk.count g.D.Disk.limit c.args.ledger) g.F.Deals.file;
+  keeps = stays_more c.args.ledger.header.shape (journals c.args.ledger) g.F.Deals.file;
   runs = search rules;
   quiet = search rules;
   checked = search rules;
   told = search rules;
-  flies = flies_none c.args.ledger.header.shape g.F.Deals.file (journals g.D.Disk.count g.D.Disk.limit c.args.ledger) (flights g.D.Disk.count g.D.Disk.limit c.args.ledger);
-  launches = launches_begin c.args.ledger.header.shape (IsSentPiece c.args.ledger.header.shape g.F.Deals.verdicts g.F.Deals.file (journals g.D.Disk.count g.D.Disk.limit c.args.ledger) (journals g.D.Disk.count g.D.Disk.limit c.args.ledger))
-      (journals g.D.Disk.count g.D.Disk.limit c.args.ledger) (flights g.D.Disk.count g.D.Disk.limit c.args.ledger);
+  flies = flies_none c.args.ledger.header.shape g.F.Deals.file (journals c.args.ledger) (flights c.args.ledger);
+  launches = launches_begin c.args.ledger.header.shape (IsSentPiece c.args.ledger.header.shape g.F.Deals.verdicts g.F.Deals.file (journals c.args.ledger) (journals c.args.ledger))
+      (journals c.args.ledger) (flights c.args.ledger);
   still = search rules;
   grows = search rules;
   prepared = search rules;
-  begun = file_unbegun c.args.ledger.header.shape g.F.Deals.verdicts g.F.Deals.file (journals g.D.Disk.count g.D.Disk.limit c.args.ledger);
+  begun = file_unbegun c.args.ledger.header.shape g.F.Deals.verdicts g.F.Deals.file (journals c.args.ledger);
   fault = search rules;
   rests = λ lane inside. inl (inl (c.requires.idle lane inside));
   least = inl (ap (λ e. e.fault) c.no_memory.ensures, λ n. refl);
@@ -55,18 +55,18 @@ pub returns-in_default-wave_room : goal.returns-in_default-wave_room
 returns-in_default-wave_room g c = record {
   keeps_ledger = ledger_same c.args.ledger;
   idle = search rules;
-  keeps = stays_more c.args.ledger.header.shape (journals g.D.Disk.count g.D.Disk.limit c.args.ledger) g.F.Deals.file;
+  keeps = stays_more c.args.ledger.header.shape (journals c.args.ledger) g.F.Deals.file;
   runs = search rules;
   quiet = search rules;
   checked = search rules;
   told = search rules;
-  flies = flies_none c.args.ledger.header.shape g.F.Deals.file (journals g.D.Disk.count g.D.Disk.limit c.args.ledger) (flights g.D.Disk.count g.D.Disk.limit c.args.ledger);
-  launches = launches_begin c.args.ledger.header.shape (IsSentPiece c.args.ledger.header.shape g.F.Deals.verdicts g.F.Deals.file (journals g.D.Disk.count g.D.Disk.limit c.args.ledger) (journals g.D.Disk.count g.D.Disk.limit c.args.ledger))
-      (journals g.D.Disk.count g.D.Disk.limit c.args.ledger) (flights g.D.Disk.count g.D.Disk.limit c.args.ledger);
+  flies = flies_none c.args.ledger.header.shape g.F.Deals.file (journals c.args.ledger) (flights c.args.ledger);
+  launches = launches_begin c.args.ledger.header.shape (IsSentPiece c.args.ledger.header.shape g.F.Deals.verdicts g.F.Deals.file (journals c.args.ledger) (journals c.args.ledger))
+      (journals c.args.ledger) (flights c.args.ledger);
   still = search rules;
   grows = search rules;
   prepared = search rules;
-  begun = file_unbegun c.args.ledger.header.shape g.F.Deals.verdicts g.F.Deals.file (journals g.D.Disk.count g.D.Disk.limit c.args.ledger);
+  begun = file_unbegun c.args.ledger.header.shape g.F.Deals.verdicts g.F.Deals.file (journals c.args.ledger);
   fault = search rules;
   rests = λ lane inside. inl (inl (c.requires.idle lane inside));
   least = inl (ap (λ e. e.fault) c.no_memory-in_default-wave_room.ensures, λ n. refl);
@@ -79,39 +79,39 @@ returns-in-Some g c =
       keeps_ledger = c.run_fed-ledger.ensures.keeps_ledger;
       idle = search rules;
       keeps = keeps_file c.args.ledger.header.shape g.F.Deals.verdicts g.F.Deals.file c.in-Ok.works.items
-          (journals g.D.Disk.count g.D.Disk.limit c.args.ledger) (journals g.D.Disk.count g.D.Disk.limit c.run_fed-ledger.result.ledger) are c.run_fed-ledger.ensures.says.keeps;
+          (journals c.args.ledger) (journals c.run_fed-ledger.result.ledger) are c.run_fed-ledger.ensures.says.keeps;
       runs = search rules;
       quiet = search rules;
       checked = search rules;
       told = search rules;
       flies = flies_file c.args.ledger.header.shape g.F.Deals.verdicts g.F.Deals.file c.in-Ok.works.items
-          (journals g.D.Disk.count g.D.Disk.limit c.args.ledger) (journals g.D.Disk.count g.D.Disk.limit c.run_fed-ledger.result.ledger) (flights g.D.Disk.count g.D.Disk.limit c.args.ledger) (flights g.D.Disk.count g.D.Disk.limit c.run_fed-ledger.result.ledger)
+          (journals c.args.ledger) (journals c.run_fed-ledger.result.ledger) (flights c.args.ledger) (flights c.run_fed-ledger.result.ledger)
           are c.run_fed-ledger.ensures.says.flies;
       launches = let K = c.args.ledger.header.shape in
           let verdicts = g.F.Deals.verdicts in
-          file_launches K verdicts g.F.Deals.file c.in-Ok.works.items c.run_fed-ledger.result.works.items (journals g.D.Disk.count g.D.Disk.limit c.args.ledger) (journals g.D.Disk.count g.D.Disk.limit c.run_fed-ledger.result.ledger)
-          (flights g.D.Disk.count g.D.Disk.limit c.args.ledger) (flights g.D.Disk.count g.D.Disk.limit c.run_fed-ledger.result.ledger) (c.run_fed-ledger.ensures.says.count ∙ are.count) are c.run_fed-ledger.ensures.says.sent (c.run_fed-ledger.ensures.says.launches c.requires.checked.0 c.requires.checked.1);
+          file_launches K verdicts g.F.Deals.file c.in-Ok.works.items c.run_fed-ledger.result.works.items (journals c.args.ledger) (journals c.run_fed-ledger.result.ledger)
+          (flights c.args.ledger) (flights c.run_fed-ledger.result.ledger) (c.run_fed-ledger.ensures.says.count ∙ are.count) are c.run_fed-ledger.ensures.says.sent (c.run_fed-ledger.ensures.says.launches c.requires.checked.0 c.requires.checked.1);
       still = c.run_fed-ledger.ensures.checked c.requires.checked;
       grows = search rules;
       prepared = search rules;
       begun = λ some. let K = c.args.ledger.header.shape in
           let verdicts = g.F.Deals.verdicts in
-          file_begun K verdicts g.F.Deals.file c.in-Ok.works.items c.run_fed-ledger.result.works.items (journals g.D.Disk.count g.D.Disk.limit c.args.ledger) (journals g.D.Disk.count g.D.Disk.limit c.run_fed-ledger.result.ledger)
+          file_begun K verdicts g.F.Deals.file c.in-Ok.works.items c.run_fed-ledger.result.works.items (journals c.args.ledger) (journals c.run_fed-ledger.result.ledger)
           (c.run_fed-ledger.ensures.says.count ∙ are.count) are c.run_fed-ledger.ensures.says.sent c.run_fed-ledger.ensures.says.begun;
       fault = let K = c.args.ledger.header.shape in
           let verdicts = g.F.Deals.verdicts in
           let first = subst (λ ls. FirstFaultIs ls (Some c.in-Some.fault)) c.deref.ensures.value (subst (λ o. FirstFaultIs c.deref.result.now o) c.in-Some.is c.first_fault.ensures) in
-          file_cause K verdicts g.F.Deals.file c.in-Ok.works.items c.run_fed-ledger.result.works.items (journals g.D.Disk.count g.D.Disk.limit c.args.ledger) (journals g.D.Disk.count g.D.Disk.limit c.run_fed-ledger.result.ledger)
-          (HaveFailed (opened g.D.Disk.count g.D.Disk.limit c.run_fed-ledger.result.ledger) (faults g.D.Disk.count g.D.Disk.limit c.run_fed-ledger.result.ledger)) (MayHold (capacity g.D.Disk.count g.D.Disk.limit c.run_fed-ledger.result.ledger))
+          file_cause K verdicts g.F.Deals.file c.in-Ok.works.items c.run_fed-ledger.result.works.items (journals c.args.ledger) (journals c.run_fed-ledger.result.ledger)
+          (HaveFailed (opened c.run_fed-ledger.result.ledger) (faults c.run_fed-ledger.result.ledger)) (MayHold (capacity c.run_fed-ledger.result.ledger))
           (c.run_fed-ledger.ensures.says.count ∙ are.count) are c.run_fed-ledger.ensures.says.sent (c.run_fed-ledger.ensures.says.causes c.requires.checked.0 c.requires.checked.1 are.fresh) c.in-Some.fault first;
-      rests = wave_rests c.args.ledger.header.shape c.run_fed-ledger.result.works.items (journals g.D.Disk.count g.D.Disk.limit c.args.ledger) (journals g.D.Disk.count g.D.Disk.limit c.run_fed-ledger.result.ledger)
-          (HaveFailed (opened g.D.Disk.count g.D.Disk.limit c.run_fed-ledger.result.ledger) (faults g.D.Disk.count g.D.Disk.limit c.run_fed-ledger.result.ledger)) (MayHold (capacity g.D.Disk.count g.D.Disk.limit c.run_fed-ledger.result.ledger))
+      rests = wave_rests c.args.ledger.header.shape c.run_fed-ledger.result.works.items (journals c.args.ledger) (journals c.run_fed-ledger.result.ledger)
+          (HaveFailed (opened c.run_fed-ledger.result.ledger) (faults c.run_fed-ledger.result.ledger)) (MayHold (capacity c.run_fed-ledger.result.ledger))
           (c.run_fed-ledger.ensures.says.count ∙ are.count) (c.run_fed-ledger.ensures.says.causes c.requires.checked.0 c.requires.checked.1 are.fresh) c.run_fed-ledger.ensures.says.theirs;
       least = let K = c.args.ledger.header.shape in
           let verdicts = g.F.Deals.verdicts in
           let first = subst (λ ls. FirstFaultIs ls (Some c.in-Some.fault)) c.deref.ensures.value (subst (λ o. FirstFaultIs c.deref.result.now o) c.in-Some.is c.first_fault.ensures) in
-          file_ends K verdicts g.F.Deals.file c.in-Ok.works.items c.run_fed-ledger.result.works.items (journals g.D.Disk.count g.D.Disk.limit c.args.ledger) (journals g.D.Disk.count g.D.Disk.limit c.run_fed-ledger.result.ledger)
-          (HaveFailed (opened g.D.Disk.count g.D.Disk.limit c.run_fed-ledger.result.ledger) (faults g.D.Disk.count g.D.Disk.limit c.run_fed-ledger.result.ledger)) (MayHold (capacity g.D.Disk.count g.D.Disk.limit c.run_fed-ledger.result.ledger))
+          file_ends K verdicts g.F.Deals.file c.in-Ok.works.items c.run_fed-ledger.result.works.items (journals c.args.ledger) (journals c.run_fed-ledger.result.ledger)
+          (HaveFailed (opened c.run_fed-ledger.result.ledger) (faults c.run_fed-ledger.result.ledger)) (MayHold (capacity c.run_fed-ledger.result.ledger))
           (c.run_fed-ledger.ensures.says.count ∙ are.count) are c.run_fed-ledger.ensures.says.sent (c.run_fed-ledger.ensures.says.causes c.requires.checked.0 c.requires.checked.1 are.fresh) c.run_fed-ledger.ensures.says.theirs c.in-Some.fault first;
     }
 
@@ -123,18 +123,18 @@ returns-in-None g c =
       idle = let none = subst (λ o. FirstFaultIs c.deref.result.now o) c.in-None.is c.first_fault.ensures in
           c.run_fed-ledger.ensures.says.idle (subst (λ ls. NoFault ls) c.deref.ensures.value none);
       keeps = keeps_file c.args.ledger.header.shape g.F.Deals.verdicts g.F.Deals.file c.in-Ok.works.items
-          (journals g.D.Disk.count g.D.Disk.limit c.args.ledger) (journals g.D.Disk.count g.D.Disk.limit c.run_fed-ledger.result.ledger) are c.run_fed-ledger.ensures.says.keeps;
+          (journals c.args.ledger) (journals c.run_fed-ledger.result.ledger) are c.run_fed-ledger.ensures.says.keeps;
       runs = let K = c.args.ledger.header.shape in
           let none = subst (λ o. FirstFaultIs c.deref.result.now o) c.in-None.is c.first_fault.ensures in
           runs_file K g.F.Deals.verdicts g.F.Deals.file c.in-Ok.works.items c.run_fed-ledger.result.works.items
-          (journals g.D.Disk.count g.D.Disk.limit c.args.ledger) (journals g.D.Disk.count g.D.Disk.limit c.run_fed-ledger.result.ledger) are (subst (λ ls. NoFault ls) c.deref.ensures.value none) c.run_fed-ledger.ensures.says.runs;
+          (journals c.args.ledger) (journals c.run_fed-ledger.result.ledger) are (subst (λ ls. NoFault ls) c.deref.ensures.value none) c.run_fed-ledger.ensures.says.runs;
       quiet = let none = subst (λ o. FirstFaultIs c.deref.result.now o) c.in-None.is c.first_fault.ensures in
           c.run_fed-ledger.ensures.quiet (subst (λ ls. NoFault ls) c.deref.ensures.value none);
       checked = subst (λ k. AreChecked k g.F.Deals.verdicts g.F.Deals.file c.wave_of.result.checked.items) c.requires.shape c.wave_of.ensures.checked;
       told = λ mint submissions kept. let K = c.args.ledger.header.shape in
           let verdicts = g.F.Deals.verdicts in
-          let I = journals g.D.Disk.count g.D.Disk.limit c.args.ledger in
-          let J = journals g.D.Disk.count g.D.Disk.limit c.run_fed-ledger.result.ledger in
+          let I = journals c.args.ledger in
+          let J = journals c.run_fed-ledger.result.ledger in
           let none = subst (λ ls. NoFault ls) c.deref.ensures.value (subst (λ o. FirstFaultIs c.deref.result.now o) c.in-None.is c.first_fault.ensures) in
           record {
             checked = subst (λ k. AreChecked k verdicts g.F.Deals.file c.wave_of.result.checked.items) c.requires.shape c.wave_of.ensures.checked;
@@ -145,26 +145,26 @@ returns-in-None g c =
                 are none c.run_fed-ledger.ensures.says.told mint submissions kept are.untold);
           };
       flies = flies_file c.args.ledger.header.shape g.F.Deals.verdicts g.F.Deals.file c.in-Ok.works.items
-          (journals g.D.Disk.count g.D.Disk.limit c.args.ledger) (journals g.D.Disk.count g.D.Disk.limit c.run_fed-ledger.result.ledger) (flights g.D.Disk.count g.D.Disk.limit c.args.ledger) (flights g.D.Disk.count g.D.Disk.limit c.run_fed-ledger.result.ledger)
+          (journals c.args.ledger) (journals c.run_fed-ledger.result.ledger) (flights c.args.ledger) (flights c.run_fed-ledger.result.ledger)
           are c.run_fed-ledger.ensures.says.flies;
       launches = let K = c.args.ledger.header.shape in
           let verdicts = g.F.Deals.verdicts in
-          file_launches K verdicts g.F.Deals.file c.in-Ok.works.items c.run_fed-ledger.result.works.items (journals g.D.Disk.count g.D.Disk.limit c.args.ledger) (journals g.D.Disk.count g.D.Disk.limit c.run_fed-ledger.result.ledger)
-          (flights g.D.Disk.count g.D.Disk.limit c.args.ledger) (flights g.D.Disk.count g.D.Disk.limit c.run_fed-ledger.result.ledger) (c.run_fed-ledger.ensures.says.count ∙ are.count) are c.run_fed-ledger.ensures.says.sent (c.run_fed-ledger.ensures.says.launches c.requires.checked.0 c.requires.checked.1);
+          file_launches K verdicts g.F.Deals.file c.in-Ok.works.items c.run_fed-ledger.result.works.items (journals c.args.ledger) (journals c.run_fed-ledger.result.ledger)
+          (flights c.args.ledger) (flights c.run_fed-ledger.result.ledger) (c.run_fed-ledger.ensures.says.count ∙ are.count) are c.run_fed-ledger.ensures.says.sent (c.run_fed-ledger.ensures.says.launches c.requires.checked.0 c.requires.checked.1);
       still = c.run_fed-ledger.ensures.checked c.requires.checked;
       grows = search rules;
       prepared = let K = c.args.ledger.header.shape in
           let verdicts = g.F.Deals.verdicts in
           let none = subst (λ ls. NoFault ls) c.deref.ensures.value (subst (λ o. FirstFaultIs c.deref.result.now o) c.in-None.is c.first_fault.ensures) in
-          file_done K verdicts g.F.Deals.file c.in-Ok.works.items c.run_fed-ledger.result.works.items (journals g.D.Disk.count g.D.Disk.limit c.args.ledger) (journals g.D.Disk.count g.D.Disk.limit c.run_fed-ledger.result.ledger)
+          file_done K verdicts g.F.Deals.file c.in-Ok.works.items c.run_fed-ledger.result.works.items (journals c.args.ledger) (journals c.run_fed-ledger.result.ledger)
           (c.run_fed-ledger.ensures.says.count ∙ are.count) are c.run_fed-ledger.ensures.says.sent (c.run_fed-ledger.ensures.says.prepared none);
       begun = λ some. let K = c.args.ledger.header.shape in
           let verdicts = g.F.Deals.verdicts in
-          file_begun K verdicts g.F.Deals.file c.in-Ok.works.items c.run_fed-ledger.result.works.items (journals g.D.Disk.count g.D.Disk.limit c.args.ledger) (journals g.D.Disk.count g.D.Disk.limit c.run_fed-ledger.result.ledger)
+          file_begun K verdicts g.F.Deals.file c.in-Ok.works.items c.run_fed-ledger.result.works.items (journals c.args.ledger) (journals c.run_fed-ledger.result.ledger)
           (c.run_fed-ledger.ensures.says.count ∙ are.count) are c.run_fed-ledger.ensures.says.sent c.run_fed-ledger.ensures.says.begun;
       fault = search rules;
-      rests = wave_rests c.args.ledger.header.shape c.run_fed-ledger.result.works.items (journals g.D.Disk.count g.D.Disk.limit c.args.ledger) (journals g.D.Disk.count g.D.Disk.limit c.run_fed-ledger.result.ledger)
-          (HaveFailed (opened g.D.Disk.count g.D.Disk.limit c.run_fed-ledger.result.ledger) (faults g.D.Disk.count g.D.Disk.limit c.run_fed-ledger.result.ledger)) (MayHold (capacity g.D.Disk.count g.D.Disk.limit c.run_fed-ledger.result.ledger))
+      rests = wave_rests c.args.ledger.header.shape c.run_fed-ledger.result.works.items (journals c.args.ledger) (journals c.run_fed-ledger.result.ledger)
+          (HaveFailed (opened c.run_fed-ledger.result.ledger) (faults c.run_fed-ledger.result.ledger)) (MayHold (capacity c.run_fed-ledger.result.ledger))
           (c.run_fed-ledger.ensures.says.count ∙ are.count) (c.run_fed-ledger.ensures.says.causes c.requires.checked.0 c.requires.checked.1 are.fresh) c.run_fed-ledger.ensures.says.theirs;
       least = search rules;
     }

@@ -34,12 +34,12 @@ returns-in-Err-clause-stopped g c =
     let node = c.len.result in
     let place : node ≡ length c.pop.new.self.items = omega (arith, c.len.ensures, c.pop.new.self.ok) in
     stops _ _
-    (λ n b. IsDone g.R.Disk.Disk.content g.R.Disk.Disk.images g.R.Disk.Disk.limit (first_record c.args.shape.now (minted_by c.args.genesis.now) n) b.disk (g.R.Rack.held c.blanks.rack n))
+    (λ n b. IsDone g.R.Disk.Disk (first_record c.args.shape.now (minted_by c.args.genesis.now) n) b.disk (g.R.Rack.held c.blanks.rack n))
     _ c.blanks.blanks.items c.pop.new.self.items c.args.blanks.items c.in-Some.blank node place c.in-Some.ensures.items c.blanks.invariant.done
     (λ k d above is. let other : k ≢ node = omega (arith, above) in
-    done_still g.R.Disk.Disk.content g.R.Disk.Disk.images g.R.Disk.Disk.limit g.R.Disk.Disk.count (first_record c.args.shape.now (minted_by c.args.genesis.now) k) d.disk (g.R.Rack.held c.blanks.rack k) (g.R.Rack.held c.close_all.new.rack k)
+    done_still g.R.Disk.Disk (first_record c.args.shape.now (minted_by c.args.genesis.now) k) d.disk (g.R.Rack.held c.blanks.rack k) (g.R.Rack.held c.close_all.new.rack k)
     (c.close_all.ensures.others_held k (inr (omega (arith, place, above))) ∙ c.write_at.ensures.others_held k other) is)
-    (stopped_still g.R.Disk.Disk.content g.R.Disk.Disk.images g.R.Disk.Disk.limit g.R.Disk.Disk.count node (first_record c.args.shape.now (minted_by c.args.genesis.now) node) c.in-Err.fault (g.R.Rack.count c.write_at.new.rack node) (g.R.Rack.count c.close_all.new.rack node)
+    (stopped_still g.R.Disk.Disk node (first_record c.args.shape.now (minted_by c.args.genesis.now) node) c.in-Err.fault (g.R.Rack.count c.write_at.new.rack node) (g.R.Rack.count c.close_all.new.rack node)
     c.in-Some.blank.disk (g.R.Rack.held c.write_at.new.rack node) (g.R.Rack.held c.close_all.new.rack node) (c.close_all.ensures.others_held node (inr (omega (arith, place)))) (c.close_all.ensures.later node) c.in-Err.ensures.stopped)
     c.close_all.ensures.closed
 
@@ -58,10 +58,10 @@ blanks-preserved g c =
           (λ k d ge lt may m le. let other : k ≢ node = omega (arith, place) in c.write_at.ensures.others_out k m other (may m le))
           (each_front P 0 c.pop.new.self.items c.in-Some.blank whole);
       done = closed_more
-          (λ n b. IsDone g.R.Disk.Disk.content g.R.Disk.Disk.images g.R.Disk.Disk.limit (first_record c.args.shape.now (minted_by c.args.genesis.now) n) b.disk (g.R.Rack.held c.blanks.rack n))
-          (λ n b. IsDone g.R.Disk.Disk.content g.R.Disk.Disk.images g.R.Disk.Disk.limit (first_record c.args.shape.now (minted_by c.args.genesis.now) n) b.disk (g.R.Rack.held c.write_at.new.rack n))
+          (λ n b. IsDone g.R.Disk.Disk (first_record c.args.shape.now (minted_by c.args.genesis.now) n) b.disk (g.R.Rack.held c.blanks.rack n))
+          (λ n b. IsDone g.R.Disk.Disk (first_record c.args.shape.now (minted_by c.args.genesis.now) n) b.disk (g.R.Rack.held c.write_at.new.rack n))
           0 c.blanks.blanks.items c.pop.new.self.items c.args.blanks.items c.in-Some.blank node (omega (arith, place)) c.in-Some.ensures.items
-          (λ k d other is. done_still g.R.Disk.Disk.content g.R.Disk.Disk.images g.R.Disk.Disk.limit g.R.Disk.Disk.count (first_record c.args.shape.now (minted_by c.args.genesis.now) k) d.disk (g.R.Rack.held c.blanks.rack k) (g.R.Rack.held c.write_at.new.rack k) (c.write_at.ensures.others_held k other) is)
+          (λ k d other is. done_still g.R.Disk.Disk (first_record c.args.shape.now (minted_by c.args.genesis.now) k) d.disk (g.R.Rack.held c.blanks.rack k) (g.R.Rack.held c.write_at.new.rack k) (c.write_at.ensures.others_held k other) is)
           c.in-Ok.ensures.done c.blanks.invariant.done;
       others_held = λ n ge. let other : n ≢ node = omega (arith, ge, place, older, c.blanks.invariant.fewer) in c.write_at.ensures.others_held n other ∙ c.blanks.invariant.others_held n ge;
       back = λ n ge lt. ⊎_elim

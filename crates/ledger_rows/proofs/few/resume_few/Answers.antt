@@ -26,46 +26,46 @@ pub end_on-requires-clause-come : goal.end_on-requires-clause-come
 end_on-requires-clause-come g c =
     let begun = c.in-Ok.ensures.begun in
     let r = begun.4 in
-    let idle : AreIdle c.in-Ok.begun.ledger.header.shape (journals g.R.Disk.Disk.count g.R.Disk.Disk.limit c.in-Ok.begun.ledger) =
-    subst (λ h. AreIdle h (journals g.R.Disk.Disk.count g.R.Disk.Disk.limit c.in-Ok.begun.ledger)) (sym r.keeps_ledger.shape_same) r.idle in
-    let has : HasCome g.R.Disk.Disk.content g.R.Disk.Disk.images g.R.Disk.Disk.limit g.R.Disk.Disk.count no_deed begun.0 (g.R.Rack.held c.begin_on.new.rack) (g.R.Rack.can_put c.begin_on.new.rack) (g.R.Rack.can_take c.begin_on.new.rack) c.in-Ok.begun.ledger c.in-Ok.begun.resumed.items (Ok tt) = record {
+    let idle : AreIdle c.in-Ok.begun.ledger.header.shape (journals c.in-Ok.begun.ledger) =
+    subst (λ h. AreIdle h (journals c.in-Ok.begun.ledger)) (sym r.keeps_ledger.shape_same) r.idle in
+    let has : HasCome g.R.Disk.Disk no_deed begun.0 (g.R.Rack.held c.begin_on.new.rack) (g.R.Rack.can_put c.begin_on.new.rack) (g.R.Rack.can_take c.begin_on.new.rack) c.in-Ok.begun.ledger c.in-Ok.begun.resumed.items (Ok tt) = record {
       begun = begun.3;
-      ran = worked_run g.R.Disk.Disk.count g.R.Disk.Disk.limit g.R.Disk.Disk.content g.R.Disk.Disk.images no_deed (entry_ledger begun.0) c.in-Ok.begun.ledger c.in-Ok.begun.ledger c.in-Ok.begun.resumed (Ok c.in-Ok.begun.resumed) (Ok tt) refl r
-          (nothing_worked g.R.Disk.Disk.count g.R.Disk.Disk.limit g.R.Disk.Disk.content g.R.Disk.Disk.images c.in-Ok.begun.ledger idle r.checked);
+      ran = worked_run g.R.Disk.Disk no_deed (entry_ledger begun.0) c.in-Ok.begun.ledger c.in-Ok.begun.ledger c.in-Ok.begun.resumed (Ok c.in-Ok.begun.resumed) (Ok tt) refl r
+          (nothing_worked g.R.Disk.Disk c.in-Ok.begun.ledger idle r.checked);
     } in
     (begun.0, has)
 
 pub returns-in-Err-clause-refused : goal.returns-in-Err-clause-refused
 returns-in-Err-clause-refused g c n is =
     ⊎_elim (λ turns. absurd (not_empty g.R.Disk.Disk.content g.R.Disk.Disk.images g.R.Disk.Disk.limit g.R.Disk.Disk.count (g.R.Rack.held c.args.rack.now) (g.R.Rack.held c.begin_on.new.rack) (g.R.Rack.count c.args.rack.now) (g.R.Rack.count c.begin_on.new.rack) NothingNext (EndsWork no_deed) (BeginsWork no_deed) [] n
-    (subst (λ a. WhyNoTurns g.R.Disk.Disk.content g.R.Disk.Disk.images g.R.Disk.Disk.limit g.R.Disk.Disk.count (g.R.Rack.held c.args.rack.now) (g.R.Rack.held c.begin_on.new.rack) (g.R.Rack.count c.args.rack.now) (g.R.Rack.count c.begin_on.new.rack) NothingNext (EndsWork no_deed) (BeginsWork no_deed) [] a) is turns))) (λ refused. refused) c.in-Err.ensures.stopped
+    (subst (λ a. WhyNoTurns g.R.Disk.Disk (g.R.Rack.held c.args.rack.now) (g.R.Rack.held c.begin_on.new.rack) (g.R.Rack.count c.args.rack.now) (g.R.Rack.count c.begin_on.new.rack) NothingNext (EndsWork no_deed) (BeginsWork no_deed) [] a) is turns))) (λ refused. refused) c.in-Err.ensures.stopped
 
 pub returns-clause-refused : goal.returns-clause-refused
 returns-clause-refused g c =
     let begun = c.in-Ok.ensures.begun in
     let r = begun.4 in
-    let idle : AreIdle c.in-Ok.begun.ledger.header.shape (journals g.R.Disk.Disk.count g.R.Disk.Disk.limit c.in-Ok.begun.ledger) =
-    subst (λ h. AreIdle h (journals g.R.Disk.Disk.count g.R.Disk.Disk.limit c.in-Ok.begun.ledger)) (sym r.keeps_ledger.shape_same) r.idle in
-    let has : HasCome g.R.Disk.Disk.content g.R.Disk.Disk.images g.R.Disk.Disk.limit g.R.Disk.Disk.count no_deed begun.0 (g.R.Rack.held c.begin_on.new.rack) (g.R.Rack.can_put c.begin_on.new.rack) (g.R.Rack.can_take c.begin_on.new.rack) c.in-Ok.begun.ledger c.in-Ok.begun.resumed.items (Ok tt) = record {
+    let idle : AreIdle c.in-Ok.begun.ledger.header.shape (journals c.in-Ok.begun.ledger) =
+    subst (λ h. AreIdle h (journals c.in-Ok.begun.ledger)) (sym r.keeps_ledger.shape_same) r.idle in
+    let has : HasCome g.R.Disk.Disk no_deed begun.0 (g.R.Rack.held c.begin_on.new.rack) (g.R.Rack.can_put c.begin_on.new.rack) (g.R.Rack.can_take c.begin_on.new.rack) c.in-Ok.begun.ledger c.in-Ok.begun.resumed.items (Ok tt) = record {
       begun = begun.3;
-      ran = worked_run g.R.Disk.Disk.count g.R.Disk.Disk.limit g.R.Disk.Disk.content g.R.Disk.Disk.images no_deed (entry_ledger begun.0) c.in-Ok.begun.ledger c.in-Ok.begun.ledger c.in-Ok.begun.resumed (Ok c.in-Ok.begun.resumed) (Ok tt) refl r
-          (nothing_worked g.R.Disk.Disk.count g.R.Disk.Disk.limit g.R.Disk.Disk.content g.R.Disk.Disk.images c.in-Ok.begun.ledger idle r.checked);
+      ran = worked_run g.R.Disk.Disk no_deed (entry_ledger begun.0) c.in-Ok.begun.ledger c.in-Ok.begun.ledger c.in-Ok.begun.resumed (Ok c.in-Ok.begun.resumed) (Ok tt) refl r
+          (nothing_worked g.R.Disk.Disk c.in-Ok.begun.ledger idle r.checked);
     } in
-    if_err_by (WhyNoTurns g.R.Disk.Disk.content g.R.Disk.Disk.images g.R.Disk.Disk.limit g.R.Disk.Disk.count begun.0.held (g.R.Rack.held c.end_on.new.rack) begun.0.before (g.R.Rack.count c.end_on.new.rack) NothingNext (EndsWork no_deed) (BeginsWork no_deed) [])
-    (λ a. (n : ℕ) → a ≡ answers.NotEmpty n → IsTestRefused g.R.Disk.Disk.content g.R.Disk.Disk.images g.R.Disk.Disk.limit (g.R.Rack.held c.args.rack.now) (g.R.Rack.held c.end_on.new.rack) (few_records c.args.most) a) c.end_on.result
+    if_err_by (WhyNoTurns g.R.Disk.Disk begun.0.held (g.R.Rack.held c.end_on.new.rack) begun.0.before (g.R.Rack.count c.end_on.new.rack) NothingNext (EndsWork no_deed) (BeginsWork no_deed) [])
+    (λ a. (n : ℕ) → a ≡ answers.NotEmpty n → IsTestRefused g.R.Disk.Disk (g.R.Rack.held c.args.rack.now) (g.R.Rack.held c.end_on.new.rack) (few_records c.args.most) a) c.end_on.result
     (λ a turns n is. absurd (not_empty g.R.Disk.Disk.content g.R.Disk.Disk.images g.R.Disk.Disk.limit g.R.Disk.Disk.count begun.0.held (g.R.Rack.held c.end_on.new.rack) begun.0.before (g.R.Rack.count c.end_on.new.rack) NothingNext (EndsWork no_deed) (BeginsWork no_deed) [] n
-    (subst (λ a. WhyNoTurns g.R.Disk.Disk.content g.R.Disk.Disk.images g.R.Disk.Disk.limit g.R.Disk.Disk.count begun.0.held (g.R.Rack.held c.end_on.new.rack) begun.0.before (g.R.Rack.count c.end_on.new.rack) NothingNext (EndsWork no_deed) (BeginsWork no_deed) [] a) is turns))) (c.end_on.ensures.done begun.0 has).stopped
+    (subst (λ a. WhyNoTurns g.R.Disk.Disk begun.0.held (g.R.Rack.held c.end_on.new.rack) begun.0.before (g.R.Rack.count c.end_on.new.rack) NothingNext (EndsWork no_deed) (BeginsWork no_deed) [] a) is turns))) (c.end_on.ensures.done begun.0 has).stopped
 
 pub returns-clause-passed : goal.returns-clause-passed
 returns-clause-passed g c =
     let begun = c.in-Ok.ensures.begun in
     let r = begun.4 in
-    let idle : AreIdle c.in-Ok.begun.ledger.header.shape (journals g.R.Disk.Disk.count g.R.Disk.Disk.limit c.in-Ok.begun.ledger) =
-    subst (λ h. AreIdle h (journals g.R.Disk.Disk.count g.R.Disk.Disk.limit c.in-Ok.begun.ledger)) (sym r.keeps_ledger.shape_same) r.idle in
-    let has : HasCome g.R.Disk.Disk.content g.R.Disk.Disk.images g.R.Disk.Disk.limit g.R.Disk.Disk.count no_deed begun.0 (g.R.Rack.held c.begin_on.new.rack) (g.R.Rack.can_put c.begin_on.new.rack) (g.R.Rack.can_take c.begin_on.new.rack) c.in-Ok.begun.ledger c.in-Ok.begun.resumed.items (Ok tt) = record {
+    let idle : AreIdle c.in-Ok.begun.ledger.header.shape (journals c.in-Ok.begun.ledger) =
+    subst (λ h. AreIdle h (journals c.in-Ok.begun.ledger)) (sym r.keeps_ledger.shape_same) r.idle in
+    let has : HasCome g.R.Disk.Disk no_deed begun.0 (g.R.Rack.held c.begin_on.new.rack) (g.R.Rack.can_put c.begin_on.new.rack) (g.R.Rack.can_take c.begin_on.new.rack) c.in-Ok.begun.ledger c.in-Ok.begun.resumed.items (Ok tt) = record {
       begun = begun.3;
-      ran = worked_run g.R.Disk.Disk.count g.R.Disk.Disk.limit g.R.Disk.Disk.content g.R.Disk.Disk.images no_deed (entry_ledger begun.0) c.in-Ok.begun.ledger c.in-Ok.begun.ledger c.in-Ok.begun.resumed (Ok c.in-Ok.begun.resumed) (Ok tt) refl r
-          (nothing_worked g.R.Disk.Disk.count g.R.Disk.Disk.limit g.R.Disk.Disk.content g.R.Disk.Disk.images c.in-Ok.begun.ledger idle r.checked);
+      ran = worked_run g.R.Disk.Disk no_deed (entry_ledger begun.0) c.in-Ok.begun.ledger c.in-Ok.begun.ledger c.in-Ok.begun.resumed (Ok c.in-Ok.begun.resumed) (Ok tt) refl r
+          (nothing_worked g.R.Disk.Disk c.in-Ok.begun.ledger idle r.checked);
     } in
-    on_ok_by c.end_on.result (λ _. subst (λ h. OfShown g.R.Disk.Disk.content h (λ K mint submissions E. length (E 0) ≤ c.args.most)) begun.1
-    (passed_shown g.R.Disk.Disk.content g.R.Disk.Disk.images g.R.Disk.Disk.limit g.R.Disk.Disk.count begun.0 (g.R.Rack.held c.begin_on.new.rack) (g.R.Rack.can_put c.begin_on.new.rack) (g.R.Rack.can_take c.begin_on.new.rack) begun.3 (λ K E. length (E 0) ≤ c.args.most) begun.5)) (c.end_on.ensures.done begun.0 has).caused
+    on_ok_by c.end_on.result (λ _. subst (λ h. OfShown g.R.Disk.Disk h (λ K mint submissions E. length (E 0) ≤ c.args.most)) begun.1
+    (passed_shown g.R.Disk.Disk begun.0 (g.R.Rack.held c.begin_on.new.rack) (g.R.Rack.can_put c.begin_on.new.rack) (g.R.Rack.can_take c.begin_on.new.rack) begun.3 (λ K E. length (E 0) ≤ c.args.most) begun.5)) (c.end_on.ensures.done begun.0 has).caused

@@ -1,4 +1,5 @@
-use Rattle.coord_log.specs.Logs.{sight, commit_due}
+use Rattle.coord_log.specs.Logs.{commit_due}
+use Rattle.node_journal.specs.Nodes.{sight}
 use Rattle.std.proofs.Common.{◌^◌, false, None, sym}
 use Rattle.node_ports.proofs.Owed.{still_decided}
 use Rattle.node_ports.proofs.Deciding.{decided_moves}
@@ -65,4 +66,4 @@ returns-clause-holds g c =
 pub returns-clause-moves : goal.returns-clause-moves
 returns-clause-moves g c =
     decided_moves c.args.lane c.args.log.now.header.shape c.args.replies.now (sight c.args.log.now) (sight c.decide-answer.new.self) c.args.log.now.broken c.decide-answer.new.self.broken c.decide-answer.new.out.items
-    c.header-header.ensures.landed c.header-after.ensures.landed c.decide-answer.ensures.own c.decide-answer.result c.decide-answer.ensures.appended c.decide-answer.ensures.whole c.decide-answer.ensures.breaks c.decide-answer.ensures.fault
+    c.header-header.ensures.landed c.header-after.ensures.landed c.decide-answer.ensures.own c.decide-answer.result c.decide-answer.ensures.appended c.decide-answer.ensures.whole c.decide-answer.ensures.broken c.decide-answer.ensures.fault

@@ -1,4 +1,4 @@
-use Rattle.coord_log.specs.Logs.{sight}
+use Rattle.node_journal.specs.Nodes.{sight}
 use Rattle.std.proofs.Common.{false, None, sym}
 use Rattle.cbdc_model.specs.Due.{done_due}
 use Rattle.node_ports.proofs.Owed.{still_node}

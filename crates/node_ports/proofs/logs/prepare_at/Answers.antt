@@ -1,4 +1,4 @@
-use Rattle.coord_log.specs.Logs.{sight}
+use Rattle.node_journal.specs.Nodes.{sight}
 use Rattle.std.proofs.Common.{true, None, sym}
 use Rattle.std.proofs.lemmas.List.Elements.{All-weaker}
 use Rattle.cbdc_model.specs.Grammar.{IsCompact}

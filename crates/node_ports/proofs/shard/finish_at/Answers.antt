@@ -1,6 +1,6 @@
 use Rattle.std.proofs.Common.{false, None}
 use Rattle.cbdc_model.specs.Due.{finish_due}
-use Rattle.shard_node.specs.Shards.{sight_of}
+use Rattle.node_journal.specs.Nodes.{sight}
 use Rattle.node_ports.proofs.Owed.{still_node}
 use Rattle.node_ports.proofs.Coordinators.{told_alone}
 use Rattle.node_ports.proofs.Replying.{finish_stamp}
@@ -8,15 +8,15 @@ use Rattle.node_ports.proofs.shard.finish_at.Goals as goal
 
 pub returns-clause-answer : goal.returns-clause-answer
 returns-clause-answer g c =
-    told_alone c.args.call.now.batch.lane false (finish_due c.args.call.now) c.args.node.now.broken (sight_of g.D.Disk.count g.D.Disk.limit c.args.node.now) (sight_of g.D.Disk.count g.D.Disk.limit c.finish.new.self) c.finish.result c.finish.ensures.meets c.finish.ensures.journal c.header-header.ensures.since_opened c.header-header.ensures.since_broken c.header-header.ensures.landed c.header-header.ensures.unbroken
+    told_alone c.args.call.now.batch.lane false (finish_due c.args.call.now) c.args.node.now.broken (sight c.args.node.now) (sight c.finish.new.self) c.finish.result c.finish.ensures.meets c.finish.ensures.journal c.header-header.ensures.since_opened c.header-header.ensures.since_broken c.header-header.ensures.landed c.header-header.ensures.unbroken
 
 pub returns-clause-told : goal.returns-clause-told
 returns-clause-told g c =
-    finish_stamp c.args.call.now (sight_of g.D.Disk.count g.D.Disk.limit c.args.node.now) (sight_of g.D.Disk.count g.D.Disk.limit c.finish.new.self) c.finish.result (told_alone c.args.call.now.batch.lane false (finish_due c.args.call.now) c.args.node.now.broken (sight_of g.D.Disk.count g.D.Disk.limit c.args.node.now) (sight_of g.D.Disk.count g.D.Disk.limit c.finish.new.self) c.finish.result c.finish.ensures.meets c.finish.ensures.journal c.header-header.ensures.since_opened c.header-header.ensures.since_broken c.header-header.ensures.landed c.header-header.ensures.unbroken) c.finish.ensures.journal
+    finish_stamp c.args.call.now (sight c.args.node.now) (sight c.finish.new.self) c.finish.result (told_alone c.args.call.now.batch.lane false (finish_due c.args.call.now) c.args.node.now.broken (sight c.args.node.now) (sight c.finish.new.self) c.finish.result c.finish.ensures.meets c.finish.ensures.journal c.header-header.ensures.since_opened c.header-header.ensures.since_broken c.header-header.ensures.landed c.header-header.ensures.unbroken) c.finish.ensures.journal
 
 pub returns-clause-node : goal.returns-clause-node
 returns-clause-node g c =
-    still_node false c.args.node.now.broken (finish_due c.args.call.now None c.args.node.now.journal) (sight_of g.D.Disk.count g.D.Disk.limit c.args.node.now) (sight_of g.D.Disk.count g.D.Disk.limit c.finish.new.self) c.finish.result c.finish.ensures.meets c.header-header.ensures.landed
+    still_node false c.args.node.now.broken (finish_due c.args.call.now None c.args.node.now.journal) (sight c.args.node.now) (sight c.finish.new.self) c.finish.result c.finish.ensures.meets c.header-header.ensures.landed
 
 pub returns-clause-later : goal.returns-clause-later
 returns-clause-later g c =

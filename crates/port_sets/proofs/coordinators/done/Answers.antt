@@ -1,4 +1,4 @@
-use Rattle.coord_log.specs.Logs.{sight}
+use Rattle.node_journal.specs.Nodes.{sight}
 use Rattle.port_sets.proofs.Owning.{done_moves}
 use Rattle.port_sets.proofs.coordinators.done.Goals as goal
 

@@ -18,7 +18,7 @@ pub returns-in-Ok-clause-opened : goal.returns-in-Ok-clause-opened
 returns-in-Ok-clause-opened g c =
     let d = g.R.Disk.Disk in
     let n = g.N.OnDisk in
-    let P = OpensAt d.content d.images d.limit d.count n.disk_of n.opens n.fits n.refusals n.refused c.args.ledger.now (g.R.Rack.held c.args.rack.now) (g.R.Rack.count c.args.rack.now) in
+    let P = OpensAt d n.disk_of n.opens n.fits n.refusals n.refused c.args.ledger.now (g.R.Rack.held c.args.rack.now) (g.R.Rack.count c.args.rack.now) in
     let M = MayReturn (λ x. d.count (n.disk_of x)) (g.R.Rack.can_put c.open_behind.new.rack) in
     let start = c.args.first + c.len-from.result in
     let all = c.in-Ok.ensures.opened in
@@ -33,7 +33,7 @@ pub returns-in-Ok-clause-out : goal.returns-in-Ok-clause-out
 returns-in-Ok-clause-out g c =
     let d = g.R.Disk.Disk in
     let n = g.N.OnDisk in
-    let P = OpensAt d.content d.images d.limit d.count n.disk_of n.opens n.fits n.refusals n.refused c.args.ledger.now (g.R.Rack.held c.args.rack.now) (g.R.Rack.count c.args.rack.now) in
+    let P = OpensAt d n.disk_of n.opens n.fits n.refusals n.refused c.args.ledger.now (g.R.Rack.held c.args.rack.now) (g.R.Rack.count c.args.rack.now) in
     let L = MayReturn (λ x. d.count (n.disk_of x)) (g.R.Rack.can_put c.args.rack.now) in
     let M = MayReturn (λ x. d.count (n.disk_of x)) (g.R.Rack.can_put c.open_behind.new.rack) in
     let start = c.args.first + c.len-from.result in
@@ -49,7 +49,7 @@ returns-in-Err-clause-refusal g c =
     let d = g.R.Disk.Disk in
     let n = g.N.OnDisk in
     let start = c.args.first + c.len-from.result in
-    fails_later d.content d.images d.limit d.count n.disk_of n.opens n.fits n.refusals n.refused c.args.ledger.now (g.R.Rack.held c.args.rack.now)
+    fails_later d n.disk_of n.opens n.fits n.refusals n.refused c.args.ledger.now (g.R.Rack.held c.args.rack.now)
     (g.R.Rack.count c.args.rack.now) (g.R.Rack.count c.open_behind.new.rack) (g.R.Rack.count c.close_all.new.rack)
     start (c.args.first + length c.args.nodes.items) (start + (c.args.count - c.len-from.result)) (c.args.first + c.args.count) c.in-Err.fault
     (omega (arith, c.len-from.ensures, c.args.nodes.ok)) (omega (arith, c.len-from.ensures, c.args.nodes.ok, c.requires.some)) c.close_all.ensures.later c.in-Err.ensures.refusal
@@ -64,5 +64,5 @@ returns-in-Err-clause-held g c = λ k ge lt was is now is_now.
     let behind : c.args.first + length c.in-Err.nodes.items ≤ k = omega (arith, ge, ap length c.in-Err.ensures.same) in
     let here = c.in-Err.ensures.held k (omega (arith, ge, c.len-from.ensures, c.args.nodes.ok)) (omega (arith, lt, c.len-from.ensures, c.args.nodes.ok, c.requires.some)) in
     let before = g.R.Rack.count c.args.rack.now k in
-    back_later d.content d.images d.limit {before = before} {mid = before} {now = g.R.Rack.count c.open_behind.new.rack k} {later = g.R.Rack.count c.close_all.new.rack k}
+    back_later d {before = before} {mid = before} {now = g.R.Rack.count c.open_behind.new.rack k} {later = g.R.Rack.count c.close_all.new.rack k}
     (g.R.Rack.held c.args.rack.now k) (g.R.Rack.held c.open_behind.new.rack k) (omega arith) (c.close_all.ensures.later k) here was is now (sym (c.close_all.ensures.others_held k (inr behind)) ∙ is_now)

@@ -24,7 +24,7 @@ nodes_onto-requires-clause-opened g c =
     let n = g.N.OnDisk in
     let slots = c.open_taken-slots.result.items in
     let none : AreNotRefused slots = subst (λ l. AreNotRefused l) c.as_slice.ensures.value c.in-None.ensures.0 in
-    are_open d.content d.images d.limit d.count n.disk_of n.opens n.fits n.refusals n.refused c.args.ledger.now (g.R.Rack.held c.args.rack.now) (g.R.Rack.count c.args.rack.now) c.args.first slots c.open_taken-slots.ensures.came none
+    are_open d n.disk_of n.opens n.fits n.refusals n.refused c.args.ledger.now (g.R.Rack.held c.args.rack.now) (g.R.Rack.count c.args.rack.now) c.args.first slots c.open_taken-slots.ensures.came none
 
 pub returns-in-None-clause-opened : goal.returns-in-None-clause-opened
 returns-in-None-clause-opened g c =
@@ -35,14 +35,14 @@ returns-in-None-clause-opened g c =
     let can_put = g.R.Rack.can_put c.open_taken-slots.new.rack in
     let slots = c.open_taken-slots.result.items in
     let none : AreNotRefused slots = subst (λ l. AreNotRefused l) c.as_slice.ensures.value c.in-None.ensures.0 in
-    let are : AreOpen slots = are_open d.content d.images d.limit d.count n.disk_of n.opens n.fits n.refusals n.refused c.args.ledger.now held before c.args.first slots c.open_taken-slots.ensures.came none in
+    let are : AreOpen slots = are_open d n.disk_of n.opens n.fits n.refusals n.refused c.args.ledger.now held before c.args.first slots c.open_taken-slots.ensures.came none in
     record {
       more = nodes_in slots;
       parts = c.nodes_onto.ensures ∙ ap (λ (l : List g.row.N.Denot). l ++ nodes_in slots) c.in-Ok.ensures.kept;
       all = omega (arith, count_of slots are, c.open_taken-slots.ensures.some, c.in-None.ensures.1, ap length c.as_slice.ensures.value);
-      each = each_both (OpensAt d.content d.images d.limit d.count n.disk_of n.opens n.fits n.refusals n.refused c.args.ledger.now held before) (MayReturn (λ y. d.count (n.disk_of y)) can_put) c.args.first (nodes_in slots)
-          (each_open d.content d.images d.limit d.count n.disk_of n.opens n.fits n.refusals n.refused c.args.ledger.now held before c.args.first slots c.open_taken-slots.ensures.came are)
-          (each_out d.count n.disk_of can_put c.args.first slots are c.open_taken-slots.ensures.out);
+      each = each_both (OpensAt d n.disk_of n.opens n.fits n.refusals n.refused c.args.ledger.now held before) (MayReturn (λ y. d.count (n.disk_of y)) can_put) c.args.first (nodes_in slots)
+          (each_open d n.disk_of n.opens n.fits n.refusals n.refused c.args.ledger.now held before c.args.first slots c.open_taken-slots.ensures.came are)
+          (each_out d n.disk_of can_put c.args.first slots are c.open_taken-slots.ensures.out);
     }
 
 pub returns-in-Some-clause-refusal : goal.returns-in-Some-clause-refusal
@@ -57,12 +57,12 @@ returns-in-Some-clause-refusal g c =
     let node = c.args.first + length slots in
     let why : IsFirstFault c.args.first c.args.count slots c.in-Some.fault = subst (λ l. IsFirstFault c.args.first c.args.count l c.in-Some.fault) c.as_slice.ensures.value c.in-Some.ensures in
     ⊎_elim
-    (λ refused. refused_first d.content d.images d.limit d.count n.disk_of n.opens n.fits n.refusals n.refused c.args.ledger.now held before now c.args.first end slots c.in-Some.fault
+    (λ refused. refused_first d n.disk_of n.opens n.fits n.refusals n.refused c.args.ledger.now held before now c.args.first end slots c.in-Some.fault
     (omega (arith, c.open_taken-slots.ensures.some)) c.open_taken-slots.ensures.came c.put_back.ensures.counted refused)
-    (λ missed. fails_behind d.content d.images d.limit d.count n.disk_of n.opens n.fits n.refusals n.refused c.args.ledger.now held before now c.args.first end slots c.in-Some.fault
+    (λ missed. fails_behind d n.disk_of n.opens n.fits n.refusals n.refused c.args.ledger.now held before now c.args.first end slots c.in-Some.fault
     (omega (arith, missed.1)) c.open_taken-slots.ensures.came
-    (are_open d.content d.images d.limit d.count n.disk_of n.opens n.fits n.refusals n.refused c.args.ledger.now held before c.args.first slots c.open_taken-slots.ensures.came missed.0)
-    (subst (λ (a : Answer). FailsAt d.content d.images d.limit d.count n.disk_of n.opens n.fits n.refusals n.refused c.args.ledger.now held before now node a) (sym missed.2)
+    (are_open d n.disk_of n.opens n.fits n.refusals n.refused c.args.ledger.now held before c.args.first slots c.open_taken-slots.ensures.came missed.0)
+    (subst (λ (a : Answer). FailsAt d n.disk_of n.opens n.fits n.refusals n.refused c.args.ledger.now held before now node a) (sym missed.2)
     (((n.may_fail node).1, (refl, omega (arith, c.open_taken-slots.ensures.failed missed.1, c.put_back.ensures.later node))), λ was is bytes told. (n.free node (Some c.args.ledger.now) (d.limit was) bytes).1)))
     why
 
@@ -76,9 +76,9 @@ returns-in-Some-clause-held g c =
     let now = g.R.Rack.count c.put_back.new.rack in
     let slots = c.open_taken-slots.result.items in
     λ k ge lt. ⊎_elim
-    (λ (below : k < c.args.first + length slots). each_back d.content d.images d.limit d.count n.disk_of n.opens n.fits n.refusals n.refused c.args.ledger.now held new before now c.args.first slots
+    (λ (below : k < c.args.first + length slots). each_back d n.disk_of n.opens n.fits n.refusals n.refused c.args.ledger.now held new before now c.args.first slots
     c.open_taken-slots.ensures.came c.put_back.ensures.closed c.put_back.ensures.counted k ge below)
-    (λ (above : c.args.first + length slots ≤ k). back_same d.content d.images d.limit (before k) (now k) (held k) (new k) (c.put_back.ensures.others_held k (inr above) ∙ c.open_taken-slots.ensures.others_held k (inr above)))
+    (λ (above : c.args.first + length slots ≤ k). back_same d (before k) (now k) (held k) (new k) (c.put_back.ensures.others_held k (inr above) ∙ c.open_taken-slots.ensures.others_held k (inr above)))
     (cases_lt k (c.args.first + length slots))
 
 pub returns-in-Some-clause-others_held : goal.returns-in-Some-clause-others_held

@@ -11,7 +11,7 @@ open_slots-requires-after_bounds g c κs within = All-same IsWaiting c.as_mut_sl
 
 pub returns : goal.returns
 returns g c =
-    let C = CameOf g.D.Disk.content g.D.Disk.images g.D.Disk.limit g.D.Disk.count g.N.OnDisk.disk_of g.N.OnDisk.opens g.N.OnDisk.fits g.N.OnDisk.refusals g.N.OnDisk.refused c.args.ledger.now in
+    let C = CameOf g.D.Disk g.N.OnDisk.disk_of g.N.OnDisk.opens g.N.OnDisk.fits g.N.OnDisk.refusals g.N.OnDisk.refused c.args.ledger.now in
     let olds = c.args.slots in
     let news = c.open_slots.new.slots in
     let same : length news ≡ length olds.items = c.open_slots.auto.slots ∙ ap (λ (xs : List _). length xs) c.as_mut_slice.ensures.value in

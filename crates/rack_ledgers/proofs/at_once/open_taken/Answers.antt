@@ -6,7 +6,7 @@ use Rattle.rack_ledgers.proofs.Beside.{all_wait, each_came, came_at, came_put}
 use Rattle.rack_ledgers.proofs.at_once.open_taken.Goals as goal
 
 pub open_list-requires-after_bounds : goal.open_list-requires-after_bounds
-open_list-requires-after_bounds g c κs within = all_wait g.R.Disk.Disk.count (g.R.Rack.held c.args.rack.now) (g.R.Rack.count c.args.rack.now) c.args.first c.take_disks-slots.result.items c.take_disks-slots.ensures.taken
+open_list-requires-after_bounds g c κs within = all_wait g.R.Disk.Disk (g.R.Rack.held c.args.rack.now) (g.R.Rack.count c.args.rack.now) c.args.first c.take_disks-slots.result.items c.take_disks-slots.ensures.taken
 
 pub returns : goal.returns
 returns g c =
@@ -14,20 +14,20 @@ returns g c =
     let n = g.N.OnDisk in
     let held = g.R.Rack.held c.args.rack.now in
     let before = g.R.Rack.count c.args.rack.now in
-    let C = CameOf d.content d.images d.limit d.count n.disk_of n.opens n.fits n.refusals n.refused c.args.ledger.now in
-    let A = CameAt d.content d.images d.limit d.count n.disk_of n.opens n.fits n.refusals n.refused c.args.ledger.now held before in
-    let T = IsTaken {N = g.row.N.Denot} d.count held before in
-    let P = MayPut d.count n.disk_of (g.R.Rack.can_put c.take_disks-slots.new.rack) in
+    let C = CameOf d n.disk_of n.opens n.fits n.refusals n.refused c.args.ledger.now in
+    let A = CameAt d n.disk_of n.opens n.fits n.refusals n.refused c.args.ledger.now held before in
+    let T = IsTaken {N = g.row.N.Denot} d held before in
+    let P = MayPut d n.disk_of (g.R.Rack.can_put c.take_disks-slots.new.rack) in
     let olds = c.take_disks-slots.result.items in
     let taken = c.take_disks-slots.ensures in
     let news = c.open_list.result.items in
     let same = c.open_list.ensures.same in
     record {
       some = omega (arith, same, taken.some);
-      came = each_came C T A (λ k s t came is. came_at d.content d.images d.limit d.count n.disk_of n.opens n.fits n.refusals n.refused c.args.ledger.now held before k s t came is) c.args.first olds news same c.open_list.ensures.came taken.taken;
+      came = each_came C T A (λ k s t came is. came_at d n.disk_of n.opens n.fits n.refusals n.refused c.args.ledger.now held before k s t came is) c.args.first olds news same c.open_list.ensures.came taken.taken;
       failed = subst (λ (k : ℕ). k < c.args.count → Rose (before (c.args.first + k)) (g.R.Rack.count c.take_disks-slots.new.rack (c.args.first + k))) (sym same) taken.failed;
       others_held = subst (λ (k : ℕ). (m : ℕ) → IsOutside c.args.first (c.args.first + k) m → g.R.Rack.held c.take_disks-slots.new.rack m ≡ held m) (sym same) taken.others_held;
-      out = each_came C P P (λ k s t came may. came_put d.content d.images d.limit d.count n.disk_of n.opens n.fits n.refusals n.refused c.args.ledger.now (g.R.Rack.can_put c.take_disks-slots.new.rack) k s t came may) c.args.first olds news same c.open_list.ensures.came taken.out;
+      out = each_came C P P (λ k s t came may. came_put d n.disk_of n.opens n.fits n.refusals n.refused c.args.ledger.now (g.R.Rack.can_put c.take_disks-slots.new.rack) k s t came may) c.args.first olds news same c.open_list.ensures.came taken.out;
       others_in = subst (λ (k : ℕ). (m : ℕ) → IsOutside c.args.first (c.args.first + k) m → g.R.Rack.can_take c.args.rack.now m → g.R.Rack.can_take c.take_disks-slots.new.rack m) (sym same) taken.others_in;
       others_out = taken.others_out;
       later = taken.later;

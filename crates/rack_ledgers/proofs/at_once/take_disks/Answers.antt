@@ -13,8 +13,8 @@ pub returns-in-Err-clause-out : goal.returns-in-Err-clause-out
 returns-in-Err-clause-out g c =
     let place = c.places.invariant.place in
     let node = c.args.first + c.places.place in
-    each_weaker (MayPut g.R.Disk.Disk.count g.N.OnDisk.disk_of (g.R.Rack.can_put c.places.rack)) (MayPut g.R.Disk.Disk.count g.N.OnDisk.disk_of (g.R.Rack.can_put c.take.new.self)) c.args.first c.places.slots.items
-    (λ k s ge lt may. let other : k ≢ node = omega (arith, place) in may_still g.R.Disk.Disk.count g.N.OnDisk.disk_of (g.R.Rack.can_put c.places.rack) (g.R.Rack.can_put c.take.new.self) k s (λ m can. c.take.ensures.others_out k m other can) may)
+    each_weaker (MayPut g.R.Disk.Disk g.N.OnDisk.disk_of (g.R.Rack.can_put c.places.rack)) (MayPut g.R.Disk.Disk g.N.OnDisk.disk_of (g.R.Rack.can_put c.take.new.self)) c.args.first c.places.slots.items
+    (λ k s ge lt may. let other : k ≢ node = omega (arith, place) in may_still g.R.Disk.Disk g.N.OnDisk.disk_of (g.R.Rack.can_put c.places.rack) (g.R.Rack.can_put c.take.new.self) k s (λ m can. c.take.ensures.others_out k m other can) may)
     c.places.invariant.out
 
 pub places-preserved : goal.places-preserved
@@ -23,9 +23,9 @@ places-preserved g c =
     let node = c.args.first + c.places.place in
     let slot : Slot g.row.R-Disk.Denot g.row.N.Denot = slots.Waiting node c.in-Ok.disk in
     let longer : length c.push_reserved.new.self.items ≡ c.places.place + 1 = omega (arith, ap length c.push_reserved.ensures.items, length-append c.places.slots.items (slot ∷ []), place) in
-    let T = IsTaken {N = g.row.N.Denot} g.R.Disk.Disk.count (g.R.Rack.held c.args.rack.now) (g.R.Rack.count c.args.rack.now) in
-    let P = MayPut g.R.Disk.Disk.count g.N.OnDisk.disk_of (g.R.Rack.can_put c.places.rack) in
-    let Q = MayPut g.R.Disk.Disk.count g.N.OnDisk.disk_of (g.R.Rack.can_put c.take.new.self) in
+    let T = IsTaken {N = g.row.N.Denot} g.R.Disk.Disk (g.R.Rack.held c.args.rack.now) (g.R.Rack.count c.args.rack.now) in
+    let P = MayPut g.R.Disk.Disk g.N.OnDisk.disk_of (g.R.Rack.can_put c.places.rack) in
+    let Q = MayPut g.R.Disk.Disk g.N.OnDisk.disk_of (g.R.Rack.can_put c.take.new.self) in
     let before = c.places.invariant.others_held node (inr (omega (arith, place))) in
     let here : T (c.args.first + length c.places.slots.items) slot =
     subst (λ (k : ℕ). T k slot) (omega (arith, place)) (refl, record { told = λ was is. of_told _ _ c.in-Ok.ensures.disk was (before ∙ is); counted = omega (arith, c.in-Ok.ensures.count, c.places.invariant.later node) }) in
@@ -39,7 +39,7 @@ places-preserved g c =
       out = subst (λ l. EachFrom Q c.args.first l) (sym c.push_reserved.ensures.items)
           (each_push Q c.args.first c.places.slots.items slot
           (each_weaker P Q c.args.first c.places.slots.items
-          (λ k s ge lt may. let other : k ≢ node = omega (arith, place) in may_still g.R.Disk.Disk.count g.N.OnDisk.disk_of (g.R.Rack.can_put c.places.rack) (g.R.Rack.can_put c.take.new.self) k s (λ m can. c.take.ensures.others_out k m other can) may)
+          (λ k s ge lt may. let other : k ≢ node = omega (arith, place) in may_still g.R.Disk.Disk g.N.OnDisk.disk_of (g.R.Rack.can_put c.places.rack) (g.R.Rack.can_put c.take.new.self) k s (λ m can. c.take.ensures.others_out k m other can) may)
           c.places.invariant.out)
           (subst (λ (k : ℕ). Q k slot) (omega (arith, place)) c.in-Ok.ensures.out));
       others_in = λ n outside can.

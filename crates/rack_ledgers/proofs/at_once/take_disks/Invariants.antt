@@ -8,9 +8,9 @@ abbrev pub invariant-places : goal.invariant-places
 invariant-places g l = record {
   place : length l.slots.items ≡ l.place;
   room : l.count ≤ vec_capacity l.slots;
-  taken : EachFrom (IsTaken g.R.Disk.Disk.count (g.R.Rack.held l.initial.rack) (g.R.Rack.count l.initial.rack)) l.first l.slots.items;
+  taken : EachFrom (IsTaken g.R.Disk.Disk (g.R.Rack.held l.initial.rack) (g.R.Rack.count l.initial.rack)) l.first l.slots.items;
   others_held : (n : ℕ) → IsOutside l.first (l.first + length l.slots.items) n → g.R.Rack.held l.rack n ≡ g.R.Rack.held l.initial.rack n;
-  out : EachFrom (MayPut g.R.Disk.Disk.count g.N.OnDisk.disk_of (g.R.Rack.can_put l.rack)) l.first l.slots.items;
+  out : EachFrom (MayPut g.R.Disk.Disk g.N.OnDisk.disk_of (g.R.Rack.can_put l.rack)) l.first l.slots.items;
   others_in : (n : ℕ) → IsOutside l.first (l.first + length l.slots.items) n → g.R.Rack.can_take l.initial.rack n → g.R.Rack.can_take l.rack n;
   others_out : (n k : ℕ) → IsOutside l.first (l.first + l.count) n → g.R.Rack.can_put l.initial.rack n k → g.R.Rack.can_put l.rack n k;
   later : (n : ℕ) → g.R.Rack.count l.initial.rack n ≤ g.R.Rack.count l.rack n;

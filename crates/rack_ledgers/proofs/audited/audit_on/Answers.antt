@@ -15,30 +15,30 @@ verdict_of-verdict-requires-clause-shards g c κs k n x is = (c.in-Ok-open_minte
 
 pub returns-in-Ok-verdict-clause-audited : goal.returns-in-Ok-verdict-clause-audited
 returns-in-Ok-verdict-clause-audited g c =
-    is_audited g.R.Disk.Disk.content g.R.Disk.Disk.images g.R.Disk.Disk.limit g.R.Disk.Disk.count (g.R.Rack.held c.args.rack.now) c.in-Ok-open_minted.nodes.header c.in-Ok-open_minted.nodes.logs.items c.in-Ok-open_minted.nodes.shards.items
+    is_audited g.R.Disk.Disk (g.R.Rack.held c.args.rack.now) c.in-Ok-open_minted.nodes.header c.in-Ok-open_minted.nodes.logs.items c.in-Ok-open_minted.nodes.shards.items
     c.in-Ok-open_minted.ensures.opened c.args.mint.now (c.in-Ok-open_minted.ensures.minted ∙ c.in-Ok.ensures) c.args.handed.now c.in-Ok-verdict.verdict c.in-Ok-verdict.ensures
 
 pub returns-in-Ok-verdict-clause-room : goal.returns-in-Ok-verdict-clause-room
 returns-in-Ok-verdict-clause-room g c =
-    audited_room g.R.Disk.Disk.content g.R.Disk.Disk.images g.R.Disk.Disk.limit g.R.Disk.Disk.count (g.R.Rack.held c.args.rack.now) c.in-Ok-open_minted.nodes.header c.in-Ok-open_minted.nodes.logs.items c.in-Ok-open_minted.nodes.shards.items
+    audited_room g.R.Disk.Disk (g.R.Rack.held c.args.rack.now) c.in-Ok-open_minted.nodes.header c.in-Ok-open_minted.nodes.logs.items c.in-Ok-open_minted.nodes.shards.items
     c.in-Ok-open_minted.ensures.opened c.args.mint.now (c.in-Ok-open_minted.ensures.minted ∙ c.in-Ok.ensures) c.args.handed.now
     (g.R.Rack.held c.close_nodes.new.rack) c.close_nodes.ensures.closed_logs c.close_nodes.ensures.closed_shards c.in-Ok-verdict.verdict c.in-Ok-verdict.ensures
 
 pub returns-in-Ok-verdict-clause-sentence : goal.returns-in-Ok-verdict-clause-sentence
 returns-in-Ok-verdict-clause-sentence g c =
-    verdicts_account g.R.Disk.Disk.content (g.R.Rack.held c.args.rack.now) c.args.mint.now c.args.handed.now c.in-Ok-verdict.verdict
-    (is_audited g.R.Disk.Disk.content g.R.Disk.Disk.images g.R.Disk.Disk.limit g.R.Disk.Disk.count (g.R.Rack.held c.args.rack.now) c.in-Ok-open_minted.nodes.header c.in-Ok-open_minted.nodes.logs.items c.in-Ok-open_minted.nodes.shards.items
+    verdicts_account g.R.Disk.Disk (g.R.Rack.held c.args.rack.now) c.args.mint.now c.args.handed.now c.in-Ok-verdict.verdict
+    (is_audited g.R.Disk.Disk (g.R.Rack.held c.args.rack.now) c.in-Ok-open_minted.nodes.header c.in-Ok-open_minted.nodes.logs.items c.in-Ok-open_minted.nodes.shards.items
     c.in-Ok-open_minted.ensures.opened c.args.mint.now (c.in-Ok-open_minted.ensures.minted ∙ c.in-Ok.ensures) c.args.handed.now c.in-Ok-verdict.verdict c.in-Ok-verdict.ensures)
 
 pub returns-in-Ok-verdict-clause-unchanged : goal.returns-in-Ok-verdict-clause-unchanged
 returns-in-Ok-verdict-clause-unchanged g c =
-    all_same g.R.Disk.Disk.content g.R.Disk.Disk.images g.R.Disk.Disk.limit g.R.Disk.Disk.count (g.R.Rack.held c.args.rack.now) (g.R.Rack.held c.open_minted.new.rack) (g.R.Rack.held c.close_nodes.new.rack) c.in-Ok-open_minted.nodes.header
+    all_same g.R.Disk.Disk (g.R.Rack.held c.args.rack.now) (g.R.Rack.held c.open_minted.new.rack) (g.R.Rack.held c.close_nodes.new.rack) c.in-Ok-open_minted.nodes.header
     c.in-Ok-open_minted.nodes.logs.items c.in-Ok-open_minted.nodes.shards.items c.in-Ok-open_minted.ensures.opened c.in-Ok-open_minted.ensures.others_held c.close_nodes.ensures.closed_logs c.close_nodes.ensures.closed_shards c.close_nodes.ensures.others_held
 
 pub returns-in-Ok-verdict-clause-held : goal.returns-in-Ok-verdict-clause-held
 returns-in-Ok-verdict-clause-held g c = λ n.
-    same_back g.R.Disk.Disk.content g.R.Disk.Disk.images g.R.Disk.Disk.limit (g.R.Rack.count c.args.rack.now n) (g.R.Rack.count c.close_nodes.new.rack n) (g.R.Rack.held c.args.rack.now n) (g.R.Rack.held c.close_nodes.new.rack n)
-    (all_same g.R.Disk.Disk.content g.R.Disk.Disk.images g.R.Disk.Disk.limit g.R.Disk.Disk.count (g.R.Rack.held c.args.rack.now) (g.R.Rack.held c.open_minted.new.rack) (g.R.Rack.held c.close_nodes.new.rack) c.in-Ok-open_minted.nodes.header
+    same_back g.R.Disk.Disk (g.R.Rack.count c.args.rack.now n) (g.R.Rack.count c.close_nodes.new.rack n) (g.R.Rack.held c.args.rack.now n) (g.R.Rack.held c.close_nodes.new.rack n)
+    (all_same g.R.Disk.Disk (g.R.Rack.held c.args.rack.now) (g.R.Rack.held c.open_minted.new.rack) (g.R.Rack.held c.close_nodes.new.rack) c.in-Ok-open_minted.nodes.header
     c.in-Ok-open_minted.nodes.logs.items c.in-Ok-open_minted.nodes.shards.items c.in-Ok-open_minted.ensures.opened c.in-Ok-open_minted.ensures.others_held c.close_nodes.ensures.closed_logs c.close_nodes.ensures.closed_shards c.close_nodes.ensures.others_held n)
 
 pub returns-in-Err-verdict-clause-refusal : goal.returns-in-Err-verdict-clause-refusal
@@ -46,6 +46,6 @@ returns-in-Err-verdict-clause-refusal g c = inr refl
 
 pub returns-in-Err-verdict-clause-held : goal.returns-in-Err-verdict-clause-held
 returns-in-Err-verdict-clause-held g c = λ n.
-    same_back g.R.Disk.Disk.content g.R.Disk.Disk.images g.R.Disk.Disk.limit (g.R.Rack.count c.args.rack.now n) (g.R.Rack.count c.close_nodes.new.rack n) (g.R.Rack.held c.args.rack.now n) (g.R.Rack.held c.close_nodes.new.rack n)
-    (all_same g.R.Disk.Disk.content g.R.Disk.Disk.images g.R.Disk.Disk.limit g.R.Disk.Disk.count (g.R.Rack.held c.args.rack.now) (g.R.Rack.held c.open_minted.new.rack) (g.R.Rack.held c.close_nodes.new.rack) c.in-Ok-open_minted.nodes.header
+    same_back g.R.Disk.Disk (g.R.Rack.count c.args.rack.now n) (g.R.Rack.count c.close_nodes.new.rack n) (g.R.Rack.held c.args.rack.now n) (g.R.Rack.held c.close_nodes.new.rack n)
+    (all_same g.R.Disk.Disk (g.R.Rack.held c.args.rack.now) (g.R.Rack.held c.open_minted.new.rack) (g.R.Rack.held c.close_nodes.new.rack) c.in-Ok-open_minted.nodes.header
     c.in-Ok-open_minted.nodes.logs.items c.in-Ok-open_minted.nodes.shards.items c.in-Ok-open_minted.ensures.opened c.in-Ok-open_minted.ensures.others_held c.close_nodes.ensures.closed_logs c.close_nodes.ensures.closed_shards c.close_nodes.ensures.others_held n)

@@ -30,6 +30,6 @@ pub returns-clause-held : goal.returns-clause-held
 returns-clause-held g c n =
     let held = g.R.Rack.held c.args.rack.now in
     let now = g.R.Rack.held c.close_nodes.new.rack in
-    same_back g.R.Disk.Disk.content g.R.Disk.Disk.images g.R.Disk.Disk.limit (g.R.Rack.count c.args.rack.now n) (g.R.Rack.count c.close_nodes.new.rack n) (held n) (now n)
-    (all_same g.R.Disk.Disk.content g.R.Disk.Disk.images g.R.Disk.Disk.limit g.R.Disk.Disk.count held (g.R.Rack.held c.open_nodes.new.rack) now c.in-Ok.nodes.header c.in-Ok.nodes.logs.items c.in-Ok.nodes.shards.items
+    same_back g.R.Disk.Disk (g.R.Rack.count c.args.rack.now n) (g.R.Rack.count c.close_nodes.new.rack n) (held n) (now n)
+    (all_same g.R.Disk.Disk held (g.R.Rack.held c.open_nodes.new.rack) now c.in-Ok.nodes.header c.in-Ok.nodes.logs.items c.in-Ok.nodes.shards.items
     c.in-Ok.ensures.opened c.in-Ok.ensures.others_held c.close_nodes.ensures.closed_logs c.close_nodes.ensures.closed_shards c.close_nodes.ensures.others_held n)

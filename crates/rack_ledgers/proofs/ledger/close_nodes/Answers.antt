@@ -1,7 +1,7 @@
 use Rattle.std.proofs.Common.{◌≡◌, ◌≤◌, le_trans, ◌∙◌, ◌+◌, ℕ, length, sym, subst, arith, inl, inr}
 use Rattle.std.proofs.lemmas.Bool.{cases_lt}
 use Rattle.std.proofs.lemmas.Option.{slice_get_within}
-use Rattle.shard_node.specs.Shards.{ShardOf}
+use Rattle.node_journal.specs.Nodes.{NodeOf}
 use Rattle.rack_ledgers.specs.Places.{EachFrom, MayReturn}
 use Rattle.rack_ledgers.specs.Racked.{OfTold}
 use Rattle.rack_ledgers.proofs.Each.{each_weaker}
@@ -26,7 +26,7 @@ returns-clause-closed_logs g c n l is now told =
 pub returns-clause-closed_shards : goal.returns-clause-closed_shards
 returns-clause-closed_shards g c n s is now told =
     let first : c.len-first.result ≡ length c.args.nodes.logs.items = omega (arith, c.len-first.ensures, c.args.nodes.logs.ok) in
-    let Q : ℕ → ShardOf g.row.R-Disk.Denot → Type 0 = λ k x. OfTold (g.R.Rack.held c.close_all-2.new.rack k) (λ d. d ≡ x.disk) in
+    let Q : ℕ → NodeOf g.row.R-Disk.Denot → Type 0 = λ k x. OfTold (g.R.Rack.held c.close_all-2.new.rack k) (λ d. d ≡ x.disk) in
     at_place Q (length c.args.nodes.logs.items) c.args.nodes.shards.items
     (subst (λ (k : ℕ). EachFrom Q k c.args.nodes.shards.items) first c.close_all-2.ensures.closed) n s is now told
 
@@ -54,6 +54,6 @@ returns-clause-counted_logs g c n l is =
 pub returns-clause-counted_shards : goal.returns-clause-counted_shards
 returns-clause-counted_shards g c =
     let first : c.len-first.result ≡ length c.args.nodes.logs.items = omega (arith, c.len-first.ensures, c.args.nodes.logs.ok) in
-    let Q : ℕ → ShardOf g.row.R-Disk.Denot → Type 0 = λ k x. g.R.Disk.Disk.count x.disk ≤ g.R.Rack.count c.close_all-2.new.rack k in
+    let Q : ℕ → NodeOf g.row.R-Disk.Denot → Type 0 = λ k x. g.R.Disk.Disk.count x.disk ≤ g.R.Rack.count c.close_all-2.new.rack k in
     at_place Q (length c.args.nodes.logs.items) c.args.nodes.shards.items
     (subst (λ (k : ℕ). EachFrom Q k c.args.nodes.shards.items) first c.close_all-2.ensures.counted)

@@ -95,10 +95,10 @@ returns-in-Err-push-clause-held g c =
     let closed = (goes_front _ Q c.args.first c.args.nodes.items c.places.nodes.items so_far (subst (λ l. EachFrom Q c.args.first l) c.in-Err-push.ensures.items c.close_all.ensures.closed)).1 in
     let before = c.places.invariant.others_held node (inr (omega (arith, c.places.invariant.place))) in
     let behind = c.close_all.ensures.others_held node (inr (omega (arith, shorter))) in
-    let here = back_opened g.R.Disk.Disk.content g.R.Disk.Disk.images g.R.Disk.Disk.limit (g.R.Rack.count c.args.rack.now node) (g.R.Rack.count c.close_all.new.rack node) g.N.OnDisk.disk_of g.N.OnDisk.opens (g.R.Rack.held c.args.rack.now node) (g.R.Rack.held c.close_all.new.rack node) c.in-Ok.node
+    let here = back_opened g.R.Disk.Disk (g.R.Rack.count c.args.rack.now node) (g.R.Rack.count c.close_all.new.rack node) g.N.OnDisk.disk_of g.N.OnDisk.opens (g.R.Rack.held c.args.rack.now node) (g.R.Rack.held c.close_all.new.rack node) c.in-Ok.node
     (λ was is. c.in-Ok.ensures.opened was (before ∙ is))
     (λ now is. of_told _ _ c.put.ensures.disk now (sym behind ∙ is) ∙ c.give_disk.ensures ∙ ap g.N.OnDisk.disk_of c.in-Err-push.ensures.value_returned) in
-    all_back g.R.Disk.Disk.content g.R.Disk.Disk.images g.R.Disk.Disk.limit g.N.OnDisk.disk_of g.N.OnDisk.opens (λ n x. g.N.OnDisk.fits n (option_copied c.args.ledger) x × (g.R.Rack.count c.args.rack.now n ≤ g.R.Disk.Disk.count (g.N.OnDisk.disk_of x))) (g.R.Rack.count c.args.rack.now) (g.R.Rack.count c.close_all.new.rack) (λ n. g.R.Rack.held c.args.rack.now n) (λ n. g.R.Rack.held c.close_all.new.rack n) (c.args.first + c.args.count)
+    all_back g.R.Disk.Disk g.N.OnDisk.disk_of g.N.OnDisk.opens (λ n x. g.N.OnDisk.fits n (option_copied c.args.ledger) x × (g.R.Rack.count c.args.rack.now n ≤ g.R.Disk.Disk.count (g.N.OnDisk.disk_of x))) (g.R.Rack.count c.args.rack.now) (g.R.Rack.count c.close_all.new.rack) (λ n. g.R.Rack.held c.args.rack.now n) (λ n. g.R.Rack.held c.close_all.new.rack n) (c.args.first + c.args.count)
     start node so_far.more place so_far.each closed here
     (λ n above below. let other : n ≢ node = omega (arith, above) in c.close_all.ensures.others_held n (inr (omega (arith, shorter, above))) ∙ c.put.ensures.others n other ∙ c.open_one.ensures.others_held n other ∙ c.places.invariant.others_held n (inr (omega (arith, c.places.invariant.place, above))))
 
@@ -111,9 +111,9 @@ returns-in-Err-clause-held g c =
     let closed = (goes_front _ (λ n x. OfTold (g.R.Rack.held c.close_all-in-Err.new.rack n) (λ now. now ≡ g.N.OnDisk.disk_of x)) c.args.first c.args.nodes.items c.places.nodes.items so_far c.close_all-in-Err.ensures.closed).1 in
     let before = c.places.invariant.others_held node (inr (omega (arith, c.places.invariant.place))) in
     let behind = c.close_all-in-Err.ensures.others_held node (inr (omega (arith, c.places.invariant.place))) in
-    all_back g.R.Disk.Disk.content g.R.Disk.Disk.images g.R.Disk.Disk.limit g.N.OnDisk.disk_of g.N.OnDisk.opens (λ n x. g.N.OnDisk.fits n (option_copied c.args.ledger) x × (g.R.Rack.count c.args.rack.now n ≤ g.R.Disk.Disk.count (g.N.OnDisk.disk_of x))) (g.R.Rack.count c.args.rack.now) (g.R.Rack.count c.close_all-in-Err.new.rack) (λ n. g.R.Rack.held c.args.rack.now n) (λ n. g.R.Rack.held c.close_all-in-Err.new.rack n) (c.args.first + c.args.count)
+    all_back g.R.Disk.Disk g.N.OnDisk.disk_of g.N.OnDisk.opens (λ n x. g.N.OnDisk.fits n (option_copied c.args.ledger) x × (g.R.Rack.count c.args.rack.now n ≤ g.R.Disk.Disk.count (g.N.OnDisk.disk_of x))) (g.R.Rack.count c.args.rack.now) (g.R.Rack.count c.close_all-in-Err.new.rack) (λ n. g.R.Rack.held c.args.rack.now n) (λ n. g.R.Rack.held c.close_all-in-Err.new.rack n) (c.args.first + c.args.count)
     start node so_far.more place so_far.each closed
-    (λ was is d is_now. back_later g.R.Disk.Disk.content g.R.Disk.Disk.images g.R.Disk.Disk.limit _ _ (c.places.invariant.later node) (c.close_all-in-Err.ensures.later node) c.in-Err.ensures.held was (before ∙ is) d (sym behind ∙ is_now))
+    (λ was is d is_now. back_later g.R.Disk.Disk _ _ (c.places.invariant.later node) (c.close_all-in-Err.ensures.later node) c.in-Err.ensures.held was (before ∙ is) d (sym behind ∙ is_now))
     (λ n above below. let other : n ≢ node = omega (arith, above) in c.close_all-in-Err.ensures.others_held n (inr (omega (arith, c.places.invariant.place, above))) ∙ c.open_one.ensures.others_held n other ∙ c.places.invariant.others_held n (inr (omega (arith, c.places.invariant.place, above))))
 
 pub places-preserved : goal.places-preserved

@@ -9,7 +9,7 @@ invariant-places g l = record {
   place : length l.nodes.items ≡ l.place;
   opened : GoesOn
       (λ n x. (g.N.OnDisk.fits n (option_copied l.ledger) x × (g.R.Rack.count l.initial.rack n ≤ g.R.Disk.Disk.count (g.N.OnDisk.disk_of x)))
-      × OfTold (g.R.Rack.held l.initial.rack n) (λ was. IsOpened g.R.Disk.Disk.content g.R.Disk.Disk.images g.R.Disk.Disk.limit g.N.OnDisk.disk_of g.N.OnDisk.opens was x))
+      × OfTold (g.R.Rack.held l.initial.rack n) (λ was. IsOpened g.R.Disk.Disk g.N.OnDisk.disk_of g.N.OnDisk.opens was x))
       l.first l.initial.nodes.items l.nodes.items;
   others_held : (n : ℕ) → IsOutside (l.first + length l.initial.nodes.items) (l.first + length l.nodes.items) n → g.R.Rack.held l.rack n ≡ g.R.Rack.held l.initial.rack n;
   out : EachFrom (MayReturn (λ n. g.R.Disk.Disk.count (g.N.OnDisk.disk_of n)) (g.R.Rack.can_put l.rack)) l.first l.nodes.items;

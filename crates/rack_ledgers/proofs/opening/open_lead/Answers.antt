@@ -1,6 +1,7 @@
 use Rattle.std.proofs.Common.{ap, refl, subst, inl, inr}
 use Rattle.std.specs.Option.{option_copied}
 use Rattle.cbdc_model.specs.Records.{Header}
+use Rattle.coord_log.specs.Opening.{IsCoord}
 use Rattle.rack_ledgers.specs.Ledgers.{IsOtherMint}
 use Rattle.rack_ledgers.proofs.Opened.{lead_at}
 use Rattle.rack_ledgers.proofs.opening.open_lead.Goals as goal
@@ -9,7 +10,7 @@ pub returns-in-Some-clause-refusal : goal.returns-in-Some-clause-refusal
 returns-in-Some-clause-refusal g c =
     inr (inl (record {
       lead = c.in-Ok.lead;
-      first = ap (λ (k : Header). k.node) c.in-Ok.ensures.fits.0;
-      lead_at = lead_at g.R.Disk.Disk.content g.R.Disk.Disk.images g.R.Disk.Disk.limit g.R.Disk.Disk.count (g.R.Rack.held c.args.rack.now) c.in-Ok.lead.header c.in-Ok.lead refl c.in-Ok.ensures.fits c.in-Ok.ensures.opened;
+      first = ap (λ (k : Header). k.node) c.in-Ok.ensures.fits.asked;
+      lead_at = lead_at g.R.Disk.Disk IsCoord (g.R.Rack.held c.args.rack.now) c.in-Ok.lead.header c.in-Ok.lead refl c.in-Ok.ensures.fits c.in-Ok.ensures.opened;
       other = subst (λ (k : Header). IsOtherMint (option_copied c.args.id) k c.in-Some.fault) c.header.ensures.header c.in-Some.ensures;
     }))

@@ -1,13 +1,15 @@
 use Rattle.std.proofs.Common.{◌≡◌, ◌∙◌, ◌+◌, ℕ, length, sym, subst, ap, arith, inl, inr}
 use Rattle.std.specs.Option.{option_copied}
-use Rattle.coord_log.specs.Logs.{LogOf}
+use Rattle.node_journal.specs.Nodes.{NodeOf}
+use Rattle.coord_log.specs.Opening.{IsCoord}
+use Rattle.shard_node.specs.Opening.{IsShardHeader}
 use Rattle.rack_ledgers.specs.Places.{EachFrom, MayReturn}
 use Rattle.rack_ledgers.specs.Racked.{OfTold, IsBack}
 use Rattle.rack_ledgers.proofs.Each.{each_weaker}
 use Rattle.rack_ledgers.proofs.Closing.{closed_whole}
-use Rattle.rack_ledgers.specs.Ledgers.{IsLogAt}
+use Rattle.rack_ledgers.specs.Ledgers.{IsNodeAt}
 use Rattle.rack_ledgers.proofs.Places.{by_place, by_two}
-use Rattle.rack_ledgers.proofs.Opened.{OpensShard, shards_at, shards_since, log_back}
+use Rattle.rack_ledgers.proofs.Opened.{OpensNode, nodes_at, nodes_since, node_back}
 use Rattle.rack_ledgers.proofs.LedgerBacks.{back_parts}
 use Rattle.rack_ledgers.proofs.Lacks.{lacks_shard}
 use Rattle.rack_ledgers.proofs.opening.open_ledger.Goals as goal
@@ -46,7 +48,7 @@ returns-in-Ok-open_at_once-clause-later g c = λ n. omega (arith, c.open_logs.en
 
 pub returns-in-Ok-open_at_once-clause-opened : goal.returns-in-Ok-open_at_once-clause-opened
 returns-in-Ok-open_at_once-clause-opened g c =
-    let P = OpensShard g.R.Disk.Disk.content g.R.Disk.Disk.images g.R.Disk.Disk.limit g.R.Disk.Disk.count (g.R.Rack.held c.open_logs.new.rack) (g.R.Rack.count c.open_logs.new.rack) c.in-Ok.opened.0 in
+    let P = OpensNode g.R.Disk.Disk IsShardHeader (g.R.Rack.held c.open_logs.new.rack) (g.R.Rack.count c.open_logs.new.rack) c.in-Ok.opened.0 in
     let all : EachFrom P c.coordinators-first.result c.in-Ok-open_at_once.shards.items = closed_whole P c.coordinators-first.result c.new.result.items c.in-Ok-open_at_once.shards.items c.new.ensures.items c.in-Ok-open_at_once.ensures.opened in
     record {
       first = c.in-Ok.ensures.first.0;
@@ -54,14 +56,14 @@ returns-in-Ok-open_at_once-clause-opened g c =
       coordinators = c.in-Ok.ensures.logs.0;
       shards_are = c.in-Ok-open_at_once.ensures.all ∙ c.shards-count.ensures.value;
       logs_at = c.in-Ok.ensures.opened;
-      shards_at = shards_at g.R.Disk.Disk.content g.R.Disk.Disk.images g.R.Disk.Disk.limit g.R.Disk.Disk.count (g.R.Rack.held c.args.rack.now) (g.R.Rack.held c.open_logs.new.rack) (g.R.Rack.count c.open_logs.new.rack)
+      shards_at = nodes_at g.R.Disk.Disk IsShardHeader (g.R.Rack.held c.args.rack.now) (g.R.Rack.held c.open_logs.new.rack) (g.R.Rack.count c.open_logs.new.rack)
           c.in-Ok.opened.0 c.in-Ok.opened.0.shape.coordinators c.in-Ok-open_at_once.shards.items c.in-Ok.ensures.others_held
           (subst (λ (k : ℕ). EachFrom P k c.in-Ok-open_at_once.shards.items) c.coordinators-first.ensures.value all);
     }
 
 pub returns-in-Err-open_at_once-clause-refusal : goal.returns-in-Err-open_at_once-clause-refusal
 returns-in-Err-open_at_once-clause-refusal g c =
-    inr (lacks_shard g.R.Disk.Disk.content g.R.Disk.Disk.images g.R.Disk.Disk.limit g.R.Disk.Disk.count (g.R.Rack.held c.args.rack.now) (g.R.Rack.held c.open_logs.new.rack)
+    inr (lacks_shard g.R.Disk.Disk (g.R.Rack.held c.args.rack.now) (g.R.Rack.held c.open_logs.new.rack)
     (g.R.Rack.count c.args.rack.now) (g.R.Rack.count c.open_logs.new.rack) (g.R.Rack.count c.open_at_once.new.rack) (g.R.Rack.count c.close_all.new.rack)
     c.in-Ok.opened.0 c.in-Ok.opened.1.items (option_copied c.args.id) (c.coordinators-first.result + length c.new.result.items) (c.coordinators-first.result + c.shards-count.result) c.in-Err-open_at_once.fault
     (omega (arith, ap length c.new.ensures.items, c.coordinators-first.ensures.value)) (omega (arith, c.coordinators-first.ensures.value, c.shards-count.ensures.value))
@@ -71,18 +73,18 @@ returns-in-Err-open_at_once-clause-refusal g c =
 
 pub returns-in-Err-open_at_once-clause-held : goal.returns-in-Err-open_at_once-clause-held
 returns-in-Err-open_at_once-clause-held g c =
-    let Q : ℕ → LogOf g.row.R-Disk.Denot → Type 0 = λ n x. OfTold (g.R.Rack.held c.close_all.new.rack n) (λ now. now ≡ x.disk) in
+    let Q : ℕ → NodeOf g.row.R-Disk.Denot → Type 0 = λ n x. OfTold (g.R.Rack.held c.close_all.new.rack n) (λ now. now ≡ x.disk) in
     let count = c.in-Ok.ensures.logs.0 in
     let first = c.coordinators-first.ensures.value in
     let before = g.R.Rack.count c.args.rack.now in
     let after = g.R.Rack.count c.close_all.new.rack in
-    back_parts g.R.Disk.Disk.content g.R.Disk.Disk.images g.R.Disk.Disk.limit before after (g.R.Rack.count c.open_logs.new.rack) (g.R.Rack.count c.open_at_once.new.rack) (g.R.Rack.held c.args.rack.now) (g.R.Rack.held c.open_logs.new.rack) (g.R.Rack.held c.close_all.new.rack)
+    back_parts g.R.Disk.Disk before after (g.R.Rack.count c.open_logs.new.rack) (g.R.Rack.count c.open_at_once.new.rack) (g.R.Rack.held c.args.rack.now) (g.R.Rack.held c.open_logs.new.rack) (g.R.Rack.held c.close_all.new.rack)
     c.in-Ok.opened.0.shape.coordinators (c.coordinators-first.result + c.shards-count.result)
     c.in-Ok.ensures.later c.close_all.ensures.later
     c.in-Ok.ensures.others_held
-    (λ n small. by_two (IsLogAt g.R.Disk.Disk.content g.R.Disk.Disk.images g.R.Disk.Disk.limit g.R.Disk.Disk.count (g.R.Rack.held c.args.rack.now) c.in-Ok.opened.0) Q
-    (λ k. IsBack g.R.Disk.Disk.content g.R.Disk.Disk.images g.R.Disk.Disk.limit (before k) (after k) (g.R.Rack.held c.args.rack.now k) (g.R.Rack.held c.close_all.new.rack k)) c.in-Ok.opened.1.items
-    (λ k x is put. log_back g.R.Disk.Disk.content g.R.Disk.Disk.images g.R.Disk.Disk.limit g.R.Disk.Disk.count (g.R.Rack.held c.args.rack.now) (g.R.Rack.held c.close_all.new.rack) (before k) (after k) c.in-Ok.opened.0 k x is put)
+    (λ n small. by_two (IsNodeAt g.R.Disk.Disk (g.R.Rack.held c.args.rack.now) IsCoord c.in-Ok.opened.0) Q
+    (λ k. IsBack g.R.Disk.Disk (before k) (after k) (g.R.Rack.held c.args.rack.now k) (g.R.Rack.held c.close_all.new.rack k)) c.in-Ok.opened.1.items
+    (λ k x is put. node_back g.R.Disk.Disk IsCoord (g.R.Rack.held c.args.rack.now) (g.R.Rack.held c.close_all.new.rack) (before k) (after k) c.in-Ok.opened.0 k x is put)
     c.in-Ok.ensures.opened (by_place Q c.in-Ok.opened.1.items c.close_all.ensures.closed) n (omega (arith, small, count)))
     (λ n ge lt was is now is_now. c.in-Err-open_at_once.ensures.held n (omega (arith, ge, first, ap length c.new.ensures.items)) lt was is now
     (sym (c.close_all.ensures.others_held n (inr (omega (arith, ge, count)))) ∙ is_now))
@@ -96,8 +98,8 @@ returns-in-Ok-open_at_once-clause-minted g c = c.in-Ok.ensures.minted
 
 pub returns-in-Ok-open_at_once-clause-shards_since : goal.returns-in-Ok-open_at_once-clause-shards_since
 returns-in-Ok-open_at_once-clause-shards_since g c =
-    let P = OpensShard g.R.Disk.Disk.content g.R.Disk.Disk.images g.R.Disk.Disk.limit g.R.Disk.Disk.count (g.R.Rack.held c.open_logs.new.rack) (g.R.Rack.count c.open_logs.new.rack) c.in-Ok.opened.0 in
+    let P = OpensNode g.R.Disk.Disk IsShardHeader (g.R.Rack.held c.open_logs.new.rack) (g.R.Rack.count c.open_logs.new.rack) c.in-Ok.opened.0 in
     let all : EachFrom P c.coordinators-first.result c.in-Ok-open_at_once.shards.items = closed_whole P c.coordinators-first.result c.new.result.items c.in-Ok-open_at_once.shards.items c.new.ensures.items c.in-Ok-open_at_once.ensures.opened in
-    shards_since g.R.Disk.Disk.content g.R.Disk.Disk.images g.R.Disk.Disk.limit g.R.Disk.Disk.count (g.R.Rack.held c.open_logs.new.rack) (g.R.Rack.count c.args.rack.now) (g.R.Rack.count c.open_logs.new.rack)
+    nodes_since g.R.Disk.Disk IsShardHeader (g.R.Rack.held c.open_logs.new.rack) (g.R.Rack.count c.args.rack.now) (g.R.Rack.count c.open_logs.new.rack)
     c.in-Ok.opened.0 c.in-Ok.opened.0.shape.coordinators c.in-Ok-open_at_once.shards.items c.in-Ok.ensures.later
     (subst (λ (k : ℕ). EachFrom P k c.in-Ok-open_at_once.shards.items) c.coordinators-first.ensures.value all)

@@ -1,17 +1,18 @@
 use Rattle.std.proofs.Common.{◌≡◌, ◌≤◌, ◌+◌, ℕ, List, length, ◌∙◌, sym, subst, ap, arith, inr}
 use Rattle.std.specs.Option.{option_copied}
 use Rattle.cbdc_model.specs.Records.{Header}
-use Rattle.coord_log.specs.Logs.{LogOf}
+use Rattle.node_journal.specs.Nodes.{NodeOf}
+use Rattle.coord_log.specs.Opening.{IsCoord}
 use Rattle.rack_ledgers.specs.Places.{EachFrom}
 use Rattle.rack_ledgers.specs.Racked.{OfTold, IsBack}
-use Rattle.rack_ledgers.specs.Ledgers.{IsLogAt, IsMintOf}
-use Rattle.rack_ledgers.proofs.Opened.{led_whole, logs_since, log_back}
+use Rattle.rack_ledgers.specs.Ledgers.{IsNodeAt, IsMintOf}
+use Rattle.rack_ledgers.proofs.Opened.{led_whole, logs_since, node_back}
 use Rattle.rack_ledgers.proofs.LedgerBacks.{back_one, back_parts}
 use Rattle.rack_ledgers.proofs.Lacks.{lacks_log}
 use Rattle.rack_ledgers.proofs.opening.open_logs.Goals as goal
 
 pub returns-in-Err-clause-held : goal.returns-in-Err-clause-held
-returns-in-Err-clause-held g c = back_one g.R.Disk.Disk.content g.R.Disk.Disk.images g.R.Disk.Disk.limit (g.R.Rack.count c.args.rack.now) (g.R.Rack.count c.open_lead.new.rack) (λ n. g.R.Rack.held c.args.rack.now n) (λ n. g.R.Rack.held c.open_lead.new.rack n) c.in-Err.ensures.held c.in-Err.ensures.others_held
+returns-in-Err-clause-held g c = back_one g.R.Disk.Disk (g.R.Rack.count c.args.rack.now) (g.R.Rack.count c.open_lead.new.rack) (λ n. g.R.Rack.held c.args.rack.now n) (λ n. g.R.Rack.held c.open_lead.new.rack n) c.in-Err.ensures.held c.in-Err.ensures.others_held
 
 pub open_at_once-requires-clause-waiting : goal.open_at_once-requires-clause-waiting
 open_at_once-requires-clause-waiting g c κs within = λ n ge lt.
@@ -32,10 +33,10 @@ returns-in-Ok-open_at_once-clause-first g c =
 
 pub returns-in-Ok-open_at_once-clause-opened : goal.returns-in-Ok-open_at_once-clause-opened
 returns-in-Ok-open_at_once-clause-opened g c =
-    led_whole g.R.Disk.Disk.content g.R.Disk.Disk.images g.R.Disk.Disk.limit g.R.Disk.Disk.count (g.R.Rack.held c.args.rack.now) (g.R.Rack.held c.lead_alone.new.rack) (g.R.Rack.count c.lead_alone.new.rack)
+    led_whole g.R.Disk.Disk IsCoord (g.R.Rack.held c.args.rack.now) (g.R.Rack.held c.lead_alone.new.rack) (g.R.Rack.count c.lead_alone.new.rack)
     c.header.result.now c.in-Ok.lead c.in-Ok-lead_alone.alone.items c.in-Ok-open_at_once.logs.items c.in-Ok-lead_alone.ensures.alone
     (λ n some. c.in-Ok-lead_alone.ensures.others_held n some ∙ c.in-Ok.ensures.others_held n (omega (arith, some)))
-    (subst (λ (k : Header). IsLogAt g.R.Disk.Disk.content g.R.Disk.Disk.images g.R.Disk.Disk.limit g.R.Disk.Disk.count (g.R.Rack.held c.args.rack.now) k 0 c.in-Ok.lead) (sym c.header.ensures.header) c.in-Ok.ensures.opened.1)
+    (subst (λ (k : Header). IsNodeAt g.R.Disk.Disk (g.R.Rack.held c.args.rack.now) IsCoord k 0 c.in-Ok.lead) (sym c.header.ensures.header) c.in-Ok.ensures.opened.1)
     c.in-Ok-open_at_once.ensures.opened
 
 pub returns-in-Ok-open_at_once-clause-others_held : goal.returns-in-Ok-open_at_once-clause-others_held
@@ -45,7 +46,7 @@ returns-in-Ok-open_at_once-clause-others_held g c = λ n ge.
 
 pub returns-in-Err-open_at_once-clause-refusal : goal.returns-in-Err-open_at_once-clause-refusal
 returns-in-Err-open_at_once-clause-refusal g c =
-    inr (inr (lacks_log g.R.Disk.Disk.content g.R.Disk.Disk.images g.R.Disk.Disk.limit g.R.Disk.Disk.count (g.R.Rack.held c.args.rack.now) (g.R.Rack.held c.lead_alone.new.rack)
+    inr (inr (lacks_log g.R.Disk.Disk (g.R.Rack.held c.args.rack.now) (g.R.Rack.held c.lead_alone.new.rack)
     (g.R.Rack.count c.args.rack.now) (g.R.Rack.count c.lead_alone.new.rack) (g.R.Rack.count c.open_at_once.new.rack) (g.R.Rack.count c.open_at_once.new.rack)
     c.header.result.now c.in-Ok.lead (option_copied c.args.id) (0 + length c.in-Ok-lead_alone.alone.items) (0 + c.coordinators-count.result) c.in-Err-open_at_once.fault
     (omega (arith, ap length c.in-Ok-lead_alone.ensures.alone)) (omega (arith, c.coordinators-count.ensures.value))
@@ -53,23 +54,23 @@ returns-in-Err-open_at_once-clause-refusal g c =
     (λ n. omega (arith, c.in-Ok.ensures.later n, c.in-Ok-lead_alone.ensures.later n)) (λ n. omega arith)
     (ap (λ (k : Header). k.node) c.header.ensures.header ∙ c.in-Ok.ensures.opened.0) c.coordinators-count.ensures.limits
     (subst (λ (k : Header). IsMintOf (option_copied c.args.id) k) (sym c.header.ensures.header) c.in-Ok.ensures.minted)
-    (subst (λ (k : Header). IsLogAt g.R.Disk.Disk.content g.R.Disk.Disk.images g.R.Disk.Disk.limit g.R.Disk.Disk.count (g.R.Rack.held c.args.rack.now) k 0 c.in-Ok.lead) (sym c.header.ensures.header) c.in-Ok.ensures.opened.1)
+    (subst (λ (k : Header). IsNodeAt g.R.Disk.Disk (g.R.Rack.held c.args.rack.now) IsCoord k 0 c.in-Ok.lead) (sym c.header.ensures.header) c.in-Ok.ensures.opened.1)
     c.in-Err-open_at_once.ensures.refusal))
 
 pub returns-in-Err-open_at_once-clause-held : goal.returns-in-Err-open_at_once-clause-held
 returns-in-Err-open_at_once-clause-held g c =
-    let lead = subst (λ (k : Header). IsLogAt g.R.Disk.Disk.content g.R.Disk.Disk.images g.R.Disk.Disk.limit g.R.Disk.Disk.count (g.R.Rack.held c.args.rack.now) k 0 c.in-Ok.lead) (sym c.header.ensures.header) c.in-Ok.ensures.opened.1 in
-    let Q : ℕ → LogOf g.row.R-Disk.Denot → Type 0 = λ n x. OfTold (g.R.Rack.held c.open_at_once.new.rack n) (λ now. now ≡ x.disk) in
+    let lead = subst (λ (k : Header). IsNodeAt g.R.Disk.Disk (g.R.Rack.held c.args.rack.now) IsCoord k 0 c.in-Ok.lead) (sym c.header.ensures.header) c.in-Ok.ensures.opened.1 in
+    let Q : ℕ → NodeOf g.row.R-Disk.Denot → Type 0 = λ n x. OfTold (g.R.Rack.held c.open_at_once.new.rack n) (λ now. now ≡ x.disk) in
     let put : OfTold (g.R.Rack.held c.open_at_once.new.rack 0) (λ now. now ≡ c.in-Ok.lead.disk) =
-    (subst (λ (l : List (LogOf g.row.R-Disk.Denot)). EachFrom Q 0 l) c.in-Ok-lead_alone.ensures.alone c.in-Err-open_at_once.ensures.closed).0 in
+    (subst (λ (l : List (NodeOf g.row.R-Disk.Denot)). EachFrom Q 0 l) c.in-Ok-lead_alone.ensures.alone c.in-Err-open_at_once.ensures.closed).0 in
     let before = g.R.Rack.count c.args.rack.now in
     let after = g.R.Rack.count c.open_at_once.new.rack in
-    let here : IsBack g.R.Disk.Disk.content g.R.Disk.Disk.images g.R.Disk.Disk.limit (before 0) (after 0) (g.R.Rack.held c.args.rack.now 0) (g.R.Rack.held c.open_at_once.new.rack 0) =
-    log_back g.R.Disk.Disk.content g.R.Disk.Disk.images g.R.Disk.Disk.limit g.R.Disk.Disk.count (g.R.Rack.held c.args.rack.now) (g.R.Rack.held c.open_at_once.new.rack) (before 0) (after 0) c.header.result.now 0 c.in-Ok.lead lead put in
-    back_parts g.R.Disk.Disk.content g.R.Disk.Disk.images g.R.Disk.Disk.limit before after (g.R.Rack.count c.lead_alone.new.rack) after (g.R.Rack.held c.args.rack.now) (g.R.Rack.held c.lead_alone.new.rack) (g.R.Rack.held c.open_at_once.new.rack) 1 c.coordinators-count.result
+    let here : IsBack g.R.Disk.Disk (before 0) (after 0) (g.R.Rack.held c.args.rack.now 0) (g.R.Rack.held c.open_at_once.new.rack 0) =
+    node_back g.R.Disk.Disk IsCoord (g.R.Rack.held c.args.rack.now) (g.R.Rack.held c.open_at_once.new.rack) (before 0) (after 0) c.header.result.now 0 c.in-Ok.lead lead put in
+    back_parts g.R.Disk.Disk before after (g.R.Rack.count c.lead_alone.new.rack) after (g.R.Rack.held c.args.rack.now) (g.R.Rack.held c.lead_alone.new.rack) (g.R.Rack.held c.open_at_once.new.rack) 1 c.coordinators-count.result
     (λ n. omega (arith, c.in-Ok.ensures.later n, c.in-Ok-lead_alone.ensures.later n)) (λ n. omega arith)
     (λ n some. c.in-Ok-lead_alone.ensures.others_held n some ∙ c.in-Ok.ensures.others_held n (omega (arith, some)))
-    (λ n small. let none : 0 ≡ n = omega (arith, small) in subst (λ (k : ℕ). IsBack g.R.Disk.Disk.content g.R.Disk.Disk.images g.R.Disk.Disk.limit (before k) (after k) (g.R.Rack.held c.args.rack.now k) (g.R.Rack.held c.open_at_once.new.rack k)) none here)
+    (λ n small. let none : 0 ≡ n = omega (arith, small) in subst (λ (k : ℕ). IsBack g.R.Disk.Disk (before k) (after k) (g.R.Rack.held c.args.rack.now k) (g.R.Rack.held c.open_at_once.new.rack k)) none here)
     (λ n ge lt. c.in-Err-open_at_once.ensures.held n (omega (arith, ge, ap length c.in-Ok-lead_alone.ensures.alone)) (omega (arith, lt)))
     (λ n ge above. c.in-Err-open_at_once.ensures.others_held n (inr (omega (arith, above))))
 
@@ -78,6 +79,6 @@ returns-in-Ok-open_at_once-clause-minted g c = subst (λ (k : Header). IsMintOf 
 
 pub returns-in-Ok-open_at_once-clause-since : goal.returns-in-Ok-open_at_once-clause-since
 returns-in-Ok-open_at_once-clause-since g c =
-    logs_since g.R.Disk.Disk.content g.R.Disk.Disk.images g.R.Disk.Disk.limit g.R.Disk.Disk.count (g.R.Rack.held c.lead_alone.new.rack) (g.R.Rack.count c.args.rack.now) (g.R.Rack.count c.lead_alone.new.rack)
+    logs_since g.R.Disk.Disk IsCoord (g.R.Rack.held c.lead_alone.new.rack) (g.R.Rack.count c.args.rack.now) (g.R.Rack.count c.lead_alone.new.rack)
     c.header.result.now c.in-Ok.lead c.in-Ok-lead_alone.alone.items c.in-Ok-open_at_once.logs.items c.in-Ok-lead_alone.ensures.alone
     (λ n. omega (arith, c.in-Ok.ensures.later n, c.in-Ok-lead_alone.ensures.later n)) c.in-Ok.ensures.since c.in-Ok-open_at_once.ensures.opened

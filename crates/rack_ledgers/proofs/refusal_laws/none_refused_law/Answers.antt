@@ -5,8 +5,8 @@ use Rattle.rack_ledgers.proofs.refusal_laws.none_refused_law.Goals as goal
 pub returns : goal.returns
 returns g c = record {
   opened = λ K genesis J before now answer tell told room unopened.
-      none_refused g.R.Disk.Disk.content g.R.Disk.Disk.images g.R.Disk.Disk.limit g.R.Disk.Disk.count (g.R.Rack.held c.args.rack.now) before now K genesis J tell answer told room None tt unopened;
+      none_refused g.R.Disk.Disk (g.R.Rack.held c.args.rack.now) before now K genesis J tell answer told room None tt unopened;
   minted = λ K genesis J before now answer tell told room unopened.
-      none_refused g.R.Disk.Disk.content g.R.Disk.Disk.images g.R.Disk.Disk.limit g.R.Disk.Disk.count (g.R.Rack.held c.args.rack.now) before now K genesis J tell answer told room (Some genesis) refl unopened;
-  told = λ K genesis J limits opens tell. tell_told g.R.Disk.Disk.content (g.R.Rack.held c.args.rack.now) K genesis J limits opens tell;
+      none_refused g.R.Disk.Disk (g.R.Rack.held c.args.rack.now) before now K genesis J tell answer told room (Some genesis) refl unopened;
+  told = λ K genesis J limits opens tell. tell_told g.R.Disk.Disk (g.R.Rack.held c.args.rack.now) K genesis J limits opens tell;
 }

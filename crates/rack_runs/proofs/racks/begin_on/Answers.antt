@@ -11,11 +11,11 @@ use Rattle.rack_runs.proofs.racks.begin_on.Goals as goal
 
 pub ledger_of-ledger-requires : goal.ledger_of-ledger-requires
 ledger_of-ledger-requires g c =
-    is_ledger g.R.Disk.Disk.content g.R.Disk.Disk.images g.R.Disk.Disk.limit g.R.Disk.Disk.count (g.R.Rack.held c.args.rack.now) c.in-Ok.nodes.header c.in-Ok.nodes.logs.items c.in-Ok.nodes.shards.items c.in-Ok.ensures.opened
+    is_ledger g.R.Disk.Disk (g.R.Rack.held c.args.rack.now) c.in-Ok.nodes.header c.in-Ok.nodes.logs.items c.in-Ok.nodes.shards.items c.in-Ok.ensures.opened
 
 pub test-requires : goal.test-requires
-test-requires g c = subst (λ l. IsChecked g.R.Disk.Disk.count g.R.Disk.Disk.limit l) (sym c.ledger_of-ledger.ensures)
-    (opened_checked g.R.Disk.Disk.content g.R.Disk.Disk.images g.R.Disk.Disk.limit g.R.Disk.Disk.count (g.R.Rack.held c.args.rack.now) c.in-Ok.nodes.header c.in-Ok.nodes.logs.items c.in-Ok.nodes.shards.items c.in-Ok.ensures.opened c.in-Ok.ensures.caused)
+test-requires g c = subst (λ l. IsChecked l) (sym c.ledger_of-ledger.ensures)
+    (opened_checked g.R.Disk.Disk (g.R.Rack.held c.args.rack.now) c.in-Ok.nodes.header c.in-Ok.nodes.logs.items c.in-Ok.nodes.shards.items c.in-Ok.ensures.opened c.in-Ok.ensures.caused)
 
 -- ---- the work's own test refuses the ledger
 
@@ -23,36 +23,36 @@ pub close_nodes-requires-clause-few : goal.close_nodes-requires-clause-few
 close_nodes-requires-clause-few g c =
     let o = c.in-Ok.ensures in
     let e = at_entry (g.R.Rack.held c.args.rack.now) (g.R.Rack.count c.args.rack.now) c.in-Ok.nodes.header c.in-Ok.nodes.logs.items c.in-Ok.nodes.shards.items in
-    let begun = is_open g.R.Disk.Disk.content g.R.Disk.Disk.images g.R.Disk.Disk.limit g.R.Disk.Disk.count e (g.R.Rack.held c.open_caused.new.rack) (g.R.Rack.can_put c.open_caused.new.rack) (g.R.Rack.can_take c.open_caused.new.rack) o.opened o.caused o.few o.logs_since o.shards_since o.logs o.shards o.others_held o.others_in in
-    back_few g.R.Disk.Disk.content g.R.Disk.Disk.images g.R.Disk.Disk.limit g.R.Disk.Disk.count e (g.R.Rack.held c.open_caused.new.rack) (g.R.Rack.can_put c.open_caused.new.rack) (g.R.Rack.can_take c.open_caused.new.rack) begun c.ledger_of-ledger.result (ledger_of c.nodes_of.result.header c.nodes_of.result.logs.items c.nodes_of.result.shards.items) c.ledger_of-ledger.ensures c.nodes_of.ensures.same
+    let begun = is_open g.R.Disk.Disk e (g.R.Rack.held c.open_caused.new.rack) (g.R.Rack.can_put c.open_caused.new.rack) (g.R.Rack.can_take c.open_caused.new.rack) o.opened o.caused o.few o.logs_since o.shards_since o.logs o.shards o.others_held o.others_in in
+    back_few g.R.Disk.Disk e (g.R.Rack.held c.open_caused.new.rack) (g.R.Rack.can_put c.open_caused.new.rack) (g.R.Rack.can_take c.open_caused.new.rack) begun c.ledger_of-ledger.result (ledger_of c.nodes_of.result.header c.nodes_of.result.logs.items c.nodes_of.result.shards.items) c.ledger_of-ledger.ensures c.nodes_of.ensures.same
 
 pub close_nodes-requires-clause-logs : goal.close_nodes-requires-clause-logs
 close_nodes-requires-clause-logs g c =
     let o = c.in-Ok.ensures in
     let e = at_entry (g.R.Rack.held c.args.rack.now) (g.R.Rack.count c.args.rack.now) c.in-Ok.nodes.header c.in-Ok.nodes.logs.items c.in-Ok.nodes.shards.items in
-    let begun = is_open g.R.Disk.Disk.content g.R.Disk.Disk.images g.R.Disk.Disk.limit g.R.Disk.Disk.count e (g.R.Rack.held c.open_caused.new.rack) (g.R.Rack.can_put c.open_caused.new.rack) (g.R.Rack.can_take c.open_caused.new.rack) o.opened o.caused o.few o.logs_since o.shards_since o.logs o.shards o.others_held o.others_in in
-    back_logs g.R.Disk.Disk.content g.R.Disk.Disk.images g.R.Disk.Disk.limit g.R.Disk.Disk.count e (g.R.Rack.held c.open_caused.new.rack) (g.R.Rack.can_put c.open_caused.new.rack) (g.R.Rack.can_take c.open_caused.new.rack) begun c.ledger_of-ledger.result (ledger_of c.nodes_of.result.header c.nodes_of.result.logs.items c.nodes_of.result.shards.items) c.ledger_of-ledger.ensures c.nodes_of.ensures.same
+    let begun = is_open g.R.Disk.Disk e (g.R.Rack.held c.open_caused.new.rack) (g.R.Rack.can_put c.open_caused.new.rack) (g.R.Rack.can_take c.open_caused.new.rack) o.opened o.caused o.few o.logs_since o.shards_since o.logs o.shards o.others_held o.others_in in
+    back_logs g.R.Disk.Disk e (g.R.Rack.held c.open_caused.new.rack) (g.R.Rack.can_put c.open_caused.new.rack) (g.R.Rack.can_take c.open_caused.new.rack) begun c.ledger_of-ledger.result (ledger_of c.nodes_of.result.header c.nodes_of.result.logs.items c.nodes_of.result.shards.items) c.ledger_of-ledger.ensures c.nodes_of.ensures.same
 
 pub close_nodes-requires-clause-shards : goal.close_nodes-requires-clause-shards
 close_nodes-requires-clause-shards g c =
     let o = c.in-Ok.ensures in
     let e = at_entry (g.R.Rack.held c.args.rack.now) (g.R.Rack.count c.args.rack.now) c.in-Ok.nodes.header c.in-Ok.nodes.logs.items c.in-Ok.nodes.shards.items in
-    let begun = is_open g.R.Disk.Disk.content g.R.Disk.Disk.images g.R.Disk.Disk.limit g.R.Disk.Disk.count e (g.R.Rack.held c.open_caused.new.rack) (g.R.Rack.can_put c.open_caused.new.rack) (g.R.Rack.can_take c.open_caused.new.rack) o.opened o.caused o.few o.logs_since o.shards_since o.logs o.shards o.others_held o.others_in in
-    back_shards g.R.Disk.Disk.content g.R.Disk.Disk.images g.R.Disk.Disk.limit g.R.Disk.Disk.count e (g.R.Rack.held c.open_caused.new.rack) (g.R.Rack.can_put c.open_caused.new.rack) (g.R.Rack.can_take c.open_caused.new.rack) begun c.ledger_of-ledger.result (ledger_of c.nodes_of.result.header c.nodes_of.result.logs.items c.nodes_of.result.shards.items) c.ledger_of-ledger.ensures c.nodes_of.ensures.same
+    let begun = is_open g.R.Disk.Disk e (g.R.Rack.held c.open_caused.new.rack) (g.R.Rack.can_put c.open_caused.new.rack) (g.R.Rack.can_take c.open_caused.new.rack) o.opened o.caused o.few o.logs_since o.shards_since o.logs o.shards o.others_held o.others_in in
+    back_shards g.R.Disk.Disk e (g.R.Rack.held c.open_caused.new.rack) (g.R.Rack.can_put c.open_caused.new.rack) (g.R.Rack.can_take c.open_caused.new.rack) begun c.ledger_of-ledger.result (ledger_of c.nodes_of.result.header c.nodes_of.result.logs.items c.nodes_of.result.shards.items) c.ledger_of-ledger.ensures c.nodes_of.ensures.same
 
 pub close_nodes-requires-clause-others : goal.close_nodes-requires-clause-others
 close_nodes-requires-clause-others g c =
     let o = c.in-Ok.ensures in
     let e = at_entry (g.R.Rack.held c.args.rack.now) (g.R.Rack.count c.args.rack.now) c.in-Ok.nodes.header c.in-Ok.nodes.logs.items c.in-Ok.nodes.shards.items in
-    let begun = is_open g.R.Disk.Disk.content g.R.Disk.Disk.images g.R.Disk.Disk.limit g.R.Disk.Disk.count e (g.R.Rack.held c.open_caused.new.rack) (g.R.Rack.can_put c.open_caused.new.rack) (g.R.Rack.can_take c.open_caused.new.rack) o.opened o.caused o.few o.logs_since o.shards_since o.logs o.shards o.others_held o.others_in in
-    back_others g.R.Disk.Disk.content g.R.Disk.Disk.images g.R.Disk.Disk.limit g.R.Disk.Disk.count e (g.R.Rack.held c.open_caused.new.rack) (g.R.Rack.can_put c.open_caused.new.rack) (g.R.Rack.can_take c.open_caused.new.rack) begun c.ledger_of-ledger.result (ledger_of c.nodes_of.result.header c.nodes_of.result.logs.items c.nodes_of.result.shards.items) c.ledger_of-ledger.ensures c.nodes_of.ensures.same
+    let begun = is_open g.R.Disk.Disk e (g.R.Rack.held c.open_caused.new.rack) (g.R.Rack.can_put c.open_caused.new.rack) (g.R.Rack.can_take c.open_caused.new.rack) o.opened o.caused o.few o.logs_since o.shards_since o.logs o.shards o.others_held o.others_in in
+    back_others g.R.Disk.Disk e (g.R.Rack.held c.open_caused.new.rack) (g.R.Rack.can_put c.open_caused.new.rack) (g.R.Rack.can_take c.open_caused.new.rack) begun c.ledger_of-ledger.result (ledger_of c.nodes_of.result.header c.nodes_of.result.logs.items c.nodes_of.result.shards.items) c.ledger_of-ledger.ensures c.nodes_of.ensures.same
 
 pub returns-in-Err-test-clause-stopped : goal.returns-in-Err-test-clause-stopped
 returns-in-Err-test-clause-stopped g c =
     let o = c.in-Ok.ensures in
     let e = at_entry (g.R.Rack.held c.args.rack.now) (g.R.Rack.count c.args.rack.now) c.in-Ok.nodes.header c.in-Ok.nodes.logs.items c.in-Ok.nodes.shards.items in
-    let begun = is_open g.R.Disk.Disk.content g.R.Disk.Disk.images g.R.Disk.Disk.limit g.R.Disk.Disk.count e (g.R.Rack.held c.open_caused.new.rack) (g.R.Rack.can_put c.open_caused.new.rack) (g.R.Rack.can_take c.open_caused.new.rack) o.opened o.caused o.few o.logs_since o.shards_since o.logs o.shards o.others_held o.others_in in
-    not_begun g.R.Disk.Disk.content g.R.Disk.Disk.images g.R.Disk.Disk.limit g.R.Disk.Disk.count e (g.R.Rack.held c.open_caused.new.rack) (g.R.Rack.can_put c.open_caused.new.rack) (g.R.Rack.can_take c.open_caused.new.rack) begun c.ledger_of-ledger.result (ledger_of c.nodes_of.result.header c.nodes_of.result.logs.items c.nodes_of.result.shards.items) c.ledger_of-ledger.ensures c.nodes_of.ensures.same (g.R.Rack.held c.close_nodes.new.rack)
+    let begun = is_open g.R.Disk.Disk e (g.R.Rack.held c.open_caused.new.rack) (g.R.Rack.can_put c.open_caused.new.rack) (g.R.Rack.can_take c.open_caused.new.rack) o.opened o.caused o.few o.logs_since o.shards_since o.logs o.shards o.others_held o.others_in in
+    not_begun g.R.Disk.Disk e (g.R.Rack.held c.open_caused.new.rack) (g.R.Rack.can_put c.open_caused.new.rack) (g.R.Rack.can_take c.open_caused.new.rack) begun c.ledger_of-ledger.result (ledger_of c.nodes_of.result.header c.nodes_of.result.logs.items c.nodes_of.result.shards.items) c.ledger_of-ledger.ensures c.nodes_of.ensures.same (g.R.Rack.held c.close_nodes.new.rack)
     (record { logs = c.close_nodes.ensures.closed_logs; shards = c.close_nodes.ensures.closed_shards; others = c.close_nodes.ensures.others_held })
     (g.K.Work.deed c.args.work.now) (g.K.Work.tests c.args.work.now) (g.R.Rack.count c.close_nodes.new.rack) c.in-Err-test.refusal c.in-Err-test.ensures.refuses
 
@@ -63,8 +63,8 @@ returns-in-Err-test-clause-later g c n = omega (arith, c.in-Ok.ensures.later n, 
 
 pub resume_ledger-ledger-requires : goal.resume_ledger-ledger-requires
 resume_ledger-ledger-requires g c = record {
-  checked = subst (λ l. IsChecked g.R.Disk.Disk.count g.R.Disk.Disk.limit l) (sym c.ledger_of-ledger.ensures)
-      (opened_checked g.R.Disk.Disk.content g.R.Disk.Disk.images g.R.Disk.Disk.limit g.R.Disk.Disk.count (g.R.Rack.held c.args.rack.now) c.in-Ok.nodes.header c.in-Ok.nodes.logs.items c.in-Ok.nodes.shards.items c.in-Ok.ensures.opened c.in-Ok.ensures.caused);
+  checked = subst (λ l. IsChecked l) (sym c.ledger_of-ledger.ensures)
+      (opened_checked g.R.Disk.Disk (g.R.Rack.held c.args.rack.now) c.in-Ok.nodes.header c.in-Ok.nodes.logs.items c.in-Ok.nodes.shards.items c.in-Ok.ensures.opened c.in-Ok.ensures.caused);
 }
 
 pub returns-in-Err-clause-stopped : goal.returns-in-Err-clause-stopped
@@ -74,64 +74,64 @@ pub returns-in-Ok-came-clause-begun : goal.returns-in-Ok-came-clause-begun
 returns-in-Ok-came-clause-begun g c =
     let o = c.in-Ok.ensures in
     let e = at_entry (g.R.Rack.held c.args.rack.now) (g.R.Rack.count c.args.rack.now) c.in-Ok.nodes.header c.in-Ok.nodes.logs.items c.in-Ok.nodes.shards.items in
-    let begun = is_open g.R.Disk.Disk.content g.R.Disk.Disk.images g.R.Disk.Disk.limit g.R.Disk.Disk.count e (g.R.Rack.held c.open_caused.new.rack) (g.R.Rack.can_put c.open_caused.new.rack) (g.R.Rack.can_take c.open_caused.new.rack) o.opened o.caused o.few o.logs_since o.shards_since o.logs o.shards o.others_held o.others_in in (
+    let begun = is_open g.R.Disk.Disk e (g.R.Rack.held c.open_caused.new.rack) (g.R.Rack.can_put c.open_caused.new.rack) (g.R.Rack.can_take c.open_caused.new.rack) o.opened o.caused o.few o.logs_since o.shards_since o.logs o.shards o.others_held o.others_in in (
       e,
       refl,
       refl,
       begun,
-      subst (λ k. HasResumed g.R.Disk.Disk.count g.R.Disk.Disk.limit g.R.Disk.Disk.content g.R.Disk.Disk.images (entry_ledger e) c.resume_ledger-ledger.result.ledger k) c.in-Ok-came.is
-          (subst (λ l. HasResumed g.R.Disk.Disk.count g.R.Disk.Disk.limit g.R.Disk.Disk.content g.R.Disk.Disk.images l c.resume_ledger-ledger.result.ledger c.resume_ledger-ledger.result.came) c.ledger_of-ledger.ensures c.resume_ledger-ledger.ensures),
-      subst (λ l. (g.K.Work.tests c.args.work.now).passes l.header.shape (journals g.R.Disk.Disk.count g.R.Disk.Disk.limit l)) c.ledger_of-ledger.ensures c.in_default.ensures.passes,
+      subst (λ k. HasResumed g.R.Disk.Disk (entry_ledger e) c.resume_ledger-ledger.result.ledger k) c.in-Ok-came.is
+          (subst (λ l. HasResumed g.R.Disk.Disk l c.resume_ledger-ledger.result.ledger c.resume_ledger-ledger.result.came) c.ledger_of-ledger.ensures c.resume_ledger-ledger.ensures),
+      subst (λ l. (g.K.Work.tests c.args.work.now).passes l.header.shape (journals l)) c.ledger_of-ledger.ensures c.in_default.ensures.passes,
     )
 
 pub close_nodes-requires-2-clause-few : goal.close_nodes-requires-2-clause-few
 close_nodes-requires-2-clause-few g c =
     let o = c.in-Ok.ensures in
     let e = at_entry (g.R.Rack.held c.args.rack.now) (g.R.Rack.count c.args.rack.now) c.in-Ok.nodes.header c.in-Ok.nodes.logs.items c.in-Ok.nodes.shards.items in
-    let begun = is_open g.R.Disk.Disk.content g.R.Disk.Disk.images g.R.Disk.Disk.limit g.R.Disk.Disk.count e (g.R.Rack.held c.open_caused.new.rack) (g.R.Rack.can_put c.open_caused.new.rack) (g.R.Rack.can_take c.open_caused.new.rack) o.opened o.caused o.few o.logs_since o.shards_since o.logs o.shards o.others_held o.others_in in
-    let has = stopped_come g.R.Disk.Disk.content g.R.Disk.Disk.images g.R.Disk.Disk.limit g.R.Disk.Disk.count e (g.R.Rack.held c.open_caused.new.rack) (g.R.Rack.can_put c.open_caused.new.rack) (g.R.Rack.can_take c.open_caused.new.rack) (g.K.Work.deed c.args.work.now) begun c.ledger_of-ledger.result c.resume_ledger-ledger.result.ledger c.ledger_of-ledger.ensures
+    let begun = is_open g.R.Disk.Disk e (g.R.Rack.held c.open_caused.new.rack) (g.R.Rack.can_put c.open_caused.new.rack) (g.R.Rack.can_take c.open_caused.new.rack) o.opened o.caused o.few o.logs_since o.shards_since o.logs o.shards o.others_held o.others_in in
+    let has = stopped_come g.R.Disk.Disk e (g.R.Rack.held c.open_caused.new.rack) (g.R.Rack.can_put c.open_caused.new.rack) (g.R.Rack.can_take c.open_caused.new.rack) (g.K.Work.deed c.args.work.now) begun c.ledger_of-ledger.result c.resume_ledger-ledger.result.ledger c.ledger_of-ledger.ensures
     c.resume_ledger-ledger.result.came c.in-Err-came.fault c.in-Err-came.is c.resume_ledger-ledger.ensures in
-    close_few g.R.Disk.Disk.content g.R.Disk.Disk.images g.R.Disk.Disk.limit g.R.Disk.Disk.count (g.K.Work.deed c.args.work.now) e (g.R.Rack.held c.open_caused.new.rack) (g.R.Rack.can_put c.open_caused.new.rack) (g.R.Rack.can_take c.open_caused.new.rack) c.nodes_of-nodes.result.header c.nodes_of-nodes.result.logs.items c.nodes_of-nodes.result.shards.items
+    close_few g.R.Disk.Disk (g.K.Work.deed c.args.work.now) e (g.R.Rack.held c.open_caused.new.rack) (g.R.Rack.can_put c.open_caused.new.rack) (g.R.Rack.can_take c.open_caused.new.rack) c.nodes_of-nodes.result.header c.nodes_of-nodes.result.logs.items c.nodes_of-nodes.result.shards.items
     c.nodes_of-nodes.ensures.ledger c.nodes_of-nodes.ensures.seen c.resume_ledger-ledger.result.ledger c.nodes_of-nodes.ensures.same [] (Err c.in-Err-came.fault) has
 
 pub close_nodes-requires-2-clause-logs : goal.close_nodes-requires-2-clause-logs
 close_nodes-requires-2-clause-logs g c =
     let o = c.in-Ok.ensures in
     let e = at_entry (g.R.Rack.held c.args.rack.now) (g.R.Rack.count c.args.rack.now) c.in-Ok.nodes.header c.in-Ok.nodes.logs.items c.in-Ok.nodes.shards.items in
-    let begun = is_open g.R.Disk.Disk.content g.R.Disk.Disk.images g.R.Disk.Disk.limit g.R.Disk.Disk.count e (g.R.Rack.held c.open_caused.new.rack) (g.R.Rack.can_put c.open_caused.new.rack) (g.R.Rack.can_take c.open_caused.new.rack) o.opened o.caused o.few o.logs_since o.shards_since o.logs o.shards o.others_held o.others_in in
-    let has = stopped_come g.R.Disk.Disk.content g.R.Disk.Disk.images g.R.Disk.Disk.limit g.R.Disk.Disk.count e (g.R.Rack.held c.open_caused.new.rack) (g.R.Rack.can_put c.open_caused.new.rack) (g.R.Rack.can_take c.open_caused.new.rack) (g.K.Work.deed c.args.work.now) begun c.ledger_of-ledger.result c.resume_ledger-ledger.result.ledger c.ledger_of-ledger.ensures
+    let begun = is_open g.R.Disk.Disk e (g.R.Rack.held c.open_caused.new.rack) (g.R.Rack.can_put c.open_caused.new.rack) (g.R.Rack.can_take c.open_caused.new.rack) o.opened o.caused o.few o.logs_since o.shards_since o.logs o.shards o.others_held o.others_in in
+    let has = stopped_come g.R.Disk.Disk e (g.R.Rack.held c.open_caused.new.rack) (g.R.Rack.can_put c.open_caused.new.rack) (g.R.Rack.can_take c.open_caused.new.rack) (g.K.Work.deed c.args.work.now) begun c.ledger_of-ledger.result c.resume_ledger-ledger.result.ledger c.ledger_of-ledger.ensures
     c.resume_ledger-ledger.result.came c.in-Err-came.fault c.in-Err-came.is c.resume_ledger-ledger.ensures in
-    close_logs g.R.Disk.Disk.content g.R.Disk.Disk.images g.R.Disk.Disk.limit g.R.Disk.Disk.count (g.K.Work.deed c.args.work.now) e (g.R.Rack.held c.open_caused.new.rack) (g.R.Rack.can_put c.open_caused.new.rack) (g.R.Rack.can_take c.open_caused.new.rack) c.nodes_of-nodes.result.header c.nodes_of-nodes.result.logs.items c.nodes_of-nodes.result.shards.items
+    close_logs g.R.Disk.Disk (g.K.Work.deed c.args.work.now) e (g.R.Rack.held c.open_caused.new.rack) (g.R.Rack.can_put c.open_caused.new.rack) (g.R.Rack.can_take c.open_caused.new.rack) c.nodes_of-nodes.result.header c.nodes_of-nodes.result.logs.items c.nodes_of-nodes.result.shards.items
     c.nodes_of-nodes.ensures.ledger c.nodes_of-nodes.ensures.seen c.resume_ledger-ledger.result.ledger c.nodes_of-nodes.ensures.same [] (Err c.in-Err-came.fault) has
 
 pub close_nodes-requires-2-clause-shards : goal.close_nodes-requires-2-clause-shards
 close_nodes-requires-2-clause-shards g c =
     let o = c.in-Ok.ensures in
     let e = at_entry (g.R.Rack.held c.args.rack.now) (g.R.Rack.count c.args.rack.now) c.in-Ok.nodes.header c.in-Ok.nodes.logs.items c.in-Ok.nodes.shards.items in
-    let begun = is_open g.R.Disk.Disk.content g.R.Disk.Disk.images g.R.Disk.Disk.limit g.R.Disk.Disk.count e (g.R.Rack.held c.open_caused.new.rack) (g.R.Rack.can_put c.open_caused.new.rack) (g.R.Rack.can_take c.open_caused.new.rack) o.opened o.caused o.few o.logs_since o.shards_since o.logs o.shards o.others_held o.others_in in
-    let has = stopped_come g.R.Disk.Disk.content g.R.Disk.Disk.images g.R.Disk.Disk.limit g.R.Disk.Disk.count e (g.R.Rack.held c.open_caused.new.rack) (g.R.Rack.can_put c.open_caused.new.rack) (g.R.Rack.can_take c.open_caused.new.rack) (g.K.Work.deed c.args.work.now) begun c.ledger_of-ledger.result c.resume_ledger-ledger.result.ledger c.ledger_of-ledger.ensures
+    let begun = is_open g.R.Disk.Disk e (g.R.Rack.held c.open_caused.new.rack) (g.R.Rack.can_put c.open_caused.new.rack) (g.R.Rack.can_take c.open_caused.new.rack) o.opened o.caused o.few o.logs_since o.shards_since o.logs o.shards o.others_held o.others_in in
+    let has = stopped_come g.R.Disk.Disk e (g.R.Rack.held c.open_caused.new.rack) (g.R.Rack.can_put c.open_caused.new.rack) (g.R.Rack.can_take c.open_caused.new.rack) (g.K.Work.deed c.args.work.now) begun c.ledger_of-ledger.result c.resume_ledger-ledger.result.ledger c.ledger_of-ledger.ensures
     c.resume_ledger-ledger.result.came c.in-Err-came.fault c.in-Err-came.is c.resume_ledger-ledger.ensures in
-    close_shards g.R.Disk.Disk.content g.R.Disk.Disk.images g.R.Disk.Disk.limit g.R.Disk.Disk.count (g.K.Work.deed c.args.work.now) e (g.R.Rack.held c.open_caused.new.rack) (g.R.Rack.can_put c.open_caused.new.rack) (g.R.Rack.can_take c.open_caused.new.rack) c.nodes_of-nodes.result.header c.nodes_of-nodes.result.logs.items c.nodes_of-nodes.result.shards.items
+    close_shards g.R.Disk.Disk (g.K.Work.deed c.args.work.now) e (g.R.Rack.held c.open_caused.new.rack) (g.R.Rack.can_put c.open_caused.new.rack) (g.R.Rack.can_take c.open_caused.new.rack) c.nodes_of-nodes.result.header c.nodes_of-nodes.result.logs.items c.nodes_of-nodes.result.shards.items
     c.nodes_of-nodes.ensures.ledger c.nodes_of-nodes.ensures.seen c.resume_ledger-ledger.result.ledger c.nodes_of-nodes.ensures.same [] (Err c.in-Err-came.fault) has
 
 pub close_nodes-requires-2-clause-others : goal.close_nodes-requires-2-clause-others
 close_nodes-requires-2-clause-others g c =
     let o = c.in-Ok.ensures in
     let e = at_entry (g.R.Rack.held c.args.rack.now) (g.R.Rack.count c.args.rack.now) c.in-Ok.nodes.header c.in-Ok.nodes.logs.items c.in-Ok.nodes.shards.items in
-    let begun = is_open g.R.Disk.Disk.content g.R.Disk.Disk.images g.R.Disk.Disk.limit g.R.Disk.Disk.count e (g.R.Rack.held c.open_caused.new.rack) (g.R.Rack.can_put c.open_caused.new.rack) (g.R.Rack.can_take c.open_caused.new.rack) o.opened o.caused o.few o.logs_since o.shards_since o.logs o.shards o.others_held o.others_in in
-    let has = stopped_come g.R.Disk.Disk.content g.R.Disk.Disk.images g.R.Disk.Disk.limit g.R.Disk.Disk.count e (g.R.Rack.held c.open_caused.new.rack) (g.R.Rack.can_put c.open_caused.new.rack) (g.R.Rack.can_take c.open_caused.new.rack) (g.K.Work.deed c.args.work.now) begun c.ledger_of-ledger.result c.resume_ledger-ledger.result.ledger c.ledger_of-ledger.ensures
+    let begun = is_open g.R.Disk.Disk e (g.R.Rack.held c.open_caused.new.rack) (g.R.Rack.can_put c.open_caused.new.rack) (g.R.Rack.can_take c.open_caused.new.rack) o.opened o.caused o.few o.logs_since o.shards_since o.logs o.shards o.others_held o.others_in in
+    let has = stopped_come g.R.Disk.Disk e (g.R.Rack.held c.open_caused.new.rack) (g.R.Rack.can_put c.open_caused.new.rack) (g.R.Rack.can_take c.open_caused.new.rack) (g.K.Work.deed c.args.work.now) begun c.ledger_of-ledger.result c.resume_ledger-ledger.result.ledger c.ledger_of-ledger.ensures
     c.resume_ledger-ledger.result.came c.in-Err-came.fault c.in-Err-came.is c.resume_ledger-ledger.ensures in
-    close_others g.R.Disk.Disk.content g.R.Disk.Disk.images g.R.Disk.Disk.limit g.R.Disk.Disk.count (g.K.Work.deed c.args.work.now) e (g.R.Rack.held c.open_caused.new.rack) (g.R.Rack.can_put c.open_caused.new.rack) (g.R.Rack.can_take c.open_caused.new.rack) c.nodes_of-nodes.result.header c.nodes_of-nodes.result.logs.items c.nodes_of-nodes.result.shards.items
+    close_others g.R.Disk.Disk (g.K.Work.deed c.args.work.now) e (g.R.Rack.held c.open_caused.new.rack) (g.R.Rack.can_put c.open_caused.new.rack) (g.R.Rack.can_take c.open_caused.new.rack) c.nodes_of-nodes.result.header c.nodes_of-nodes.result.logs.items c.nodes_of-nodes.result.shards.items
     c.nodes_of-nodes.ensures.ledger c.nodes_of-nodes.ensures.seen c.resume_ledger-ledger.result.ledger c.nodes_of-nodes.ensures.same [] (Err c.in-Err-came.fault) has
 
 pub returns-clause-stopped : goal.returns-clause-stopped
 returns-clause-stopped g c =
     let o = c.in-Ok.ensures in
     let e = at_entry (g.R.Rack.held c.args.rack.now) (g.R.Rack.count c.args.rack.now) c.in-Ok.nodes.header c.in-Ok.nodes.logs.items c.in-Ok.nodes.shards.items in
-    let begun = is_open g.R.Disk.Disk.content g.R.Disk.Disk.images g.R.Disk.Disk.limit g.R.Disk.Disk.count e (g.R.Rack.held c.open_caused.new.rack) (g.R.Rack.can_put c.open_caused.new.rack) (g.R.Rack.can_take c.open_caused.new.rack) o.opened o.caused o.few o.logs_since o.shards_since o.logs o.shards o.others_held o.others_in in
-    let has = stopped_come g.R.Disk.Disk.content g.R.Disk.Disk.images g.R.Disk.Disk.limit g.R.Disk.Disk.count e (g.R.Rack.held c.open_caused.new.rack) (g.R.Rack.can_put c.open_caused.new.rack) (g.R.Rack.can_take c.open_caused.new.rack) (g.K.Work.deed c.args.work.now) begun c.ledger_of-ledger.result c.resume_ledger-ledger.result.ledger c.ledger_of-ledger.ensures
+    let begun = is_open g.R.Disk.Disk e (g.R.Rack.held c.open_caused.new.rack) (g.R.Rack.can_put c.open_caused.new.rack) (g.R.Rack.can_take c.open_caused.new.rack) o.opened o.caused o.few o.logs_since o.shards_since o.logs o.shards o.others_held o.others_in in
+    let has = stopped_come g.R.Disk.Disk e (g.R.Rack.held c.open_caused.new.rack) (g.R.Rack.can_put c.open_caused.new.rack) (g.R.Rack.can_take c.open_caused.new.rack) (g.K.Work.deed c.args.work.now) begun c.ledger_of-ledger.result c.resume_ledger-ledger.result.ledger c.ledger_of-ledger.ensures
     c.resume_ledger-ledger.result.came c.in-Err-came.fault c.in-Err-came.is c.resume_ledger-ledger.ensures in
-    inl (closed g.R.Disk.Disk.content g.R.Disk.Disk.images g.R.Disk.Disk.limit g.R.Disk.Disk.count (g.K.Work.deed c.args.work.now) e (g.R.Rack.held c.open_caused.new.rack) (g.R.Rack.can_put c.open_caused.new.rack) (g.R.Rack.can_take c.open_caused.new.rack) c.nodes_of-nodes.result.header c.nodes_of-nodes.result.logs.items c.nodes_of-nodes.result.shards.items
+    inl (closed g.R.Disk.Disk (g.K.Work.deed c.args.work.now) e (g.R.Rack.held c.open_caused.new.rack) (g.R.Rack.can_put c.open_caused.new.rack) (g.R.Rack.can_take c.open_caused.new.rack) c.nodes_of-nodes.result.header c.nodes_of-nodes.result.logs.items c.nodes_of-nodes.result.shards.items
     c.nodes_of-nodes.ensures.ledger c.nodes_of-nodes.ensures.seen c.resume_ledger-ledger.result.ledger c.nodes_of-nodes.ensures.same [] (Err c.in-Err-came.fault) has
     (g.R.Rack.held c.close_nodes-2.new.rack) c.close_nodes-2.ensures.closed_logs c.close_nodes-2.ensures.closed_shards (g.R.Rack.count c.close_nodes-2.new.rack) c.close_nodes-2.ensures.counted_logs c.close_nodes-2.ensures.counted_shards
     c.close_nodes-2.ensures.others_held (Err c.answer_of.result) (inr (c.in-Err-came.fault, refl, c.answer_of.ensures)) tt tt c.requires.fit).stopped

@@ -3,7 +3,7 @@ use Rattle.file_runs.specs.Ledgers.{IsChecked}
 use Rattle.rack_runs.proofs.resuming.resume_ledger.Goals as goal
 
 pub resume_all-came-requires : goal.resume_all-came-requires
-resume_all-came-requires g c = subst (λ l. IsChecked g.D.Disk.count g.D.Disk.limit l) (sym c.lend-lent.ensures) c.requires.checked
+resume_all-came-requires g c = subst (λ l. IsChecked l) (sym c.lend-lent.ensures) c.requires.checked
 
 pub returns : goal.returns
 returns g c =

@@ -36,7 +36,7 @@ returns-in-Err-run_on-clause-why g c = inr (
 
 pub returns-in-Err-run_on-clause-untouched : goal.returns-in-Err-run_on-clause-untouched
 returns-in-Err-run_on-clause-untouched g c before =
-    absurd (not_turned g.R.Disk.Disk.content g.R.Disk.Disk.images g.R.Disk.Disk.limit g.R.Disk.Disk.count (g.R.Rack.held c.args.rack.now) (g.R.Rack.held c.run_on.new.rack) (g.R.Rack.count c.args.rack.now) (g.R.Rack.count c.run_on.new.rack)
+    absurd (not_turned g.R.Disk.Disk (g.R.Rack.held c.args.rack.now) (g.R.Rack.held c.run_on.new.rack) (g.R.Rack.count c.args.rack.now) (g.R.Rack.count c.run_on.new.rack)
     (PieceNext (told c.in-Ok.inputs.verdicts) c.deref.result.now) (EndsRun (told c.in-Ok.inputs.verdicts) c.deref.result.now) (PiecesPrepared (told c.in-Ok.inputs.verdicts) c.deref.result.now) c.deref.result.now c.in-Err-run_on.fault c.in-Err-run_on.ensures.stopped before)
 
 pub returns-in-Err-run_on-clause-left : goal.returns-in-Err-run_on-clause-left
@@ -45,6 +45,6 @@ returns-in-Err-run_on-clause-left g c = inr (
   subst (λ txs. AreRead (g.I.Inbox.file c.args.inbox.now) 0 c.args.clients.now txs) (sym c.deref.ensures.value) c.in-Ok.ensures.read,
   c.in-Ok.inputs.verdicts,
   c.in-Ok.ensures.verdicts,
-  turns_leave g.R.Disk.Disk.content g.R.Disk.Disk.images g.R.Disk.Disk.limit g.R.Disk.Disk.count (g.R.Rack.held c.args.rack.now) (g.R.Rack.held c.run_on.new.rack) (g.R.Rack.count c.args.rack.now) (g.R.Rack.count c.run_on.new.rack)
+  turns_leave g.R.Disk.Disk (g.R.Rack.held c.args.rack.now) (g.R.Rack.held c.run_on.new.rack) (g.R.Rack.count c.args.rack.now) (g.R.Rack.count c.run_on.new.rack)
       (PieceNext (told c.in-Ok.inputs.verdicts) c.deref.result.now) (EndsRun (told c.in-Ok.inputs.verdicts) c.deref.result.now) (PiecesPrepared (told c.in-Ok.inputs.verdicts) c.deref.result.now) c.deref.result.now c.in-Err-run_on.fault c.in-Err-run_on.ensures.stopped,
 )

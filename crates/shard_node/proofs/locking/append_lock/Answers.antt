@@ -1,9 +1,9 @@
 use Rattle.std.proofs.Common.{arith, sym, subst}
 use Rattle.shard_node.proofs.Keeps.{stays}
 use Rattle.shard_node.proofs.Locks.{HasTaken, size_exact, kept_exact, lock_full_is, taken_shard, lock_memory, lock_room, lock_wrote, lock_done, lock_left, lock_failed}
-use Rattle.shard_node.specs.Shards.{HoldsJournal, LeavesBetween}
+use Rattle.node_journal.specs.Nodes.{HoldsJournal, LeavesBetween}
 use Rattle.shard_node.specs.Parts.{view_of}
-use Rattle.shard_node.proofs.Leaving.{same_view, still}
+use Rattle.node_journal.proofs.Leaving.{still, shown_same}
 use Rattle.shard_node.proofs.locking.append_lock.Goals as goal
 
 pub overflow_add-later-2 : goal.overflow_add-later-2
@@ -100,17 +100,17 @@ returns-in-Err-write-clause-meets g c =
 
 pub returns-in-Ok-write-clause-leaves : goal.returns-in-Ok-write-clause-leaves
 returns-in-Ok-write-clause-leaves g c =
-    let seen = same_view c.args.parts.now c.take_memory.new.log c.take_memory.new.memory c.take_memory.ensures.untouched c.take_memory.ensures.records c.take_memory.ensures.header in
+    let seen = shown_same c.args.parts.now.log c.take_memory.new.log c.args.parts.now.opened c.args.parts.now.flight c.take_memory.ensures.untouched c.take_memory.ensures.records c.take_memory.ensures.header in
     subst (λ v. HoldsJournal g.D.Disk.content g.D.Disk.images v → LeavesBetween g.D.Disk.tells_past g.D.Disk.moment g.D.Disk.images_since g.D.Disk.images v (view_of c.write.new.parts)) seen c.write.ensures.leaves
 
 pub returns-in-Err-write-clause-leaves : goal.returns-in-Err-write-clause-leaves
 returns-in-Err-write-clause-leaves g c =
-    let seen = same_view c.args.parts.now c.take_memory.new.log c.take_memory.new.memory c.take_memory.ensures.untouched c.take_memory.ensures.records c.take_memory.ensures.header in
+    let seen = shown_same c.args.parts.now.log c.take_memory.new.log c.args.parts.now.opened c.args.parts.now.flight c.take_memory.ensures.untouched c.take_memory.ensures.records c.take_memory.ensures.header in
     subst (λ v. HoldsJournal g.D.Disk.content g.D.Disk.images v → LeavesBetween g.D.Disk.tells_past g.D.Disk.moment g.D.Disk.images_since g.D.Disk.images v (view_of c.write.new.parts)) seen c.write.ensures.leaves
 
 pub returns-in-Err-clause-leaves : goal.returns-in-Err-clause-leaves
 returns-in-Err-clause-leaves g c = λ holds.
-    let seen = same_view c.args.parts.now c.take_memory.new.log c.take_memory.new.memory c.take_memory.ensures.untouched c.take_memory.ensures.records c.take_memory.ensures.header in
+    let seen = shown_same c.args.parts.now.log c.take_memory.new.log c.args.parts.now.opened c.args.parts.now.flight c.take_memory.ensures.untouched c.take_memory.ensures.records c.take_memory.ensures.header in
     subst (λ v. LeavesBetween g.D.Disk.tells_past g.D.Disk.moment g.D.Disk.images_since g.D.Disk.images (view_of c.args.parts.now) v) (sym seen)
     (still g.D.Disk (view_of c.args.parts.now) (g.met.D.Disk.only_now c.args.parts.now.log.journal.disk) holds)
 

@@ -1,6 +1,6 @@
 use Rattle.shard_node.proofs.Keeps.{made_room}
 use Rattle.shard_node.specs.Parts.{view_of}
-use Rattle.shard_node.proofs.Leaving.{still}
+use Rattle.node_journal.proofs.Leaving.{still}
 use Rattle.shard_node.proofs.locking.lock_parts.Goals as goal
 
 pub append_lock-requires-clause-shard : goal.append_lock-requires-clause-shard

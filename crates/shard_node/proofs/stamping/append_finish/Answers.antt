@@ -1,7 +1,7 @@
 use Rattle.std.proofs.Common.{◌≡◌, ◌∙◌, arith}
 use Rattle.shard_node.proofs.Stamps.{finish_decisions, finish_memory, finish_room, finish_wrote, finish_done, finish_left, finish_failed}
 use Rattle.shard_node.specs.Parts.{view_of}
-use Rattle.shard_node.proofs.Leaving.{still}
+use Rattle.node_journal.proofs.Leaving.{still}
 use Rattle.shard_node.proofs.stamping.append_finish.Goals as goal
 
 pub take_decisions-decisions-requires-clause-room : goal.take_decisions-decisions-requires-clause-room

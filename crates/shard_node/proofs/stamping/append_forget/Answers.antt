@@ -1,7 +1,7 @@
 use Rattle.std.proofs.Common.{arith}
 use Rattle.shard_node.proofs.Stamps.{forget_memory, forget_room, forget_wrote, forget_done, forget_left, forget_failed}
 use Rattle.shard_node.specs.Parts.{view_of}
-use Rattle.shard_node.proofs.Leaving.{still}
+use Rattle.node_journal.proofs.Leaving.{still}
 use Rattle.shard_node.proofs.stamping.append_forget.Goals as goal
 
 pub write-requires-clause-memory : goal.write-requires-clause-memory

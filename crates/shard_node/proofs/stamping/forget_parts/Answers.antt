@@ -1,5 +1,5 @@
 use Rattle.shard_node.specs.Parts.{view_of}
-use Rattle.shard_node.proofs.Leaving.{still}
+use Rattle.node_journal.proofs.Leaving.{still}
 use Rattle.shard_node.proofs.stamping.forget_parts.Goals as goal
 
 pub returns-in-Some-clause-leaves : goal.returns-in-Some-clause-leaves

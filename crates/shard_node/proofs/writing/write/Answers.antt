@@ -1,7 +1,7 @@
-use Rattle.std.proofs.Common.{◌+◌, ◌∷◌, ◌++◌, [], List, Some, refl, ap, ◌∙◌}
+use Rattle.std.proofs.Common.{◌+◌, ◌∷◌, ◌++◌, [], List, Err, refl, ap, ◌∙◌}
 use Rattle.gate_journal.specs.Shown.{gate_of, broken_of}
 use Rattle.cbdc_model.specs.Records.{Record}
-use Rattle.shard_node.proofs.Leaving.{all_held, written_between, failed_between}
+use Rattle.node_journal.proofs.Leaving.{to_journal, from_journal, to_broken, written_between, failed_between}
 use Rattle.shard_node.proofs.writing.write.Goals as goal
 
 pub returns-in-Ok-clause-written : goal.returns-in-Ok-clause-written
@@ -20,13 +20,28 @@ returns-in-Ok-clause-written g c = record {
   room = λ count bytes has. c.keep.ensures.room count bytes (c.write.ensures.keeps (count + 1) bytes has);
 }
 
+pub returns-in-Ok-clause-holds : goal.returns-in-Ok-clause-holds
+returns-in-Ok-clause-holds g c = λ old.
+    let p = c.args.parts.now in
+    let written = c.in-Ok.ensures.written p.log.records.items (from_journal p.log p.opened p.flight c.requires.whole old) in
+    let kept = c.keep.ensures.kept ∙ ap (λ (l : List Record). l ++ c.args.next ∷ []) c.write.ensures.records in
+    to_journal c.keep.new.self p.opened p.flight c.requires.landed (rw (c.keep.ensures.journal, kept) written)
+
 pub returns-in-Ok-clause-leaves : goal.returns-in-Ok-clause-leaves
 returns-in-Ok-clause-leaves g c = λ holds.
-    let left = c.write.ensures.leaves c.args.parts.now.log.records.items (all_held c.args.parts.now c.requires.landed holds) in
-    written_between c.args.parts.now (record c.args.parts.now { log = c.keep.new.self; core = c.apply.new.core }) c.args.next c.requires.landed (c.keep.ensures.kept ∙ ap (λ (l : List Record). l ++ c.args.next ∷ []) c.write.ensures.records) refl
+    let p = c.args.parts.now in
+    let left = c.write.ensures.leaves p.log.records.items (from_journal p.log p.opened p.flight c.requires.whole holds) in
+    written_between p.log c.keep.new.self p.opened p.flight c.args.next c.requires.landed (c.keep.ensures.kept ∙ ap (λ (l : List Record). l ++ c.args.next ∷ []) c.write.ensures.records)
     (rw c.keep.ensures.journal left)
+
+pub returns-in-Err-DiskFault-clause-holds : goal.returns-in-Err-DiskFault-clause-holds
+returns-in-Err-DiskFault-clause-holds g c = λ old.
+    let p = c.args.parts.now in
+    let left = c.write.ensures.leaves p.log.records.items (from_journal p.log p.opened p.flight c.requires.whole old) in
+    to_broken c.write.new.self p.log.records.items p.opened c.args.next c.write.ensures.records (c.write.ensures.broken (c.in-Err-DiskFault.is ∙ ap (λ e. Err e) c.in-Err-DiskFault.field-0-is)) left.now
 
 pub returns-in-Err-DiskFault-clause-leaves : goal.returns-in-Err-DiskFault-clause-leaves
 returns-in-Err-DiskFault-clause-leaves g c = λ holds.
-    let left = c.write.ensures.leaves c.args.parts.now.log.records.items (all_held c.args.parts.now c.requires.landed holds) in
-    failed_between c.args.parts.now (record c.args.parts.now { log = c.write.new.self; flight = Some c.args.next }) c.args.next c.write.ensures.records refl left
+    let p = c.args.parts.now in
+    let left = c.write.ensures.leaves p.log.records.items (from_journal p.log p.opened p.flight c.requires.whole holds) in
+    failed_between p.log c.write.new.self p.opened p.flight c.args.next c.write.ensures.records left

@@ -11,7 +11,7 @@ use Rattle.status_command.proofs.looking.status.Goals as goal
 
 pub returns-in-Err-clause-why : goal.returns-in-Err-clause-why
 returns-in-Err-clause-why g c =
-    told (WhyNoStatus g.R.Disk.Disk.content g.R.Disk.Disk.images g.R.Disk.Disk.limit g.R.Disk.Disk.count (g.R.Rack.held c.args.rack.now) (g.R.Rack.held c.open_nodes.new.rack) (g.R.Rack.count c.args.rack.now) (g.R.Rack.count c.open_nodes.new.rack)) c.in-Err.fault (c.in-Err.ensures.refusal, c.in-Err.ensures.held)
+    told (WhyNoStatus g.R.Disk.Disk (g.R.Rack.held c.args.rack.now) (g.R.Rack.held c.open_nodes.new.rack) (g.R.Rack.count c.args.rack.now) (g.R.Rack.count c.open_nodes.new.rack)) c.in-Err.fault (c.in-Err.ensures.refusal, c.in-Err.ensures.held)
 
 pub returns-in-Ok-write_statuses-clause-did : goal.returns-in-Ok-write_statuses-clause-did
 returns-in-Ok-write_statuses-clause-did g c well =
@@ -19,9 +19,9 @@ returns-in-Ok-write_statuses-clause-did g c well =
     let nodes = c.in-Ok.nodes in
     let printed = IsPrinted (g.O.Sink.taken c.args.out.now) (g.O.Sink.taken c.write_statuses.new.out) answers.Ok in
     let few : length c.in-Ok.nodes.shards.items ≤ 64 =
-    few_shards g.R.Disk.Disk.content g.R.Disk.Disk.images g.R.Disk.Disk.limit g.R.Disk.Disk.count held nodes.header nodes.logs.items nodes.shards.items c.in-Ok.ensures.opened in
+    few_shards g.R.Disk.Disk held nodes.header nodes.logs.items nodes.shards.items c.in-Ok.ensures.opened in
     let same : c.deref.result.now ≡ map (status_among c.in-Ok.nodes.shards.items) c.args.hashes.now = c.deref.ensures.value ∙ c.in-Ok-told.ensures few in
-    did_status g.R.Disk.Disk.content g.R.Disk.Disk.images g.R.Disk.Disk.limit g.R.Disk.Disk.count held nodes.header nodes.logs.items nodes.shards.items c.in-Ok.ensures.opened
+    did_status g.R.Disk.Disk held nodes.header nodes.logs.items nodes.shards.items c.in-Ok.ensures.opened
     (g.R.Rack.held c.open_nodes.new.rack) (g.R.Rack.held c.close_nodes.new.rack) c.in-Ok.ensures.others_held c.close_nodes.ensures.closed_logs c.close_nodes.ensures.closed_shards c.close_nodes.ensures.others_held
     printed c.args.hashes.now (subst (λ ss. printed (told_lines c.args.hashes.now ss)) same c.in-Ok-write_statuses.ensures.prints)
 
@@ -31,9 +31,9 @@ returns-clause-did g c well =
     let nodes = c.in-Ok.nodes in
     let printed = IsPrinted (g.O.Sink.taken c.args.out.now) (g.O.Sink.taken c.write_statuses.new.out) answers.WriteFault in
     let few : length c.in-Ok.nodes.shards.items ≤ 64 =
-    few_shards g.R.Disk.Disk.content g.R.Disk.Disk.images g.R.Disk.Disk.limit g.R.Disk.Disk.count held nodes.header nodes.logs.items nodes.shards.items c.in-Ok.ensures.opened in
+    few_shards g.R.Disk.Disk held nodes.header nodes.logs.items nodes.shards.items c.in-Ok.ensures.opened in
     let same : c.deref.result.now ≡ map (status_among c.in-Ok.nodes.shards.items) c.args.hashes.now = c.deref.ensures.value ∙ c.in-Ok-told.ensures few in
-    did_status g.R.Disk.Disk.content g.R.Disk.Disk.images g.R.Disk.Disk.limit g.R.Disk.Disk.count held nodes.header nodes.logs.items nodes.shards.items c.in-Ok.ensures.opened
+    did_status g.R.Disk.Disk held nodes.header nodes.logs.items nodes.shards.items c.in-Ok.ensures.opened
     (g.R.Rack.held c.open_nodes.new.rack) (g.R.Rack.held c.close_nodes.new.rack) c.in-Ok.ensures.others_held c.close_nodes.ensures.closed_logs c.close_nodes.ensures.closed_shards c.close_nodes.ensures.others_held
     printed c.args.hashes.now (subst (λ ss. printed (told_lines c.args.hashes.now ss)) same c.in-Err-write_statuses.ensures.prints)
 
@@ -45,19 +45,19 @@ returns-in-Err-clause-untouched g c before = absurd (not_refused c.in-Err.fault 
 
 pub returns-in_default-clause-left : goal.returns-in_default-clause-left
 returns-in_default-clause-left g c =
-    all_back g.R.Disk.Disk.content g.R.Disk.Disk.images g.R.Disk.Disk.limit g.R.Disk.Disk.count (g.R.Rack.held c.args.rack.now) c.in-Ok.nodes.header c.in-Ok.nodes.logs.items c.in-Ok.nodes.shards.items c.in-Ok.ensures.opened
+    all_back g.R.Disk.Disk (g.R.Rack.held c.args.rack.now) c.in-Ok.nodes.header c.in-Ok.nodes.logs.items c.in-Ok.nodes.shards.items c.in-Ok.ensures.opened
     (g.R.Rack.held c.open_nodes.new.rack) (g.R.Rack.held c.close_nodes.new.rack) c.in-Ok.ensures.others_held c.close_nodes.ensures.closed_logs c.close_nodes.ensures.closed_shards c.close_nodes.ensures.others_held
     (g.R.Rack.count c.args.rack.now) (g.R.Rack.count c.close_nodes.new.rack)
 
 pub returns-in-Ok-write_statuses-clause-left : goal.returns-in-Ok-write_statuses-clause-left
 returns-in-Ok-write_statuses-clause-left g c =
-    all_back g.R.Disk.Disk.content g.R.Disk.Disk.images g.R.Disk.Disk.limit g.R.Disk.Disk.count (g.R.Rack.held c.args.rack.now) c.in-Ok.nodes.header c.in-Ok.nodes.logs.items c.in-Ok.nodes.shards.items c.in-Ok.ensures.opened
+    all_back g.R.Disk.Disk (g.R.Rack.held c.args.rack.now) c.in-Ok.nodes.header c.in-Ok.nodes.logs.items c.in-Ok.nodes.shards.items c.in-Ok.ensures.opened
     (g.R.Rack.held c.open_nodes.new.rack) (g.R.Rack.held c.close_nodes.new.rack) c.in-Ok.ensures.others_held c.close_nodes.ensures.closed_logs c.close_nodes.ensures.closed_shards c.close_nodes.ensures.others_held
     (g.R.Rack.count c.args.rack.now) (g.R.Rack.count c.close_nodes.new.rack)
 
 pub returns-clause-left : goal.returns-clause-left
 returns-clause-left g c =
-    all_back g.R.Disk.Disk.content g.R.Disk.Disk.images g.R.Disk.Disk.limit g.R.Disk.Disk.count (g.R.Rack.held c.args.rack.now) c.in-Ok.nodes.header c.in-Ok.nodes.logs.items c.in-Ok.nodes.shards.items c.in-Ok.ensures.opened
+    all_back g.R.Disk.Disk (g.R.Rack.held c.args.rack.now) c.in-Ok.nodes.header c.in-Ok.nodes.logs.items c.in-Ok.nodes.shards.items c.in-Ok.ensures.opened
     (g.R.Rack.held c.open_nodes.new.rack) (g.R.Rack.held c.close_nodes.new.rack) c.in-Ok.ensures.others_held c.close_nodes.ensures.closed_logs c.close_nodes.ensures.closed_shards c.close_nodes.ensures.others_held
     (g.R.Rack.count c.args.rack.now) (g.R.Rack.count c.close_nodes.new.rack)
 

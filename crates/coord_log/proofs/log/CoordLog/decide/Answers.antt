@@ -13,11 +13,12 @@ use Rattle.coord_core.proofs.Walks.{length-combined}
 use Rattle.coord_core.specs.Decided.{latest, combined, AreRepliesTo}
 use Rattle.coord_core.specs.Hashes.{AllNameBatches}
 use Rattle.coord_core.specs.Lanes.{IsOwn, lane_at, open_batch as core_batch}
-use Rattle.coord_log.specs.Logs.{LogOf, sight, commit_due, HoldsJournal, LeavesBetween}
-use Rattle.coord_log.specs.Inside.{shown}
+use Rattle.coord_log.specs.Logs.{commit_due}
+use Rattle.node_journal.specs.Nodes.{NodeOf, sight, HoldsJournal, LeavesBetween}
+use Rattle.node_journal.specs.Shown.{shown}
 use Rattle.coord_log.proofs.Owed.{told_ok, told_err, breaks_err, own_lane, own_phase, batch_is}
 use Rattle.coord_log.proofs.Deciding.{commit_owed, commit_late, decide_owed, decide_late, decide_ready, told_is}
-use Rattle.coord_log.proofs.Leaving.{still}
+use Rattle.node_journal.proofs.Leaving.{still}
 use Rattle.coord_log.proofs.Flying.{same_lane, kept_own, flown_own}
 use Rattle.coord_log.proofs.log.CoordLog.decide.Goals as goal
 
@@ -46,7 +47,7 @@ returns-then-stamp-gt-LAST_STAMP-clause-meets g c = λ are.
     let whole : broken_of c.self.inside.log.journal ≡ None = sym c.is_broken.ensures ∙ c.in-None.is in
     let K = c.args.self.now.header.shape in
     let late : last_late < c.commit_stamp-stamp.result = omega (arith, c.stamp.view_is, c.if-stamp-gt-LAST_STAMP.true) in
-    let P : LogOf g.row.D.Denot → Type 0 = λ x. AreRepliesTo c.args.self.now.header.shape (txs_of x.journal (open_batch x.journal c.args.lane)) c.args.replies.now
+    let P : NodeOf g.row.D.Denot → Type 0 = λ x. AreRepliesTo c.args.self.now.header.shape (txs_of x.journal (open_batch x.journal c.args.lane)) c.args.replies.now
     → decide_due c.args.self.now.header.shape c.args.lane c.args.replies.now x.broken x.journal ≡ Answers (Err (ClockEnd c.commit_stamp-stamp.result)) in
     let owed = subst P c.self.view_is
     (λ a. decide_late c.self.inside.core K _ _ c.args.lane c.commit_stamp-stamp.result _ c.args.replies.now sound.on.stands whole c.commit_stamp-stamp.ensures.value late a) are in
@@ -69,8 +70,8 @@ returns-in-Err-clause-meets g c = λ are.
     (omega (arith, c.stamp.view_is, c.if-stamp-gt-LAST_STAMP.false)) c.decide-next.ensures.decided are')
     (c.in-Err.ensures.told c.self.inside.opened)
 
-pub returns-in-Err-clause-breaks : goal.returns-in-Err-clause-breaks
-returns-in-Err-clause-breaks g c = breaks_err ℕ c.in-Err.fault _ _ _ (c.in-Err.ensures.told c.self.inside.opened).0 c.in-Err.ensures.broken
+pub returns-in-Err-clause-broken : goal.returns-in-Err-clause-broken
+returns-in-Err-clause-broken g c = breaks_err ℕ c.in-Err.fault _ _ _ (c.in-Err.ensures.told c.self.inside.opened).0 c.in-Err.ensures.broken
 
 pub returns-clause-meets : goal.returns-clause-meets
 returns-clause-meets g c = λ are.
@@ -103,10 +104,10 @@ returns-clause-appended g c =
     ∙ ap (λ x. Commit c.commit_stamp-stamp.result (open_batch x c.args.lane) c.tell.new.out.items ∷ x) journal
 
 pub returns-in-Err-clause-node : goal.returns-in-Err-clause-node
-returns-in-Err-clause-node g c = let P : LogOf g.row.D.Denot → Type 0 = λ x. IsSameNode (sight x) (sight (shown c.write.new.log c.self.inside.opened c.write.new.flight)) in subst P c.self.view_is (c.in-Err.ensures.told c.self.inside.opened).1.node
+returns-in-Err-clause-node g c = let P : NodeOf g.row.D.Denot → Type 0 = λ x. IsSameNode (sight x) (sight (shown c.write.new.log c.self.inside.opened c.write.new.flight)) in subst P c.self.view_is (c.in-Err.ensures.told c.self.inside.opened).1.node
 
 pub returns-clause-node : goal.returns-clause-node
-returns-clause-node g c = let P : LogOf g.row.D.Denot → Type 0 = λ x. IsSameNode (sight x) (sight (shown c.write.new.log c.self.inside.opened c.write.new.flight)) in subst P c.self.view_is (c.in-Ok.ensures.told c.self.inside.opened).node
+returns-clause-node g c = let P : NodeOf g.row.D.Denot → Type 0 = λ x. IsSameNode (sight x) (sight (shown c.write.new.log c.self.inside.opened c.write.new.flight)) in subst P c.self.view_is (c.in-Ok.ensures.told c.self.inside.opened).node
 
 pub returns-clause-count : goal.returns-clause-count
 returns-clause-count g c =
@@ -136,7 +137,7 @@ returns-then-stamp-gt-LAST_STAMP-clause-fault g c =
     let K = c.args.self.now.header.shape in
     let late : last_late < c.commit_stamp-stamp.result = omega (arith, c.stamp.view_is, c.if-stamp-gt-LAST_STAMP.true) in
     let r : Record = Commit 0 (open_batch c.args.self.now.journal c.args.lane) [] in
-    let P : LogOf g.row.D.Denot → Type 0 = λ x. commit_due c.args.self.now.header.shape c.args.replies.now r x.broken x.journal ≡ Answers (Err (ClockEnd c.commit_stamp-stamp.result)) in
+    let P : NodeOf g.row.D.Denot → Type 0 = λ x. commit_due c.args.self.now.header.shape c.args.replies.now r x.broken x.journal ≡ Answers (Err (ClockEnd c.commit_stamp-stamp.result)) in
     let due = subst P c.self.view_is (commit_late c.self.inside.core K _ _ c.commit_stamp-stamp.result r c.args.replies.now sound.on.stands whole c.requires.rising c.commit_stamp-stamp.ensures.value late) in
     (r, (due, record { node = record { header = refl; opened = refl; capacity = refl; later = omega arith }; seen = refl; flight = refl }))
 
@@ -163,13 +164,13 @@ returns-then-stamp-gt-LAST_STAMP-clause-leaves g c = still g.D.Disk c.args.self.
 
 pub returns-in-Err-clause-leaves : goal.returns-in-Err-clause-leaves
 returns-in-Err-clause-leaves g c =
-    let P : LogOf g.row.D.Denot → Type 0 = λ x. HoldsJournal g.D.Disk.content g.D.Disk.images x
+    let P : NodeOf g.row.D.Denot → Type 0 = λ x. HoldsJournal g.D.Disk.content g.D.Disk.images x
     → LeavesBetween g.D.Disk.tells_past g.D.Disk.moment g.D.Disk.images_since g.D.Disk.images x (shown c.write.new.log c.self.inside.opened c.write.new.flight) in
     subst P c.self.view_is (c.write.ensures.leaves c.self.inside.opened)
 
 pub returns-clause-leaves : goal.returns-clause-leaves
 returns-clause-leaves g c =
-    let P : LogOf g.row.D.Denot → Type 0 = λ x. HoldsJournal g.D.Disk.content g.D.Disk.images x
+    let P : NodeOf g.row.D.Denot → Type 0 = λ x. HoldsJournal g.D.Disk.content g.D.Disk.images x
     → LeavesBetween g.D.Disk.tells_past g.D.Disk.moment g.D.Disk.images_since g.D.Disk.images x (shown c.write.new.log c.self.inside.opened c.write.new.flight) in
     subst P c.self.view_is (c.write.ensures.leaves c.self.inside.opened)
 

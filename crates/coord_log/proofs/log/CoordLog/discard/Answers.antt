@@ -3,10 +3,11 @@ use Rattle.gate_journal.specs.Shown.{broken_of}
 use Rattle.cbdc_model.specs.Due.{last_late, discard_due}
 use Rattle.cbdc_model.specs.Slots.{InCommit}
 use Rattle.coord_core.specs.Lanes.{CoordOf, IsNext, IsOwn}
-use Rattle.coord_log.specs.Logs.{LogOf, HoldsJournal, LeavesBetween}
-use Rattle.coord_log.specs.Inside.{shown, IsDue}
+use Rattle.node_journal.specs.Nodes.{NodeOf, HoldsJournal, LeavesBetween}
+use Rattle.node_journal.specs.Shown.{shown}
+use Rattle.coord_log.specs.Inside.{IsDue}
 use Rattle.coord_log.proofs.Owed.{told_ok, told_err, breaks_err, own_lane, own_phase, discard_owed, discard_ready}
-use Rattle.coord_log.proofs.Leaving.{still}
+use Rattle.node_journal.proofs.Leaving.{still}
 use Rattle.coord_log.proofs.log.CoordLog.discard.Goals as goal
 
 pub write-requires : goal.write-requires
@@ -37,8 +38,8 @@ returns-in-Err-clause-meets g c =
     (omega (arith, c.stamp.view_is, c.if-stamp-gt-LAST_STAMP.false)) c.discard-next.ensures.«record»)
     (c.in-Err.ensures.told c.self.inside.opened)
 
-pub returns-in-Err-clause-breaks : goal.returns-in-Err-clause-breaks
-returns-in-Err-clause-breaks g c = breaks_err ℕ c.in-Err.fault _ _ _ (c.in-Err.ensures.told c.self.inside.opened).0 c.in-Err.ensures.broken
+pub returns-in-Err-clause-broken : goal.returns-in-Err-clause-broken
+returns-in-Err-clause-broken g c = breaks_err ℕ c.in-Err.fault _ _ _ (c.in-Err.ensures.told c.self.inside.opened).0 c.in-Err.ensures.broken
 
 pub returns-clause-meets : goal.returns-clause-meets
 returns-clause-meets g c =
@@ -60,12 +61,12 @@ returns-then-stamp-gt-LAST_STAMP-clause-leaves g c = still g.D.Disk c.args.self.
 
 pub returns-in-Err-clause-leaves : goal.returns-in-Err-clause-leaves
 returns-in-Err-clause-leaves g c =
-    let P : LogOf g.row.D.Denot → Type 0 = λ x. HoldsJournal g.D.Disk.content g.D.Disk.images x
+    let P : NodeOf g.row.D.Denot → Type 0 = λ x. HoldsJournal g.D.Disk.content g.D.Disk.images x
     → LeavesBetween g.D.Disk.tells_past g.D.Disk.moment g.D.Disk.images_since g.D.Disk.images x (shown c.write.new.log c.self.inside.opened c.write.new.flight) in
     subst P c.self.view_is (c.write.ensures.leaves c.self.inside.opened)
 
 pub returns-clause-leaves : goal.returns-clause-leaves
 returns-clause-leaves g c =
-    let P : LogOf g.row.D.Denot → Type 0 = λ x. HoldsJournal g.D.Disk.content g.D.Disk.images x
+    let P : NodeOf g.row.D.Denot → Type 0 = λ x. HoldsJournal g.D.Disk.content g.D.Disk.images x
     → LeavesBetween g.D.Disk.tells_past g.D.Disk.moment g.D.Disk.images_since g.D.Disk.images x (shown c.write.new.log c.self.inside.opened c.write.new.flight) in
     subst P c.self.view_is (c.write.ensures.leaves c.self.inside.opened)

@@ -1,38 +1,22 @@
-use Rattle.std.proofs.Common.{◌≡◌, List, reverse, refl, sym, ◌∙◌, subst, None}
-use Rattle.std.proofs.lemmas.List.{reverse-reverse}
-use Rattle.gate_journal.specs.Shown.{disk_of}
-use Rattle.cbdc_model.specs.Records.{Record}
-use Rattle.record_log.specs.Held.{OpensTo}
-use Rattle.coord_log.specs.Logs.{LogOf, HoldsJournal}
-use Rattle.coord_log.specs.Inside.{shown}
+use Rattle.std.proofs.Common.{sym, ◌∙◌, subst}
+use Rattle.record_log.specs.Logs.{HasRoom}
+use Rattle.std.proofs.Common.{ℕ}
+use Rattle.node_journal.specs.Nodes.{NodeOf, HoldsJournal}
+use Rattle.node_journal.proofs.Leaving.{same_opened}
+use Rattle.coord_log.specs.Inside.{largest}
 use Rattle.coord_log.specs.Opening.{IsCoordJournal}
-use Rattle.coord_log.proofs.Opened.{holds_same}
-use Rattle.coord_log.proofs.Written.{to_journal}
-use Rattle.cbdc_types.specs.declared.calls.NodeOpenFault.TheVariants.{DiskFault}
+use Rattle.coord_log.proofs.Opened.{opened_sound}
 use Rattle.coord_log.proofs.log.CoordLog.open.Goals as goal
 
 pub of_parts-requires : goal.of_parts-requires
-of_parts-requires g c = c.in-Ok-lanes_of.ensures.sound
+of_parts-requires g c =
+    let o = c.in-Ok.field-0 in
+    let N : ℕ → Type 0 = λ n. HasRoom c.reserve.new.self n largest in
+    opened_sound o.log c.reserve.new.self o.core c.in-Ok.ensures.opened c.records_ahead.ensures.whole c.reserve.ensures.untouched c.reserve.ensures.records c.reserve.ensures.header
+    (subst N c.records_ahead.ensures.value c.in-Ok-reserve.ensures.room)
 
-pub returns-in-Ok-lanes_of-clause-opens : goal.returns-in-Ok-lanes_of-clause-opens
-returns-in-Ok-lanes_of-clause-opens g c = λ bytes told.
-    let opens = c.in-Ok.ensures.opens bytes told in
-    let new = c.lanes_of.new.log in
-    let count = g.D.Disk.count (disk_of c.lanes_of.new.log.journal) in
-    let records : reverse (reverse c.lanes_of.new.log.records.items) ≡ c.in-Ok.found.records.items = reverse-reverse c.lanes_of.new.log.records.items ∙ c.lanes_of.ensures.records in
-    let O : List Record → Type 0 = λ x. OpensTo x bytes in
-    let P : LogOf g.row.D.Denot → Type 0 = λ l. IsCoordJournal l.header l.journal bytes × HoldsJournal g.D.Disk.content g.D.Disk.images l in
-    let both : P (shown new count None) = (
-      record { opens = subst O (sym records) opens.0; limits = (c.in-Ok-lanes_of.ensures.sound).on.limits; journal = c.in-Ok-lanes_of.ensures.journal; coordinator = c.in-Ok-lanes_of.ensures.coordinator },
-      to_journal new count None refl (holds_same c.in-Ok.found new c.lanes_of.ensures.untouched c.lanes_of.ensures.records opens.1),
-    ) in
-    subst P (sym c.of_parts.ensures) both
-
-pub returns-in-Err-lanes_of-clause-refusal : goal.returns-in-Err-lanes_of-clause-refusal
-returns-in-Err-lanes_of-clause-refusal g c = λ bytes told. rw (← c.in-Ok.ensures.limit) (c.in-Err-lanes_of.ensures.refusal bytes (c.in-Ok.ensures.opens bytes told).0)
-
-pub returns-in-Err-clause-refusal : goal.returns-in-Err-clause-refusal
-returns-in-Err-clause-refusal g c = λ bytes told. c.no_log_fault-fault.ensures.refusal (g.D.Disk.limit c.args.disk) bytes (c.in-Err.ensures.refusal bytes told)
-
-pub returns-in-Err-clause-same : goal.returns-in-Err-clause-same
-returns-in-Err-clause-same g c = λ unfailed. c.in-Err.ensures.same (λ is. unfailed (c.no_log_fault-fault.ensures.kept DiskFault is))
+pub returns-in-Ok-reserve-clause-opens : goal.returns-in-Ok-reserve-clause-opens
+returns-in-Ok-reserve-clause-opens g c = λ bytes told.
+    let P : NodeOf g.row.D.Denot → Type 0 = λ l. IsCoordJournal l.header l.journal bytes × HoldsJournal g.D.Disk.content g.D.Disk.images l in
+    let same = c.of_parts.ensures ∙ same_opened c.in-Ok.field-0.log c.reserve.new.self c.reserve.ensures.untouched c.reserve.ensures.records c.reserve.ensures.header in
+    subst P (sym same) (c.in-Ok.ensures.opens bytes told)

@@ -7,11 +7,12 @@ use Rattle.cbdc_types.specs.declared.calls.NodeFault.TheVariants.{Full}
 use Rattle.cbdc_model.specs.Due.{Answers, Writes, last_early, prepare_due}
 use Rattle.cbdc_model.specs.Sights.{Stays}
 use Rattle.coord_core.specs.Lanes.{IsOwn, kept_of, next_batch}
-use Rattle.coord_log.specs.Logs.{LogOf, sight, HoldsJournal, LeavesBetween}
-use Rattle.coord_log.specs.Inside.{shown}
+use Rattle.node_journal.specs.Nodes.{NodeOf, sight, HoldsJournal, LeavesBetween}
+use Rattle.node_journal.specs.Shown.{shown}
 use Rattle.coord_log.proofs.Owed.{told_ok, told_err, breaks_err, own_lane}
-use Rattle.coord_log.proofs.Preparing.{Prepares, sound_kept, shown_same, room_refused, exact_size, prepare_small, prepare_ready, prepare_owed, prepare_full}
-use Rattle.coord_log.proofs.Leaving.{still, still_seen}
+use Rattle.coord_log.proofs.Preparing.{Prepares, sound_kept, room_refused, exact_size, prepare_small, prepare_ready, prepare_owed, prepare_full}
+use Rattle.node_journal.proofs.Leaving.{shown_same}
+use Rattle.node_journal.proofs.Leaving.{still, still_seen}
 use Rattle.coord_log.proofs.log.CoordLog.prepare.Goals as goal
 
 pub make_room-requires-clause-size : goal.make_room-requires-clause-size
@@ -56,11 +57,11 @@ returns-in-Err-clause-meets g c =
     let limit : g.D.Disk.limit (disk_of c.self.inside.log.journal) ≡ c.args.self.now.capacity = ap (λ x. x.capacity) c.self.view_is in
     let now : shown c.make_room.new.log c.self.inside.opened c.self.inside.flight ≡ c.args.self.now =
     shown_same c.self.inside.log c.make_room.new.log c.self.inside.opened c.self.inside.flight c.make_room.ensures.untouched c.make_room.ensures.records c.make_room.ensures.header ∙ c.self.view_is in
-    let S : LogOf g.row.D.Denot → Type 0 = λ x. Stays (sight c.args.self.now) (sight x) c.args.self.now.journal in
+    let S : NodeOf g.row.D.Denot → Type 0 = λ x. Stays (sight c.args.self.now) (sight x) c.args.self.now.journal in
     let stays = subst S (sym now) (record { node = record { header = refl; opened = refl; capacity = refl; later = omega arith }; seen = refl; flight = refl }) in
     let used = gate_of c.self.inside.log.journal + 1 in
     let need = c.size_of_record.result + room_behind_prepare (length c.args.txs.now) + kept_of c.prepare.new.self.lanes in
-    let O : LogOf g.row.D.Denot → Type 0 = λ x. prepare_due c.args.self.now.header.shape c.args.self.now.capacity c.args.lane c.args.txs.now x.broken x.journal
+    let O : NodeOf g.row.D.Denot → Type 0 = λ x. prepare_due c.args.self.now.header.shape c.args.self.now.capacity c.args.lane c.args.txs.now x.broken x.journal
     ≡ Answers (Err (Full (gate_of c.self.inside.log.journal + 1) (c.size_of_record.result + room_behind_prepare (length c.args.txs.now) + kept_of c.prepare.new.self.lanes) (g.D.Disk.limit (disk_of c.self.inside.log.journal)))) in
     room_refused _ _ _ _ used need (g.D.Disk.limit (disk_of c.self.inside.log.journal)) c.in-Err.fault c.in-Err.ensures.refusal
     (λ lt. subst O c.self.view_is
@@ -120,12 +121,12 @@ returns-in-Err-write-clause-meets g c =
     shown_same c.self.inside.log c.make_room.new.log c.self.inside.opened c.self.inside.flight c.make_room.ensures.untouched c.make_room.ensures.records c.make_room.ensures.header ∙ c.self.view_is in
     let owed = prepare_owed c.self.inside.core c.prepare.new.self c.args.self.now.header.shape (reverse c.self.inside.log.records.items) (broken_of c.self.inside.log.journal) c.args.self.now.capacity c.args.lane c.size_of_record.result
     (gate_of c.self.inside.log.journal + 1) c.in-Prepare.stamp c.in-Prepare.batch c.args.txs.now c.in-Prepare.txs c.in-Ok.next p (omega (arith, limit, c.in-Ok-make_room.ensures.space)) in
-    let O : LogOf g.row.D.Denot → Type 0 = λ x. prepare_due c.args.self.now.header.shape c.args.self.now.capacity c.args.lane c.args.txs.now x.broken x.journal ≡ Writes (c.in-Prepare.batch, c.in-Prepare.stamp) c.in-Ok.next in
+    let O : NodeOf g.row.D.Denot → Type 0 = λ x. prepare_due c.args.self.now.header.shape c.args.self.now.capacity c.args.lane c.args.txs.now x.broken x.journal ≡ Writes (c.in-Prepare.batch, c.in-Prepare.stamp) c.in-Ok.next in
     told_err true (λ broken J. prepare_due c.args.self.now.header.shape c.args.self.now.capacity c.args.lane c.args.txs.now broken J) c.make_room.new.log c.write.new.log c.self.inside.opened c.self.inside.flight c.write.new.flight
     c.args.self.now (c.in-Prepare.batch, c.in-Prepare.stamp) c.in-Ok.next c.in-Err-write.fault now (subst O (c.self.view_is ∙ sym now) owed) (c.in-Err-write.ensures.told c.self.inside.opened)
 
-pub returns-in-Err-write-clause-breaks : goal.returns-in-Err-write-clause-breaks
-returns-in-Err-write-clause-breaks g c = breaks_err (Batch × ℕ) c.in-Err-write.fault _ _ _ (c.in-Err-write.ensures.told c.self.inside.opened).0 c.in-Err-write.ensures.broken
+pub returns-in-Err-write-clause-broken : goal.returns-in-Err-write-clause-broken
+returns-in-Err-write-clause-broken g c = breaks_err (Batch × ℕ) c.in-Err-write.fault _ _ _ (c.in-Err-write.ensures.told c.self.inside.opened).0 c.in-Err-write.ensures.broken
 
 pub invariant_of-self-2 : goal.invariant_of-self-2
 invariant_of-self-2 g c = c.write.ensures.sound c.self.inside.opened (rw c.make_room.ensures.untouched.disk c.self.invariant.since_opened)
@@ -160,7 +161,7 @@ returns-clause-meets g c =
     shown_same c.self.inside.log c.make_room.new.log c.self.inside.opened c.self.inside.flight c.make_room.ensures.untouched c.make_room.ensures.records c.make_room.ensures.header ∙ c.self.view_is in
     let owed = prepare_owed c.self.inside.core c.prepare.new.self c.args.self.now.header.shape (reverse c.self.inside.log.records.items) (broken_of c.self.inside.log.journal) c.args.self.now.capacity c.args.lane c.size_of_record.result
     (gate_of c.self.inside.log.journal + 1) c.in-Prepare.stamp c.in-Prepare.batch c.args.txs.now c.in-Prepare.txs c.in-Ok.next p (omega (arith, limit, c.in-Ok-make_room.ensures.space)) in
-    let O : LogOf g.row.D.Denot → Type 0 = λ x. prepare_due c.args.self.now.header.shape c.args.self.now.capacity c.args.lane c.args.txs.now x.broken x.journal ≡ Writes (c.in-Prepare.batch, c.in-Prepare.stamp) c.in-Ok.next in
+    let O : NodeOf g.row.D.Denot → Type 0 = λ x. prepare_due c.args.self.now.header.shape c.args.self.now.capacity c.args.lane c.args.txs.now x.broken x.journal ≡ Writes (c.in-Prepare.batch, c.in-Prepare.stamp) c.in-Ok.next in
     told_ok true (λ broken J. prepare_due c.args.self.now.header.shape c.args.self.now.capacity c.args.lane c.args.txs.now broken J) c.make_room.new.log c.write.new.log c.self.inside.opened c.self.inside.flight c.write.new.flight
     c.args.self.now (c.in-Prepare.batch, c.in-Prepare.stamp) c.in-Ok.next now (subst O (c.self.view_is ∙ sym now) owed) (c.in-Ok-write.ensures.told c.self.inside.opened)
 
@@ -180,7 +181,7 @@ pub returns-in-Err-write-clause-leaves : goal.returns-in-Err-write-clause-leaves
 returns-in-Err-write-clause-leaves g c =
     let now : shown c.make_room.new.log c.self.inside.opened c.self.inside.flight ≡ c.args.self.now =
     shown_same c.self.inside.log c.make_room.new.log c.self.inside.opened c.self.inside.flight c.make_room.ensures.untouched c.make_room.ensures.records c.make_room.ensures.header ∙ c.self.view_is in
-    let P : LogOf g.row.D.Denot → Type 0 = λ x. HoldsJournal g.D.Disk.content g.D.Disk.images x
+    let P : NodeOf g.row.D.Denot → Type 0 = λ x. HoldsJournal g.D.Disk.content g.D.Disk.images x
     → LeavesBetween g.D.Disk.tells_past g.D.Disk.moment g.D.Disk.images_since g.D.Disk.images x (shown c.write.new.log c.self.inside.opened c.write.new.flight) in
     subst P now (c.write.ensures.leaves c.self.inside.opened)
 
@@ -188,6 +189,6 @@ pub returns-clause-leaves : goal.returns-clause-leaves
 returns-clause-leaves g c =
     let now : shown c.make_room.new.log c.self.inside.opened c.self.inside.flight ≡ c.args.self.now =
     shown_same c.self.inside.log c.make_room.new.log c.self.inside.opened c.self.inside.flight c.make_room.ensures.untouched c.make_room.ensures.records c.make_room.ensures.header ∙ c.self.view_is in
-    let P : LogOf g.row.D.Denot → Type 0 = λ x. HoldsJournal g.D.Disk.content g.D.Disk.images x
+    let P : NodeOf g.row.D.Denot → Type 0 = λ x. HoldsJournal g.D.Disk.content g.D.Disk.images x
     → LeavesBetween g.D.Disk.tells_past g.D.Disk.moment g.D.Disk.images_since g.D.Disk.images x (shown c.write.new.log c.self.inside.opened c.write.new.flight) in
     subst P now (c.write.ensures.leaves c.self.inside.opened)

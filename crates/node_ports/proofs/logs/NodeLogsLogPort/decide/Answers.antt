@@ -5,12 +5,12 @@ use Rattle.cbdc_model.specs.Sights.{Sight}
 use Rattle.cbdc_model.specs.Slots.{slot, InPrepare, InCommit}
 use Rattle.cbdc_model.specs.Records.{txs_of, outcomes_of}
 use Rattle.cbdc_model.specs.Due.{open_batch}
-use Rattle.coord_log.specs.Logs.{sight}
+use Rattle.node_journal.specs.Nodes.{sight}
 use Rattle.std.specs.Vec.{vec_capacity}
 use Rattle.lane_laws.specs.Answers.{DecideAnswer}
 use Rattle.lane_driver.specs.Told.{IsLane, AreReplies}
 use Rattle.lane_driver.specs.Causes.{IsDecideCause}
-use Rattle.node_ports.specs.Nodes.{KeepsRest, IsLogHeld}
+use Rattle.node_ports.specs.Nodes.{KeepsRest, IsNodeHeld}
 use Rattle.node_ports.proofs.Places.{inside, old_is, turned, set_elsewhere, turned_nodes, turned_faults, turned_held}
 use Rattle.node_ports.proofs.logs.NodeLogsLogPort.decide.Goals as goal
 
@@ -68,5 +68,5 @@ returns-clause-keeps g c =
       elsewhere = λ n ne. set_elsewhere sight c.args.self.now.logs.items c.args.self.now.at c.decide_at-answer.new.log n ne;
       nodes = turned_nodes sight c.args.self.now.logs.items c.args.self.now.at c.index_mut.result.now c.decide_at-answer.new.log within c.index_mut.ensures.value c.decide_at-answer.ensures.node;
       later = turned_faults sight c.args.self.now.logs.items c.args.self.now.at c.index_mut.result.now c.decide_at-answer.new.log within c.index_mut.ensures.value c.decide_at-answer.ensures.later;
-      held = turned_held sight c.args.self.now.logs.items c.args.self.now.at c.index_mut.result.now c.decide_at-answer.new.log within c.index_mut.ensures.value (IsLogHeld g.D.Disk.content g.D.Disk.images) c.decide_at-answer.ensures.holds;
+      held = turned_held sight c.args.self.now.logs.items c.args.self.now.at c.index_mut.result.now c.decide_at-answer.new.log within c.index_mut.ensures.value (IsNodeHeld g.D.Disk.content g.D.Disk.images) c.decide_at-answer.ensures.holds;
     }

@@ -4,9 +4,9 @@ use Rattle.std.proofs.lemmas.List.{length-set}
 use Rattle.cbdc_model.specs.Sights.{Sight, Told}
 use Rattle.cbdc_model.specs.Slots.{slot, InCommit, InDiscard}
 use Rattle.cbdc_model.specs.Due.{discard_due}
-use Rattle.coord_log.specs.Logs.{sight}
+use Rattle.node_journal.specs.Nodes.{sight}
 use Rattle.lane_driver.specs.Told.{IsLane}
-use Rattle.node_ports.specs.Nodes.{KeepsRest, IsLogHeld}
+use Rattle.node_ports.specs.Nodes.{KeepsRest, IsNodeHeld}
 use Rattle.node_ports.proofs.Places.{inside, old_is, turned, set_elsewhere, turned_nodes, turned_faults, turned_held}
 use Rattle.node_ports.proofs.logs.NodeLogsLogPort.discard.Goals as goal
 
@@ -44,5 +44,5 @@ returns-clause-keeps g c =
       elsewhere = λ n ne. set_elsewhere sight c.args.self.now.logs.items c.args.self.now.at c.discard_at-answer.new.log n ne;
       nodes = turned_nodes sight c.args.self.now.logs.items c.args.self.now.at c.index_mut.result.now c.discard_at-answer.new.log within c.index_mut.ensures.value c.discard_at-answer.ensures.node;
       later = turned_faults sight c.args.self.now.logs.items c.args.self.now.at c.index_mut.result.now c.discard_at-answer.new.log within c.index_mut.ensures.value c.discard_at-answer.ensures.later;
-      held = turned_held sight c.args.self.now.logs.items c.args.self.now.at c.index_mut.result.now c.discard_at-answer.new.log within c.index_mut.ensures.value (IsLogHeld g.D.Disk.content g.D.Disk.images) c.discard_at-answer.ensures.holds;
+      held = turned_held sight c.args.self.now.logs.items c.args.self.now.at c.index_mut.result.now c.discard_at-answer.new.log within c.index_mut.ensures.value (IsNodeHeld g.D.Disk.content g.D.Disk.images) c.discard_at-answer.ensures.holds;
     }

@@ -7,7 +7,7 @@ use Rattle.cbdc_model.specs.Sights.{Sight}
 use Rattle.lane_laws.specs.Answers.{ForgetAnswer, EachTold}
 use Rattle.lane_driver.specs.Told.{StampTold}
 use Rattle.lane_driver.proofs.Fitting.{nodes_same, nodes_on}
-use Rattle.shard_node.specs.Shards.{sight_of}
+use Rattle.node_journal.specs.Nodes.{sight}
 use Rattle.node_ports.specs.Nodes.{sight_at}
 use Rattle.node_ports.proofs.Walking.{longer, as_found0, told_more, others_more}
 use Rattle.node_ports.proofs.shards.NodeShardsPortSet.forget.Goals as goal
@@ -16,9 +16,9 @@ pub calls-preserved : goal.calls-preserved
 calls-preserved g c =
     record {
       each = subst (λ ys. AllZip (StampTold {C = ForgetCall}) ys c.push_reserved.new.self.items) (sym (longer (ForgetAnswer true) c.args.calls.now c.calls.shard-index c.calls-item.result c.calls-test.true c.calls-item.is)) (subst (λ ys. AllZip (StampTold {C = ForgetCall}) (take c.calls.shard-index c.args.calls.now ++ c.calls-item.result ∷ []) ys) (sym c.push_reserved.ensures.items) (all_zipped_more (StampTold {C = ForgetCall}) (take c.calls.shard-index c.args.calls.now) c.calls.out.items c.calls-item.result c.forget_one-answer.result c.calls.invariant.each c.forget_one-answer.ensures.told));
-      told = subst (λ ys. EachTold (ForgetAnswer true) (take (c.calls.shard-index + 1) c.args.calls.now) ys (sight_at (sight_of g.D.Disk.count g.D.Disk.limit) c.args.self.now.nodes.items) (sight_at (sight_of g.D.Disk.count g.D.Disk.limit) c.forget_one-answer.new.self.nodes.items)) (sym c.push_reserved.ensures.items) (told_more (ForgetAnswer true) c.args.calls.now c.calls.shard-index c.calls-item.result c.calls-test.true c.calls-item.is (sight_at (sight_of g.D.Disk.count g.D.Disk.limit) c.args.self.now.nodes.items) (sight_at (sight_of g.D.Disk.count g.D.Disk.limit) c.calls.self.nodes.items) (sight_at (sight_of g.D.Disk.count g.D.Disk.limit) c.forget_one-answer.new.self.nodes.items) c.requires.shards.0 c.forget_one-answer.ensures.elsewhere c.forget_one-answer.result c.calls.out.items c.calls.invariant.told c.calls.invariant.untouched c.forget_one-answer.ensures.answer);
-      untouched = others_more (ForgetAnswer true) c.args.calls.now c.calls.shard-index c.calls-item.result c.calls-test.true c.calls-item.is (sight_at (sight_of g.D.Disk.count g.D.Disk.limit) c.args.self.now.nodes.items) (sight_at (sight_of g.D.Disk.count g.D.Disk.limit) c.calls.self.nodes.items) (sight_at (sight_of g.D.Disk.count g.D.Disk.limit) c.forget_one-answer.new.self.nodes.items) c.requires.shards.0 c.forget_one-answer.ensures.elsewhere c.calls.invariant.untouched;
-      nodes = nodes_on (sight_at (sight_of g.D.Disk.count g.D.Disk.limit) c.args.self.now.nodes.items) (sight_at (sight_of g.D.Disk.count g.D.Disk.limit) c.calls.self.nodes.items) (sight_at (sight_of g.D.Disk.count g.D.Disk.limit) c.forget_one-answer.new.self.nodes.items) c.calls.invariant.nodes c.forget_one-answer.ensures.nodes;
+      told = subst (λ ys. EachTold (ForgetAnswer true) (take (c.calls.shard-index + 1) c.args.calls.now) ys (sight_at sight c.args.self.now.nodes.items) (sight_at sight c.forget_one-answer.new.self.nodes.items)) (sym c.push_reserved.ensures.items) (told_more (ForgetAnswer true) c.args.calls.now c.calls.shard-index c.calls-item.result c.calls-test.true c.calls-item.is (sight_at sight c.args.self.now.nodes.items) (sight_at sight c.calls.self.nodes.items) (sight_at sight c.forget_one-answer.new.self.nodes.items) c.requires.shards.0 c.forget_one-answer.ensures.elsewhere c.forget_one-answer.result c.calls.out.items c.calls.invariant.told c.calls.invariant.untouched c.forget_one-answer.ensures.answer);
+      untouched = others_more (ForgetAnswer true) c.args.calls.now c.calls.shard-index c.calls-item.result c.calls-test.true c.calls-item.is (sight_at sight c.args.self.now.nodes.items) (sight_at sight c.calls.self.nodes.items) (sight_at sight c.forget_one-answer.new.self.nodes.items) c.requires.shards.0 c.forget_one-answer.ensures.elsewhere c.calls.invariant.untouched;
+      nodes = nodes_on (sight_at sight c.args.self.now.nodes.items) (sight_at sight c.calls.self.nodes.items) (sight_at sight c.forget_one-answer.new.self.nodes.items) c.calls.invariant.nodes c.forget_one-answer.ensures.nodes;
       filled = omega (arith, c.push_reserved.ensures.len, c.calls.invariant.filled);
       capacity = c.push_reserved.ensures.capacity ∙ c.calls.invariant.capacity;
       count = c.forget_one-answer.ensures.count ∙ c.calls.invariant.count;
@@ -28,7 +28,7 @@ calls-preserved g c =
 
 pub forget_one-answer-requires-clause-call : goal.forget_one-answer-requires-clause-call
 forget_one-answer-requires-clause-call g c =
-    let P : Sight → Type 0 = λ a. IsForgetCall a.header c.calls-item.result.1 in subst P (sym (as_found0 (ForgetAnswer true) c.args.calls.now c.calls.shard-index c.calls-item.result c.calls-test.true c.calls-item.is (sight_at (sight_of g.D.Disk.count g.D.Disk.limit) c.args.self.now.nodes.items) (sight_at (sight_of g.D.Disk.count g.D.Disk.limit) c.calls.self.nodes.items) c.requires.shards.0 c.calls.invariant.untouched)) (subst (λ d. IsForgetCall ((sight_at (sight_of g.D.Disk.count g.D.Disk.limit) c.args.self.now.nodes.items) d.0).header d.1) (sym c.calls-item.is) (c.requires.calls c.calls.shard-index c.calls-item.result c.calls-test.true))
+    let P : Sight → Type 0 = λ a. IsForgetCall a.header c.calls-item.result.1 in subst P (sym (as_found0 (ForgetAnswer true) c.args.calls.now c.calls.shard-index c.calls-item.result c.calls-test.true c.calls-item.is (sight_at sight c.args.self.now.nodes.items) (sight_at sight c.calls.self.nodes.items) c.requires.shards.0 c.calls.invariant.untouched)) (subst (λ d. IsForgetCall ((sight_at sight c.args.self.now.nodes.items) d.0).header d.1) (sym c.calls-item.is) (c.requires.calls c.calls.shard-index c.calls-item.result c.calls-test.true))
 
 pub forget_one-answer-requires-clause-place : goal.forget_one-answer-requires-clause-place
 forget_one-answer-requires-clause-place g c =
@@ -38,9 +38,9 @@ pub calls-init : goal.calls-init
 calls-init g c =
     record {
       each = search rules;
-      told = subst (λ answers. EachTold (ForgetAnswer true) [] answers (sight_at (sight_of g.D.Disk.count g.D.Disk.limit) c.args.self.now.nodes.items) (sight_at (sight_of g.D.Disk.count g.D.Disk.limit) c.args.self.now.nodes.items)) (sym c.requires.empty) tt;
+      told = subst (λ answers. EachTold (ForgetAnswer true) [] answers (sight_at sight c.args.self.now.nodes.items) (sight_at sight c.args.self.now.nodes.items)) (sym c.requires.empty) tt;
       untouched = λ s not. refl;
-      nodes = nodes_same (sight_at (sight_of g.D.Disk.count g.D.Disk.limit) c.args.self.now.nodes.items);
+      nodes = nodes_same (sight_at sight c.args.self.now.nodes.items);
       filled = search rules;
       capacity = refl;
       count = refl;

@@ -8,7 +8,7 @@ use Rattle.cbdc_model.specs.Sights.{Sight}
 use Rattle.lane_laws.specs.Answers.{LockAnswer, EachTold}
 use Rattle.lane_driver.specs.Told.{LockTold, IsStamp}
 use Rattle.lane_driver.proofs.Fitting.{nodes_same, nodes_on}
-use Rattle.shard_node.specs.Shards.{sight_of}
+use Rattle.node_journal.specs.Nodes.{sight}
 use Rattle.node_ports.specs.Nodes.{sight_at}
 use Rattle.node_ports.proofs.Walking.{longer, as_found, as_found0, told_more, others_more}
 use Rattle.node_ports.proofs.shards.NodeShardsPortSet.lock.Goals as goal
@@ -16,10 +16,10 @@ use Rattle.node_ports.proofs.shards.NodeShardsPortSet.lock.Goals as goal
 pub calls-preserved : goal.calls-preserved
 calls-preserved g c =
     record {
-      each = subst (λ ys. AllZip (LockTold (sight_at (sight_of g.D.Disk.count g.D.Disk.limit) c.args.self.now.nodes.items)) ys c.push_reserved.new.self.items) (sym (longer (LockAnswer true) c.args.calls.now c.calls.shard-index c.calls-item.result c.calls-test.true c.calls-item.is)) (subst (λ ys. AllZip (LockTold (sight_at (sight_of g.D.Disk.count g.D.Disk.limit) c.args.self.now.nodes.items)) (take c.calls.shard-index c.args.calls.now ++ c.calls-item.result ∷ []) ys) (sym c.push_reserved.ensures.items) (all_zipped_more (LockTold (sight_at (sight_of g.D.Disk.count g.D.Disk.limit) c.args.self.now.nodes.items)) (take c.calls.shard-index c.args.calls.now) c.calls.out.items c.calls-item.result c.lock_one-answer.result c.calls.invariant.each (subst (λ a. IfOk c.lock_one-answer.result (λ r. IsStamp r.stamp × All (IsReply a.header.shape) r.replies)) (as_found (LockAnswer true) c.args.calls.now c.calls.shard-index c.calls-item.result c.calls-test.true c.calls-item.is (sight_at (sight_of g.D.Disk.count g.D.Disk.limit) c.args.self.now.nodes.items) (sight_at (sight_of g.D.Disk.count g.D.Disk.limit) c.calls.self.nodes.items) (sight_at (sight_of g.D.Disk.count g.D.Disk.limit) c.lock_one-answer.new.self.nodes.items) c.requires.shards.0 c.lock_one-answer.ensures.elsewhere c.calls.invariant.untouched) c.lock_one-answer.ensures.told)));
-      told = subst (λ ys. EachTold (LockAnswer true) (take (c.calls.shard-index + 1) c.args.calls.now) ys (sight_at (sight_of g.D.Disk.count g.D.Disk.limit) c.args.self.now.nodes.items) (sight_at (sight_of g.D.Disk.count g.D.Disk.limit) c.lock_one-answer.new.self.nodes.items)) (sym c.push_reserved.ensures.items) (told_more (LockAnswer true) c.args.calls.now c.calls.shard-index c.calls-item.result c.calls-test.true c.calls-item.is (sight_at (sight_of g.D.Disk.count g.D.Disk.limit) c.args.self.now.nodes.items) (sight_at (sight_of g.D.Disk.count g.D.Disk.limit) c.calls.self.nodes.items) (sight_at (sight_of g.D.Disk.count g.D.Disk.limit) c.lock_one-answer.new.self.nodes.items) c.requires.shards.0 c.lock_one-answer.ensures.elsewhere c.lock_one-answer.result c.calls.out.items c.calls.invariant.told c.calls.invariant.untouched c.lock_one-answer.ensures.answer);
-      untouched = others_more (LockAnswer true) c.args.calls.now c.calls.shard-index c.calls-item.result c.calls-test.true c.calls-item.is (sight_at (sight_of g.D.Disk.count g.D.Disk.limit) c.args.self.now.nodes.items) (sight_at (sight_of g.D.Disk.count g.D.Disk.limit) c.calls.self.nodes.items) (sight_at (sight_of g.D.Disk.count g.D.Disk.limit) c.lock_one-answer.new.self.nodes.items) c.requires.shards.0 c.lock_one-answer.ensures.elsewhere c.calls.invariant.untouched;
-      nodes = nodes_on (sight_at (sight_of g.D.Disk.count g.D.Disk.limit) c.args.self.now.nodes.items) (sight_at (sight_of g.D.Disk.count g.D.Disk.limit) c.calls.self.nodes.items) (sight_at (sight_of g.D.Disk.count g.D.Disk.limit) c.lock_one-answer.new.self.nodes.items) c.calls.invariant.nodes c.lock_one-answer.ensures.nodes;
+      each = subst (λ ys. AllZip (LockTold (sight_at sight c.args.self.now.nodes.items)) ys c.push_reserved.new.self.items) (sym (longer (LockAnswer true) c.args.calls.now c.calls.shard-index c.calls-item.result c.calls-test.true c.calls-item.is)) (subst (λ ys. AllZip (LockTold (sight_at sight c.args.self.now.nodes.items)) (take c.calls.shard-index c.args.calls.now ++ c.calls-item.result ∷ []) ys) (sym c.push_reserved.ensures.items) (all_zipped_more (LockTold (sight_at sight c.args.self.now.nodes.items)) (take c.calls.shard-index c.args.calls.now) c.calls.out.items c.calls-item.result c.lock_one-answer.result c.calls.invariant.each (subst (λ a. IfOk c.lock_one-answer.result (λ r. IsStamp r.stamp × All (IsReply a.header.shape) r.replies)) (as_found (LockAnswer true) c.args.calls.now c.calls.shard-index c.calls-item.result c.calls-test.true c.calls-item.is (sight_at sight c.args.self.now.nodes.items) (sight_at sight c.calls.self.nodes.items) (sight_at sight c.lock_one-answer.new.self.nodes.items) c.requires.shards.0 c.lock_one-answer.ensures.elsewhere c.calls.invariant.untouched) c.lock_one-answer.ensures.told)));
+      told = subst (λ ys. EachTold (LockAnswer true) (take (c.calls.shard-index + 1) c.args.calls.now) ys (sight_at sight c.args.self.now.nodes.items) (sight_at sight c.lock_one-answer.new.self.nodes.items)) (sym c.push_reserved.ensures.items) (told_more (LockAnswer true) c.args.calls.now c.calls.shard-index c.calls-item.result c.calls-test.true c.calls-item.is (sight_at sight c.args.self.now.nodes.items) (sight_at sight c.calls.self.nodes.items) (sight_at sight c.lock_one-answer.new.self.nodes.items) c.requires.shards.0 c.lock_one-answer.ensures.elsewhere c.lock_one-answer.result c.calls.out.items c.calls.invariant.told c.calls.invariant.untouched c.lock_one-answer.ensures.answer);
+      untouched = others_more (LockAnswer true) c.args.calls.now c.calls.shard-index c.calls-item.result c.calls-test.true c.calls-item.is (sight_at sight c.args.self.now.nodes.items) (sight_at sight c.calls.self.nodes.items) (sight_at sight c.lock_one-answer.new.self.nodes.items) c.requires.shards.0 c.lock_one-answer.ensures.elsewhere c.calls.invariant.untouched;
+      nodes = nodes_on (sight_at sight c.args.self.now.nodes.items) (sight_at sight c.calls.self.nodes.items) (sight_at sight c.lock_one-answer.new.self.nodes.items) c.calls.invariant.nodes c.lock_one-answer.ensures.nodes;
       filled = omega (arith, c.push_reserved.ensures.len, c.calls.invariant.filled);
       capacity = c.push_reserved.ensures.capacity ∙ c.calls.invariant.capacity;
       count = c.lock_one-answer.ensures.count ∙ c.calls.invariant.count;
@@ -29,7 +29,7 @@ calls-preserved g c =
 
 pub lock_one-answer-requires-clause-call : goal.lock_one-answer-requires-clause-call
 lock_one-answer-requires-clause-call g c =
-    let P : Sight → Type 0 = λ a. IsLockCall a.header c.calls-item.result.1 in subst P (sym (as_found0 (LockAnswer true) c.args.calls.now c.calls.shard-index c.calls-item.result c.calls-test.true c.calls-item.is (sight_at (sight_of g.D.Disk.count g.D.Disk.limit) c.args.self.now.nodes.items) (sight_at (sight_of g.D.Disk.count g.D.Disk.limit) c.calls.self.nodes.items) c.requires.shards.0 c.calls.invariant.untouched)) (subst (λ d. IsLockCall ((sight_at (sight_of g.D.Disk.count g.D.Disk.limit) c.args.self.now.nodes.items) d.0).header d.1) (sym c.calls-item.is) (c.requires.calls c.calls.shard-index c.calls-item.result c.calls-test.true))
+    let P : Sight → Type 0 = λ a. IsLockCall a.header c.calls-item.result.1 in subst P (sym (as_found0 (LockAnswer true) c.args.calls.now c.calls.shard-index c.calls-item.result c.calls-test.true c.calls-item.is (sight_at sight c.args.self.now.nodes.items) (sight_at sight c.calls.self.nodes.items) c.requires.shards.0 c.calls.invariant.untouched)) (subst (λ d. IsLockCall ((sight_at sight c.args.self.now.nodes.items) d.0).header d.1) (sym c.calls-item.is) (c.requires.calls c.calls.shard-index c.calls-item.result c.calls-test.true))
 
 pub lock_one-answer-requires-clause-place : goal.lock_one-answer-requires-clause-place
 lock_one-answer-requires-clause-place g c =
@@ -39,9 +39,9 @@ pub calls-init : goal.calls-init
 calls-init g c =
     record {
       each = search rules;
-      told = subst (λ answers. EachTold (LockAnswer true) [] answers (sight_at (sight_of g.D.Disk.count g.D.Disk.limit) c.args.self.now.nodes.items) (sight_at (sight_of g.D.Disk.count g.D.Disk.limit) c.args.self.now.nodes.items)) (sym c.requires.empty) tt;
+      told = subst (λ answers. EachTold (LockAnswer true) [] answers (sight_at sight c.args.self.now.nodes.items) (sight_at sight c.args.self.now.nodes.items)) (sym c.requires.empty) tt;
       untouched = λ s not. refl;
-      nodes = nodes_same (sight_at (sight_of g.D.Disk.count g.D.Disk.limit) c.args.self.now.nodes.items);
+      nodes = nodes_same (sight_at sight c.args.self.now.nodes.items);
       filled = search rules;
       capacity = refl;
       count = refl;

@@ -3,19 +3,19 @@ use Rattle.std.specs.List.{AllZip}
 use Rattle.std.specs.Vec.{vec_capacity, vec_len}
 use Rattle.lane_laws.specs.Answers.{LockAnswer, EachTold, Others}
 use Rattle.lane_driver.specs.Told.{LockTold, KeepNodes}
-use Rattle.shard_node.specs.Shards.{sight_of}
-use Rattle.node_ports.specs.Nodes.{sight_at, AreShardsHeld}
+use Rattle.node_journal.specs.Nodes.{sight}
+use Rattle.node_ports.specs.Nodes.{sight_at, AreNodesHeld}
 use Rattle.node_ports.proofs.shards.NodeShardsPortSet.lock.Given as goal
 
 abbrev pub invariant-calls : goal.invariant-calls
 invariant-calls g l = record {
-  each : AllZip (LockTold (sight_at (sight_of g.D.Disk.count g.D.Disk.limit) l.initial.self.nodes.items)) (take l.shard-index l.calls) l.out.items;
-  told : EachTold (LockAnswer true) (take l.shard-index l.calls) l.out.items (sight_at (sight_of g.D.Disk.count g.D.Disk.limit) l.initial.self.nodes.items) (sight_at (sight_of g.D.Disk.count g.D.Disk.limit) l.self.nodes.items);
-  untouched : Others (take l.shard-index l.calls) (sight_at (sight_of g.D.Disk.count g.D.Disk.limit) l.initial.self.nodes.items) (sight_at (sight_of g.D.Disk.count g.D.Disk.limit) l.self.nodes.items);
-  nodes : KeepNodes (sight_at (sight_of g.D.Disk.count g.D.Disk.limit) l.initial.self.nodes.items) (sight_at (sight_of g.D.Disk.count g.D.Disk.limit) l.self.nodes.items);
+  each : AllZip (LockTold (sight_at sight l.initial.self.nodes.items)) (take l.shard-index l.calls) l.out.items;
+  told : EachTold (LockAnswer true) (take l.shard-index l.calls) l.out.items (sight_at sight l.initial.self.nodes.items) (sight_at sight l.self.nodes.items);
+  untouched : Others (take l.shard-index l.calls) (sight_at sight l.initial.self.nodes.items) (sight_at sight l.self.nodes.items);
+  nodes : KeepNodes (sight_at sight l.initial.self.nodes.items) (sight_at sight l.self.nodes.items);
   filled : vec_len l.out ≡ l.shard-index;
   capacity : vec_capacity l.out ≡ vec_capacity l.initial.out;
   count : length l.self.nodes.items ≡ length l.initial.self.nodes.items;
-  later : (n : ℕ) → ((sight_at (sight_of g.D.Disk.count g.D.Disk.limit) l.initial.self.nodes.items) n).faults ≤ ((sight_at (sight_of g.D.Disk.count g.D.Disk.limit) l.self.nodes.items) n).faults;
-  holds : AreShardsHeld g.D.Disk.content g.D.Disk.images l.initial.self.nodes.items → AreShardsHeld g.D.Disk.content g.D.Disk.images l.self.nodes.items;
+  later : (n : ℕ) → ((sight_at sight l.initial.self.nodes.items) n).faults ≤ ((sight_at sight l.self.nodes.items) n).faults;
+  holds : AreNodesHeld g.D.Disk.content g.D.Disk.images l.initial.self.nodes.items → AreNodesHeld g.D.Disk.content g.D.Disk.images l.self.nodes.items;
 }

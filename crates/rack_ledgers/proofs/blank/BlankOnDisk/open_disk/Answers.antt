@@ -27,7 +27,7 @@ returns-in-Ok-records_of-clause-opens g c =
 
 pub returns-in-Ok-records_of-clause-same : goal.returns-in-Ok-records_of-clause-same
 returns-in-Ok-records_of-clause-same g c =
-    blank_same (λ b. b.node) (λ b. b.disk) g.D.Disk.content (g.D.Disk.content c.args.disk) (λ d. Rose (g.D.Disk.count c.args.disk) (g.D.Disk.count d)) c.in-Err.disk c.args.node
+    blank_same (λ b. b.node) (λ b. b.disk) g.D.Disk (g.D.Disk.content c.args.disk) (λ d. Rose (g.D.Disk.count c.args.disk) (g.D.Disk.count d)) c.in-Err.disk c.args.node
     c.blank_of-in-Ok-records_of.result (c.in-Err.ensures.same c.in-Ok-records_of.ensures.kept) c.blank_of-in-Ok-records_of.ensures.blank
 
 pub returns-in-Err-records_of-clause-same : goal.returns-in-Err-records_of-clause-same

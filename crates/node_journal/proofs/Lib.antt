@@ -1,0 +1,5 @@
+pub mod Leaving
+pub mod Journals
+pub mod Kept
+pub mod Stops
+pub mod Playing

@@ -1,0 +1,4 @@
+pub mod Nodes
+pub mod Shown
+pub mod Opening
+pub mod Opened

@@ -1,0 +1,49 @@
+// A shard takes in the records of its journal, as any node does.
+use crate::ShardCore;
+use cbdc_types::{Header, NodeOpenFault, Record};
+use record_grammar::Core;
+use std::alloc::{AllocError, Global};
+
+impl Core for ShardCore {
+    ghost use Rattle.record_grammar.specs.Kinds.{IsShardHeader, IsStart};
+    ghost use Rattle.shard_core.specs.Admitted.{IsAdmitted};
+    ghost use Rattle.shard_core.specs.Stands.{Stands};
+
+    ghost header = { λ core. core.header };
+
+    ghost stands = { Stands };
+
+    ghost admits = { IsAdmitted };
+
+    ghost kind = { IsShardHeader };
+
+    ghost other = { IsStart };
+
+    fn begin(alloc: Global, h: &Header, first: &Record) -> Result<ShardCore, NodeOpenFault> {
+        match first {
+            Record::Genesis { hashes, .. } => match ShardCore::new(alloc, h, hashes.as_slice()) {
+                Ok(core) => Ok(core),
+                Err(_) => Err(NodeOpenFault::Memory),
+            },
+            Record::Start { .. } => Err(NodeOpenFault::OtherKind),
+            _ => unreachable!(),
+        }
+    }
+
+    fn admit_known(&mut self, next: &Record) -> Result<bool, AllocError> {
+        ShardCore::admit_known(self, next)
+    }
+
+    fn apply(&mut self, next: &Record) {
+        match next {
+            Record::Lock { .. } => self.apply_lock(next),
+            Record::Finish { .. } => self.apply_finish(next),
+            Record::Forget { .. } => self.apply_forget(next),
+            _ => unreachable!(),
+        }
+    }
+
+    fn kept_room(&self) -> u64 {
+        ShardCore::kept_room(self)
+    }
+}
