@@ -69,7 +69,7 @@ pub record IsCutShort {D : Type 0} (device : Ghosts D) (held : ℕ → Option D)
   pub crashes : SurvivesCrashes device held K mint (submissions ++ joined files) E
 
 -- the journals of the ledger that the disks told
-abbrev pub entry_journals : {D : Type 0} {content : D → Option (List ℕ)} {held : ℕ → Option D} → IsCausedLedger device held → ℕ → List Record
+abbrev pub entry_journals : {D : Type 0} {device : Ghosts D} {held : ℕ → Option D} → IsCausedLedger device held → ℕ → List Record
 entry_journals ledger n = journal n (reverse ledger.rows)
 
 -- the disks told a ledger in which each record was caused; each of its disks had room for its journal and for what is kept for the batches that were
