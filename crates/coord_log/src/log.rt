@@ -141,10 +141,10 @@ impl<D: Disk> CoordLog<D> {
         ensures journal { IsJournal self.new.header self.new.journal }
         ensures header { self.new.header ≡ self.old.header }
         ensures limit { self.new.capacity ≡ self.old.capacity }
-        ensures holds { HoldsJournal D.content D.images self.old → HoldsJournal D.content D.images self.new }
+        ensures holds { HoldsJournal D.Disk self.old → HoldsJournal D.Disk self.new }
 
         // A crash at any moment of the call leaves the journal from before it or the one behind it.
-        ensures leaves { HoldsJournal D.content D.images self.old → LeavesBetween D.tells_past D.moment D.images_since D.images self.old self.new }
+        ensures leaves { HoldsJournal D.Disk self.old → LeavesBetween D.Disk self.old self.new }
     {
         match self.log.is_broken() {
             Some(since) => return Err(NodeFault::Broken { since }),
@@ -206,10 +206,10 @@ impl<D: Disk> CoordLog<D> {
         ensures journal { IsJournal self.new.header self.new.journal }
         ensures header { self.new.header ≡ self.old.header }
         ensures limit { self.new.capacity ≡ self.old.capacity }
-        ensures holds { HoldsJournal D.content D.images self.old → HoldsJournal D.content D.images self.new }
+        ensures holds { HoldsJournal D.Disk self.old → HoldsJournal D.Disk self.new }
 
         // A crash at any moment of the call leaves the journal from before it or the one behind it.
-        ensures leaves { HoldsJournal D.content D.images self.old → LeavesBetween D.tells_past D.moment D.images_since D.images self.old self.new }
+        ensures leaves { HoldsJournal D.Disk self.old → LeavesBetween D.Disk self.old self.new }
     {
         match self.log.is_broken() {
             Some(since) => return Err(NodeFault::Broken { since }),
@@ -241,10 +241,10 @@ impl<D: Disk> CoordLog<D> {
         ensures journal { IsJournal self.new.header self.new.journal }
         ensures header { self.new.header ≡ self.old.header }
         ensures limit { self.new.capacity ≡ self.old.capacity }
-        ensures holds { HoldsJournal D.content D.images self.old → HoldsJournal D.content D.images self.new }
+        ensures holds { HoldsJournal D.Disk self.old → HoldsJournal D.Disk self.new }
 
         // A crash at any moment of the call leaves the journal from before it or the one behind it.
-        ensures leaves { HoldsJournal D.content D.images self.old → LeavesBetween D.tells_past D.moment D.images_since D.images self.old self.new }
+        ensures leaves { HoldsJournal D.Disk self.old → LeavesBetween D.Disk self.old self.new }
     {
         match self.log.is_broken() {
             Some(since) => return Err(NodeFault::Broken { since }),
@@ -275,10 +275,10 @@ impl<D: Disk> CoordLog<D> {
         ensures journal { IsJournal self.new.header self.new.journal }
         ensures header { self.new.header ≡ self.old.header }
         ensures limit { self.new.capacity ≡ self.old.capacity }
-        ensures holds { HoldsJournal D.content D.images self.old → HoldsJournal D.content D.images self.new }
+        ensures holds { HoldsJournal D.Disk self.old → HoldsJournal D.Disk self.new }
 
         // A crash at any moment of the call leaves the journal from before it or the one behind it.
-        ensures leaves { HoldsJournal D.content D.images self.old → LeavesBetween D.tells_past D.moment D.images_since D.images self.old self.new }
+        ensures leaves { HoldsJournal D.Disk self.old → LeavesBetween D.Disk self.old self.new }
     {
         match self.log.is_broken() {
             Some(since) => return Err(NodeFault::Broken { since }),

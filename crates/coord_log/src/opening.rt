@@ -27,7 +27,7 @@ impl<D: Disk> CoordLog<D> {
     /// Out of memory: the disk comes back as it was read.
     pub fn open(alloc: Global, disk: D) -> Result<CoordLog<D>, (D, NodeOpenFault)>
         // The content opens to just this journal, and a crash leaves nothing else.
-        ensures opens { IfOk result (λ l. Tells (D.content disk) (λ c. IsCoordJournal l.header l.journal c × HoldsJournal D.content D.images l)) }
+        ensures opens { IfOk result (λ l. Tells (D.content disk) (λ c. IsCoordJournal l.header l.journal c × HoldsJournal D.Disk l)) }
         ensures journal { IfOk result (λ l. IsJournal l.header l.journal) }
         ensures coordinator { IfOk result (λ l. IsCoord l.header) }
 

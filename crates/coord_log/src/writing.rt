@@ -37,9 +37,9 @@ pub(crate) fn write<D: Disk>(
         (λ e. (e ≡ NodeFault.DiskFault) × Fails (sight (shown log.old opened flight.old)) (sight (shown log.new opened flight.new)) (reverse log.old.records.items) next) }
     ensures sound { (opened : ℕ) → opened ≤ D.count (disk_of log.old.journal) → IsSound log.new core.new opened flight.new }
     ensures broken { MatchResult result (λ _. broken_of log.new.journal ≡ None) (λ _. broken_of log.new.journal ≡ Option.Some (D.count (disk_of log.new.journal))) }
-    ensures holds { (opened : ℕ) → HoldsJournal D.content D.images (shown log.old opened flight.old) → HoldsJournal D.content D.images (shown log.new opened flight.new) }
-    ensures leaves { (opened : ℕ) → HoldsJournal D.content D.images (shown log.old opened flight.old)
-        → LeavesBetween D.tells_past D.moment D.images_since D.images (shown log.old opened flight.old) (shown log.new opened flight.new) }
+    ensures holds { (opened : ℕ) → HoldsJournal D.Disk (shown log.old opened flight.old) → HoldsJournal D.Disk (shown log.new opened flight.new) }
+    ensures leaves { (opened : ℕ) → HoldsJournal D.Disk (shown log.old opened flight.old)
+        → LeavesBetween D.Disk (shown log.old opened flight.old) (shown log.new opened flight.new) }
     ensures journal { IsJournal log.new.header (reverse log.new.records.items) }
     ensures header { log.new.header ≡ log.old.header }
     ensures limit { D.limit (disk_of log.new.journal) ≡ D.limit (disk_of log.old.journal) }

@@ -1,6 +1,7 @@
 -- What is told of the lanes' open batches by their coordinators' journals.
 use Rattle.std.proofs.Common.{◌≡◌, ℕ, ◌<◌, List, get_or, Option, Some, None, Result, Ok, Err, IfOk, IfSome, refl, sym, ap, ◌∙◌, subst}
 use Rattle.std.specs.Prelude.{option_map}
+use Rattle.outside.specs.declared.disk.Disk.{Ghosts}
 use Rattle.cbdc_types.specs.declared.batch.OpenLane.{OpenLane}
 use Rattle.cbdc_model.specs.Records.{Shape, Header, Batch, Compact, Outcome, Record, txs_in, outcomes_in, txs_of, outcomes_of}
 use Rattle.cbdc_model.specs.Slots.{Slot, slot, slot_stamp}
@@ -43,7 +44,7 @@ same_open lane L M same =
     stamps : slot_stamp M lane ≡ slot_stamp L lane
     stamps = stamp_own lane M ∙ ap (λ N. slot_stamp N lane) same ∙ sym (stamp_own lane L)
 
-module _ {D : Type 0} (content : D → Option (List ℕ)) (images : D → List ℕ → Type 0) (h : Header) (lane : ℕ) (logs shards : List (NodeOf D))
+module _ {D : Type 0} (device : Ghosts D) (h : Header) (lane : ℕ) (logs shards : List (NodeOf D))
     (ledger : IsLedger h logs shards) (lt : IsLaneOf h.shape lane) where
   abbrev K : Shape
   K = h.shape
@@ -63,10 +64,10 @@ module _ {D : Type 0} (content : D → Option (List ℕ)) (images : D → List �
   pub is_found : (at : ℕ) (x : NodeOf D) → at ≡ home_of K lane → x ≡ get_or logs at x → {E : Type 0} (found : Result (Option OpenLane) E) → IfOk found (λ o. o ≡ open_lane x.journal lane) → IfOk found (IsFound K I opens lane)
   is_found at x at_is is (Err e) told = tt
   is_found at x at_is is (Ok found) told =
-      let there : opens lane ≡ found = told_there content images h lane logs shards ledger lt at x at_is is found found told refl in
+      let there : opens lane ≡ found = told_there device h lane logs shards ledger lt at x at_is is found found told refl in
       record {
         told = sym there;
-        idle = λ none. none_open content images h lane logs shards ledger lt (there ∙ none);
+        idle = λ none. none_open device h lane logs shards ledger lt (there ∙ none);
         size = sizes found there;
       }
 

@@ -5,6 +5,7 @@ use Rattle.std.specs.List.{All}
 use Rattle.std.proofs.lemmas.List.Elements.{All-nil, All-cons, All-head, All-tail, All-weaker}
 use Rattle.std.proofs.lemmas.Nat.{div_below}
 use Rattle.std.proofs.lemmas.Bool.Decides.{eqb_tells}
+use Rattle.outside.specs.declared.disk.Disk.{Ghosts}
 use Rattle.cbdc_types.specs.declared.batch.OpenLane.{OpenLane}
 use Rattle.cbdc_model.specs.Records.{Header, txs_of}
 use Rattle.cbdc_model.specs.Slots.{slot}
@@ -52,12 +53,12 @@ module _ {D : Type 0} where
   next_at (l ∷ logs) all zero lt = All-head FliesNext l logs all
   next_at (l ∷ logs) all (suc n) lt = next_at logs (All-tail FliesNext l logs all) n (omega (arith, lt))
 
-  pub all_held : (content : D → Option (List ℕ)) (images : D → List ℕ → Type 0) (logs : List (NodeOf D)) → All (λ l. IsJournal l.header l.journal) logs → All (HoldsJournal content images) logs
-      → AreNodesHeld content images logs
-  all_held content images [] js hs = All-nil (IsNodeHeld content images)
-  all_held content images (l ∷ logs) js hs = All-cons (IsNodeHeld content images) l logs
-      (record { journal = All-head (λ l. IsJournal l.header l.journal) l logs js; held = All-head (HoldsJournal content images) l logs hs })
-      (all_held content images logs (All-tail (λ l. IsJournal l.header l.journal) l logs js) (All-tail (HoldsJournal content images) l logs hs))
+  pub all_held : (device : Ghosts D) (logs : List (NodeOf D)) → All (λ l. IsJournal l.header l.journal) logs → All (HoldsJournal device) logs
+      → AreNodesHeld device logs
+  all_held device [] js hs = All-nil (IsNodeHeld device)
+  all_held device (l ∷ logs) js hs = All-cons (IsNodeHeld device) l logs
+      (record { journal = All-head (λ l. IsJournal l.header l.journal) l logs js; held = All-head (HoldsJournal device) l logs hs })
+      (all_held device logs (All-tail (λ l. IsJournal l.header l.journal) l logs js) (All-tail (HoldsJournal device) l logs hs))
 
   none_flies : (shards : List (NodeOf D)) (n : ℕ) → length shards ≤ n → (sight_at sight shards n).flight ≡ None
   none_flies [] n le = refl
@@ -103,13 +104,13 @@ module _ {D : Type 0} where
       (journal_at logs ledger.log_journals at (subst (λ n. n < length logs) (sym e) (subst (λ m. home_of h.shape lane < m) (sym ledger.coordinators) (home_inside lane h.shape.coordinators h.shape.lanes lt))))
       (is_lane h logs shards lane at ledger lt e) (subst (λ n. open_lane (sight_at sight logs n).seen lane ≡ Some o) (sym e) told)
 
-  module _ (content : D → Option (List ℕ)) (images : D → List ℕ → Type 0) (h : Header) (lane at at' : ℕ) (logs shards : List (NodeOf D)) (logs' : List (NodeOf D)) (shards' : List (NodeOf D))
+  module _ (device : Ghosts D) (h : Header) (lane at at' : ℕ) (logs shards : List (NodeOf D)) (logs' : List (NodeOf D)) (shards' : List (NodeOf D))
       (ledger : IsLedger h logs shards) (lt : IsLaneOf h.shape lane) (at_is : at ≡ home_of h.shape lane) (at_same : at' ≡ at)
       (named : ℕ) (named_is : named ≡ lane) (log_count : length logs' ≡ length logs) (shard_count : length shards' ≡ length shards)
       (elsewhere : (n : ℕ) → n ≢ at → sight_at sight logs' n ≡ sight_at sight logs n) (log_nodes : KeepNodes (sight_at sight logs) (sight_at sight logs')) (shard_nodes : KeepNodes (sight_at sight shards) (sight_at sight shards'))
       (others : KeepsOthers (sight_at sight logs at).header named (λ l. (slot (sight_at sight logs at).seen l).phase) (λ l. (slot (sight_at sight logs' at').seen l).phase)
       (λ l. txs_of (sight_at sight logs at).seen (open_batch (sight_at sight logs at).seen l)) (λ l. txs_of (sight_at sight logs' at').seen (open_batch (sight_at sight logs' at').seen l)))
-      (log_holds : AreNodesHeld content images logs → AreNodesHeld content images logs') (shard_holds : AreNodesHeld content images shards → AreNodesHeld content images shards')
+      (log_holds : AreNodesHeld device logs → AreNodesHeld device logs') (shard_holds : AreNodesHeld device shards → AreNodesHeld device shards')
       (log_later : (n : ℕ) → (sight_at sight logs n).faults ≤ (sight_at sight logs' n).faults)
       (shard_later : (n : ℕ) → (sight_at sight shards n).faults ≤ (sight_at sight shards' n).faults)
       (log_journals : All (λ l. IsJournal l.header l.journal) logs') (shard_journals : All (λ s. IsJournal s.header s.journal) shards') (log_flights : All FliesNext logs') (shard_flights : All FliesNext shards') where
@@ -150,10 +151,10 @@ module _ {D : Type 0} where
             (subst (λ m. (slot (sight_at sight logs' m).seen l).phase ≡ (slot (sight_at sight logs at).seen l).phase) at_same (others l (is_home l e low) (λ is. other (is ∙ named_is))).0)
         at_home (inr n) = ap (λ s. (slot s.seen l).phase) (elsewhere (home_of h.shape l) n)
 
-    stored : AreStored content images logs shards → AreStored content images logs' shards'
+    stored : AreStored device logs shards → AreStored device logs' shards'
     stored s = record {
-      logs_are = All-weaker (IsNodeHeld content images) (HoldsJournal content images) (λ l x. x.held) logs' (log_holds (all_held content images logs ledger.log_journals s.logs_are));
-      shards_are = All-weaker (IsNodeHeld content images) (HoldsJournal content images) (λ x y. y.held) shards' (shard_holds (all_held content images shards ledger.shard_journals s.shards_are));
+      logs_are = All-weaker (IsNodeHeld device) (HoldsJournal device) (λ l x. x.held) logs' (log_holds (all_held device logs ledger.log_journals s.logs_are));
+      shards_are = All-weaker (IsNodeHeld device) (HoldsJournal device) (λ x y. y.held) shards' (shard_holds (all_held device shards ledger.shard_journals s.shards_are));
     }
 
     later : (n : ℕ) → faults_of h.shape logs shards n ≤ faults_of h.shape logs' shards' n
@@ -163,7 +164,7 @@ module _ {D : Type 0} where
           | false ↦ shard_later (n - h.shape.coordinators)
         ]
 
-    pub is_step : IsStep content images h lane logs shards logs' shards'
+    pub is_step : IsStep device h lane logs shards logs' shards'
     is_step = record {
       ledger = still_ledger;
       log_nodes = log_nodes;

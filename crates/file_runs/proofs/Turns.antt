@@ -7,6 +7,7 @@ use Rattle.cbdc_model.specs.Ranges.{home_of}
 use Rattle.cbdc_model.specs.Sights.{Sight}
 use Rattle.node_journal.specs.Nodes.{NodeOf, sight}
 use Rattle.std.specs.Prelude.{option_map}
+use Rattle.outside.specs.declared.disk.Disk.{Ghosts}
 use Rattle.cbdc_types.specs.declared.batch.Phase.{Phase as OpenPhase}
 use Rattle.cbdc_model.specs.Due.{open_batch}
 use Rattle.coord_log.specs.OpenLanes.{open_lane, open_phase, batch_in}
@@ -45,7 +46,7 @@ batch_of : (J : List Record) (lane : ℕ) (phase : Option OpenPhase) (o : OpenLa
 batch_of J lane None o told = absurd (let z : None ≡ Some o = told in cc)
 batch_of J lane (Some p) o told = let same : o ≡ batch_in J lane p = cc in ap (λ l. l.batch) same
 
-module _ {D : Type 0} (content : D → Option (List ℕ)) (images : D → List ℕ → Type 0) (h : Header) (lane : ℕ) (logs shards : List (NodeOf D))
+module _ {D : Type 0} (device : Ghosts D) (h : Header) (lane : ℕ) (logs shards : List (NodeOf D))
     (ledger : IsLedger h logs shards) (lt : IsLaneOf h.shape lane) where
   abbrev K : Shape
   K = h.shape
@@ -105,7 +106,7 @@ module _ {D : Type 0} (content : D → Option (List ℕ)) (images : D → List �
     pub told_there : (found o : Option OpenLane) → found ≡ open_lane x.journal lane → found ≡ o → open_lane (L (home_of K lane)).seen lane ≡ o
     told_there found o e f = ap (λ s. open_lane s.seen lane) here ∙ sym e ∙ f
 
-  module _ (logs' : List (NodeOf D)) (shards' : List (NodeOf D)) (step : IsStep content images h lane logs shards logs' shards') where
+  module _ (logs' : List (NodeOf D)) (shards' : List (NodeOf D)) (step : IsStep device h lane logs shards logs' shards') where
     abbrev L' : ℕ → Sight
     L' = sight_at sight logs'
 
@@ -135,7 +136,7 @@ module _ {D : Type 0} (content : D → Option (List ℕ)) (images : D → List �
       | false ↦ (step.shard_nodes (n - K.coordinators)).capacity
     ]
 
-    pub step_keeps : KeepsLedgerOf content images (record { header = h; logs = logs; shards = shards }) (record { header = h; logs = logs'; shards = shards' })
+    pub step_keeps : KeepsLedgerOf device (record { header = h; logs = logs; shards = shards }) (record { header = h; logs = logs'; shards = shards' })
     step_keeps = record { shape_same = refl; opened_same = opened_same; later = step.later; capacity_same = capacity_same; held = step.stored }
 
     shard_shapes : (s : ℕ) → s < K.shards → (S' s).header.shape ≡ K

@@ -2,6 +2,7 @@
 use Rattle.std.proofs.Common.{◌≡◌, ◌⊎◌, inl, inr, ℕ, suc, ◌-◌, ◌*◌, ◌<◌, ◌≤◌, true, false, nat_lt, if◌then◌else◌, List, [], ◌∷◌, length, Option, None, refl, sym, ap, ◌∙◌, subst, arith}
 use Rattle.std.specs.List.{All}
 use Rattle.std.proofs.lemmas.List.Elements.{All-nil, All-cons, All-weaker}
+use Rattle.outside.specs.declared.disk.Disk.{Ghosts}
 use Rattle.cbdc_model.specs.Records.{Header, Shape}
 use Rattle.cbdc_model.specs.Grammar.{IsCompact}
 use Rattle.cbdc_model.specs.Ranges.{home_of, shard_node}
@@ -43,10 +44,10 @@ module _ (K : Shape) (logs shards : ℕ → Sight) where
       back : shard_node K s - K.coordinators ≡ s
       back = omega arith
 
-module _ {D : Type 0} (content : D → Option (List ℕ)) (images : D → List ℕ → Type 0) (h : Header) (logs shards : List (NodeOf D)) (logs' : List (NodeOf D)) (shards' : List (NodeOf D))
+module _ {D : Type 0} (device : Ghosts D) (h : Header) (logs shards : List (NodeOf D)) (logs' : List (NodeOf D)) (shards' : List (NodeOf D))
     (old new : List LaneOf) (ledger : IsLedger h logs shards) (places : length old ≡ h.shape.coordinators * h.shape.lanes)
     (ran : WaveRan h.shape (sight_at sight logs) (sight_at sight shards) (sight_at sight logs') (sight_at sight shards') old new)
-    (logs_go : WentOn sight (λ a b. IsNodeHeld content images a → IsNodeHeld content images b) logs logs') (shards_go : WentOn sight (λ a b. IsNodeHeld content images a → IsNodeHeld content images b) shards shards')
+    (logs_go : WentOn sight (λ a b. IsNodeHeld device a → IsNodeHeld device b) logs logs') (shards_go : WentOn sight (λ a b. IsNodeHeld device a → IsNodeHeld device b) shards shards')
     (log_journals : All (λ l. IsJournal l.header l.journal) logs') (log_flights : All FliesNext logs') (shard_journals : All (λ s. IsJournal s.header s.journal) shards') (shard_flights : All FliesNext shards') where
   abbrev K : Shape
   K = h.shape
@@ -64,7 +65,7 @@ module _ {D : Type 0} (content : D → Option (List ℕ)) (images : D → List �
   S' = sight_at sight shards'
 
   abbrev Goes : NodeOf D → NodeOf D → Type 0
-  Goes a b = IsNodeHeld content images a → IsNodeHeld content images b
+  Goes a b = IsNodeHeld device a → IsNodeHeld device b
 
   log_count : length logs' ≡ length logs
   log_count = same_length sight Goes logs logs' logs_go
@@ -97,12 +98,12 @@ module _ {D : Type 0} (content : D → Option (List ℕ)) (images : D → List �
   all : AllSays K L S L' S' old new
   all = wave_ran_law K L S L' S' old new nodes places ran
 
-  stored : AreStored content images logs shards → AreStored content images logs' shards'
+  stored : AreStored device logs shards → AreStored device logs' shards'
   stored s = record {
-    logs_are = All-weaker (IsNodeHeld content images) (HoldsJournal content images) (λ l x. x.held) logs'
-        (all_held sight (IsNodeHeld content images) logs logs' logs_go (all_held_there content images logs ledger.log_journals s.logs_are));
-    shards_are = All-weaker (IsNodeHeld content images) (HoldsJournal content images) (λ x y. y.held) shards'
-        (all_held sight (IsNodeHeld content images) shards shards' shards_go (all_held_there content images shards ledger.shard_journals s.shards_are));
+    logs_are = All-weaker (IsNodeHeld device) (HoldsJournal device) (λ l x. x.held) logs'
+        (all_held sight (IsNodeHeld device) logs logs' logs_go (all_held_there device logs ledger.log_journals s.logs_are));
+    shards_are = All-weaker (IsNodeHeld device) (HoldsJournal device) (λ x y. y.held) shards'
+        (all_held sight (IsNodeHeld device) shards shards' shards_go (all_held_there device shards ledger.shard_journals s.shards_are));
   }
 
   -- nothing is in flight at any node, by its place or by its number
@@ -122,22 +123,22 @@ module _ {D : Type 0} (content : D → Option (List ℕ)) (images : D → List �
       log_at n (inl lt) = sym (log_flight K L' S' n lt) ∙ none n
       log_at n (inr le) = ap (λ x. x.flight) (past_end sight Goes logs' n (subst (λ m. m ≤ n) (sym still.coordinators) le))
 
-pub wave_law : {D : Type 0} (content : D → Option (List ℕ)) (images : D → List ℕ → Type 0) (h : Header) (logs shards : List (NodeOf D)) (logs' : List (NodeOf D)) (shards' : List (NodeOf D))
-    (old new : List LaneOf) → WaveLaw content images h logs shards logs' shards' old new
-wave_law content images h logs shards logs' shards' old new ledger places ran logs_go shards_go log_journals log_flights shard_journals shard_flights =
-    let a = all content images h logs shards logs' shards' old new ledger places ran logs_go shards_go log_journals log_flights shard_journals shard_flights in
+pub wave_law : {D : Type 0} (device : Ghosts D) (h : Header) (logs shards : List (NodeOf D)) (logs' : List (NodeOf D)) (shards' : List (NodeOf D))
+    (old new : List LaneOf) → WaveLaw device h logs shards logs' shards' old new
+wave_law device h logs shards logs' shards' old new ledger places ran logs_go shards_go log_journals log_flights shard_journals shard_flights =
+    let a = all device h logs shards logs' shards' old new ledger places ran logs_go shards_go log_journals log_flights shard_journals shard_flights in
     record {
-      ledger = still content images h logs shards logs' shards' old new ledger places ran logs_go shards_go log_journals log_flights shard_journals shard_flights;
+      ledger = still device h logs shards logs' shards' old new ledger places ran logs_go shards_go log_journals log_flights shard_journals shard_flights;
       says = a.0;
       checked = λ c. (c.0, a.0.checked c.0 c.1);
-      quiet = λ none q. now_quiet content images h logs shards logs' shards' old new ledger places ran logs_go shards_go log_journals log_flights shard_journals shard_flights
-          (a.0.quiet none (was_quiet content images h logs shards logs' shards' old new ledger places ran logs_go shards_go log_journals log_flights shard_journals shard_flights q));
+      quiet = λ none q. now_quiet device h logs shards logs' shards' old new ledger places ran logs_go shards_go log_journals log_flights shard_journals shard_flights
+          (a.0.quiet none (was_quiet device h logs shards logs' shards' old new ledger places ran logs_go shards_go log_journals log_flights shard_journals shard_flights q));
       keeps_ledger = record {
         shape_same = refl;
         opened_same = a.1.opened_same;
         later = a.1.later;
         capacity_same = a.1.capacity_same;
-        held = stored content images h logs shards logs' shards' old new ledger places ran logs_go shards_go log_journals log_flights shard_journals shard_flights;
+        held = stored device h logs shards logs' shards' old new ledger places ran logs_go shards_go log_journals log_flights shard_journals shard_flights;
       };
     }
 

@@ -1,5 +1,6 @@
 -- What a wave asks of its ledger and of its lanes, and what these are before it and behind it.
 use Rattle.std.specs.Prelude.{◌≡◌, ℕ, ◌*◌, Bool, true, false, List, [], length, Option, Some}
+use Rattle.outside.specs.declared.disk.Disk.{Ghosts}
 use Rattle.cbdc_model.specs.World.{AreIdle}
 use Rattle.ledger_runs.specs.Lanes.{LaneOf}
 use Rattle.ledger_runs.specs.Waving.{AreWithin}
@@ -15,16 +16,16 @@ pub record CanWave {D : Type 0} (ledger : LedgerOf D) (lanes : List LaneOf) : Ty
   pub checked : IsChecked ledger
 
 -- before the wave they are those that it begins with, and behind it as a wave leaves them
-abbrev pub Stands : {D : Type 0} → (D → Option (List ℕ)) → (D → List ℕ → Type 0) → LedgerOf D → List LaneOf → LedgerOf D → List LaneOf → Bool → Type 0
-Stands content images before lanes ledger works false = (ledger ≡ before) × (works ≡ lanes) × CanWave before lanes
-Stands content images before lanes ledger works true = IsWave content images before ledger lanes works
+abbrev pub Stands : {D : Type 0} → Ghosts D → LedgerOf D → List LaneOf → LedgerOf D → List LaneOf → Bool → Type 0
+Stands device before lanes ledger works false = (ledger ≡ before) × (works ≡ lanes) × CanWave before lanes
+Stands device before lanes ledger works true = IsWave device before ledger lanes works
 
 -- and the ledger is there
-pub record IsHeld {D : Type 0} (content : D → Option (List ℕ)) (images : D → List ℕ → Type 0) (before : LedgerOf D) (lanes : List LaneOf)
+pub record IsHeld {D : Type 0} (device : Ghosts D) (before : LedgerOf D) (lanes : List LaneOf)
     (ledger : Option (LedgerOf D)) (works : List LaneOf) (has_run : Bool) : Type 0 where
   pub now : LedgerOf D
   pub there : ledger ≡ Some now
-  pub stands : Stands content images before lanes now works has_run
+  pub stands : Stands device before lanes now works has_run
 
 -- what stands where no wave is picked
 pub no_ledger : {D : Type 0} → LedgerOf D

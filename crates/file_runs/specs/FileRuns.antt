@@ -1,5 +1,6 @@
 -- What running a client file came to.
 use Rattle.std.specs.Prelude.{◌<◌, ◌++◌, ℕ, Bool, List, Option, Result, IfOk, IfErr, OnOk}
+use Rattle.outside.specs.declared.disk.Disk.{Ghosts}
 use Rattle.cbdc_model.specs.Coins.{FullTx}
 use Rattle.cbdc_model.specs.Lanes.{IsEnd}
 use Rattle.cbdc_model.specs.World.{AreIdle}
@@ -17,8 +18,8 @@ use Rattle.file_runs.specs.Endings.{EndsFile}
 use Rattle.file_runs.specs.Telling.{TellsFile}
 
 -- A file's submissions were run over the nodes of a ledger with no open batch: what the ledger is behind it, and what came of it.
-pub record RanFile {D : Type 0} (content : D → Option (List ℕ)) (images : D → List ℕ → Type 0) (verdicts : VerdictsOf) (txs : List FullTx) (before now : Ledger D) (came : Result Wave LaneFault) : Type 0 where
-  pub keeps_ledger : KeepsLedgerOf content images before now
+pub record RanFile {D : Type 0} (device : Ghosts D) (verdicts : VerdictsOf) (txs : List FullTx) (before now : Ledger D) (came : Result Wave LaneFault) : Type 0 where
+  pub keeps_ledger : KeepsLedgerOf device before now
   pub idle : OnOk came (AreIdle before.header.shape (journals now))
   -- kept journals have grown and are kept, with these submissions besides
   pub keeps : OfKept before.header.shape (journals before) (λ mint submissions. StaysKept before.header.shape (journals before) (journals now) mint (submissions ++ txs))

@@ -1,5 +1,6 @@
 -- The nodes of a ledger, open.
 use Rattle.std.specs.Prelude.{◌≡◌, ℕ, ◌-◌, ◌<◌, nat_lt, if◌then◌else◌, List, length, Option, None, IfSome, All}
+use Rattle.outside.specs.declared.disk.Disk.{Ghosts}
 use Rattle.cbdc_types.specs.Limits.{IsWithinLimits}
 use Rattle.cbdc_model.specs.Records.{Shape, Header, Record}
 use Rattle.cbdc_model.specs.Ranges.{shard_node}
@@ -59,9 +60,9 @@ abbrev pub AreChecked : {D : Type 0} → Shape → List (NodeOf D) → List (Nod
 AreChecked K logs shards = (m : Minted) × CheckedJournals K m (journals_of K logs shards)
 
 -- each node's disk holds its journal
-pub record AreStored {D : Type 0} (content : D → Option (List ℕ)) (images : D → List ℕ → Type 0) (logs shards : List (NodeOf D)) : Type 0 where
-  pub logs_are : All (HoldsJournal content images) logs
-  pub shards_are : All (HoldsJournal content images) shards
+pub record AreStored {D : Type 0} (device : Ghosts D) (logs shards : List (NodeOf D)) : Type 0 where
+  pub logs_are : All (HoldsJournal device) logs
+  pub shards_are : All (HoldsJournal device) shards
 
 -- no node has a record in flight
 pub record AreQuiet {D : Type 0} (logs shards : List (NodeOf D)) : Type 0 where
@@ -94,15 +95,15 @@ module _ {D : Type 0} where
   IsChecked l = AreChecked l.header.shape l.logs l.shards
 
 -- each node's disk holds its journal, and no node has a record in flight
-abbrev pub IsStored : {D : Type 0} → (D → Option (List ℕ)) → (D → List ℕ → Type 0) → LedgerOf D → Type 0
-IsStored content images l = AreStored content images l.logs l.shards
+abbrev pub IsStored : {D : Type 0} → Ghosts D → LedgerOf D → Type 0
+IsStored device l = AreStored device l.logs l.shards
 
 abbrev pub IsQuiet : {D : Type 0} → LedgerOf D → Type 0
 IsQuiet l = AreQuiet l.logs l.shards
 
 -- what a call keeps of a ledger's nodes
-module _ {D : Type 0} (content : D → Option (List ℕ)) (images : D → List ℕ → Type 0) where
+module _ {D : Type 0} (device : Ghosts D) where
   -- `KeepsLedger` (ledger_runs) of a ledger's nodes: what their disks held they hold
   abbrev pub KeepsLedgerOf : LedgerOf D → LedgerOf D → Type 0
   KeepsLedgerOf before after =
-      KeepsLedger (λ (l : LedgerOf D). l.header.shape) opened faults capacity (IsStored content images) before after
+      KeepsLedger (λ (l : LedgerOf D). l.header.shape) opened faults capacity (IsStored device) before after

@@ -1,5 +1,6 @@
 -- What is said of the nodes of a ledger behind a wave of its lanes.
 use Rattle.std.specs.Prelude.{◌≡◌, ℕ, ◌*◌, List, length, Option, All}
+use Rattle.outside.specs.declared.disk.Disk.{Ghosts}
 use Rattle.cbdc_model.specs.Records.{Header}
 use Rattle.cbdc_model.specs.After.{IsJournal}
 use Rattle.node_journal.specs.Nodes.{NodeOf, sight}
@@ -13,21 +14,21 @@ use Rattle.file_runs.specs.Ledgers.{LedgerOf, IsLedger, FliesNext, journals, fli
 
 -- from a ledger to what it is behind the wave: it is a ledger still; all that is said of a wave; checked journals stay checked; where no lane stopped,
 -- and nothing was in flight before, nothing is; and what a call keeps of a ledger's nodes is kept
-pub record IsWave {D : Type 0} (content : D → Option (List ℕ)) (images : D → List ℕ → Type 0) (before after : LedgerOf D)
+pub record IsWave {D : Type 0} (device : Ghosts D) (before after : LedgerOf D)
     (old new : List LaneOf) : Type 0 where
   pub ledger : IsLedger after.header after.logs after.shards
   pub says : WaveSays before.header.shape (journals before) (journals after) (flights before) (flights after)
       (opened after) (faults after) (capacity after) old new
   pub checked : IsChecked before → IsChecked after
   pub quiet : NoFault new → IsQuiet before → IsQuiet after
-  pub keeps_ledger : KeepsLedgerOf content images before after
+  pub keeps_ledger : KeepsLedgerOf device before after
 
-module _ {D : Type 0} (content : D → Option (List ℕ)) (images : D → List ℕ → Type 0) (h : Header) (logs shards : List (NodeOf D)) (logs' : List (NodeOf D)) (shards' : List (NodeOf D))
+module _ {D : Type 0} (device : Ghosts D) (h : Header) (logs shards : List (NodeOf D)) (logs' : List (NodeOf D)) (shards' : List (NodeOf D))
     (old new : List LaneOf) where
   -- so it is where a wave ran at a ledger's nodes, each of which went on from what it was, with a journal of its header and what may come next in flight
   abbrev pub WaveLaw : Type 0
   WaveLaw = IsLedger h logs shards → length old ≡ h.shape.coordinators * h.shape.lanes
       → WaveRan h.shape (sight_at sight logs) (sight_at sight shards) (sight_at sight logs') (sight_at sight shards') old new
-      → WentOn sight (λ a b. IsNodeHeld content images a → IsNodeHeld content images b) logs logs' → WentOn sight (λ a b. IsNodeHeld content images a → IsNodeHeld content images b) shards shards'
+      → WentOn sight (λ a b. IsNodeHeld device a → IsNodeHeld device b) logs logs' → WentOn sight (λ a b. IsNodeHeld device a → IsNodeHeld device b) shards shards'
       → All (λ l. IsJournal l.header l.journal) logs' → All FliesNext logs' → All (λ s. IsJournal s.header s.journal) shards' → All FliesNext shards'
-      → IsWave content images (record { header = h; logs = logs; shards = shards }) (record { header = h; logs = logs'; shards = shards' }) old new
+      → IsWave device (record { header = h; logs = logs; shards = shards }) (record { header = h; logs = logs'; shards = shards' }) old new

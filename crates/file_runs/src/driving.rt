@@ -81,7 +81,7 @@ pub(crate) fn drive_resume<W: Wait, D: Disk, G: Gate>(
     requires told { open_lane (sight_at sight ports.old.log.logs.items (home_of header.now.shape lane)).seen lane ≡ Some unfinished.now }
     requires plan { plan ≡ record { shape = header.now.shape; lanes = unfinished.now ∷ [] } }
     requires checked { AreChecked header.now.shape ports.old.log.logs.items ports.old.shards.nodes.items }
-    ensures step { IsStep D.content D.images header.now lane ports.old.log.logs.items ports.old.shards.nodes.items ports.new.log.logs.items ports.new.shards.nodes.items }
+    ensures step { IsStep D.Disk header.now lane ports.old.log.logs.items ports.old.shards.nodes.items ports.new.log.logs.items ports.new.shards.nodes.items }
     ensures taken { OnOk result (IsUnfinished unfinished.now.phase header.now.shape unfinished.now
         (sight_at sight ports.old.log.logs.items (home_of header.now.shape lane)) (sight_at sight ports.old.shards.nodes.items)
         → IsTakenUp header.now.shape true unfinished.now.batch

@@ -121,7 +121,7 @@ impl<'a, W: Wait, D: Disk, V: Verifier, F: Deals, B: Waving<D>> Model for Held<'
 
     ghost view = { λ h. h.has_run };
 
-    ghost invariant = { λ h. IsHeld D.content D.images B.before B.lanes h.ledger h.works.items h.has_run };
+    ghost invariant = { λ h. IsHeld D.Disk B.before B.lanes h.ledger h.works.items h.has_run };
 }
 
 // Runs the wave, unless it has run.
@@ -209,7 +209,7 @@ pub(crate) fn run_fed<
     requires before { ledger ≡ B.before }
     requires lanes { works.items ≡ B.lanes }
     requires can { CanWave B.before B.lanes }
-    ensures { IsWave D.content D.images B.before result.ledger B.lanes result.works.items }
+    ensures { IsWave D.Disk B.before result.ledger B.lanes result.works.items }
 {
     let shape = *ledger.shape();
     let mut held: Held<'a, W, D, V, F, B> = Held {

@@ -46,7 +46,7 @@ pub fn run_files<W: Wait + Threads + Sync, D: Disk + Send, V: Verifier + Sync, G
     requires idle { AreIdle ledger.header.shape (journals ledger) }
     requires short { All (λ txs. All IsShort txs) files.now }
     requires checked { IsChecked ledger }
-    ensures keeps_ledger { KeepsLedgerOf D.content D.images ledger result.ledger }
+    ensures keeps_ledger { KeepsLedgerOf D.Disk ledger result.ledger }
     ensures idle { OnOk result.came (AreIdle ledger.header.shape (journals result.ledger)) }
 
     // Kept journals have grown and are kept, with the submissions of all files besides.

@@ -96,7 +96,7 @@ impl<'r, W: Wait, D: Disk> Turns for LentLedger<'r, W, D> {
 
     ghost wanting = { λ l lane. Unit {0} };
 
-    ghost holds = { λ l. AreStored D.content D.images l.logs l.shards };
+    ghost holds = { λ l. AreStored D.Disk l.logs l.shards };
 
     fn shape(&self) -> &Shape {
         &self.header.shape

@@ -134,7 +134,7 @@ fn run_dealt<
     requires idle { AreIdle ledger.header.shape (journals ledger) }
     requires short { All IsShort F.file }
     requires checked { IsChecked ledger }
-    ensures { RanFile D.content D.images F.verdicts F.file ledger result.ledger result.came }
+    ensures { RanFile D.Disk F.verdicts F.file ledger result.ledger result.came }
 {
     let mut feeders = Vec::new(alloc);
     let Ok(works) = works_of(rt, alloc, file, repeats, &mut feeders) else {
@@ -187,7 +187,7 @@ fn run_picked<
     requires idle { AreIdle ledger.header.shape (journals ledger) }
     requires short { All IsShort txs.now }
     requires checked { IsChecked ledger }
-    ensures { RanFile D.content D.images F.verdicts F.file ledger result.ledger result.came }
+    ensures { RanFile D.Disk F.verdicts F.file ledger result.ledger result.came }
 {
     let file: FileOf<'_, V, F> = FileOf::new(txs, verifier, ledger.shape().lane_count());
     run_dealt(rt, alloc, &file, ledger, options.repeats, gate)
@@ -207,7 +207,7 @@ pub fn run_file<W: Wait + Threads + Sync, D: Disk + Send, V: Verifier + Sync, G:
     requires idle { AreIdle ledger.header.shape (journals ledger) }
     requires short { All IsShort txs.now }
     requires checked { IsChecked ledger }
-    ensures { RanFile D.content D.images (V.verdict_of verifier.now) txs.now ledger result.ledger result.came }
+    ensures { RanFile D.Disk (V.verdict_of verifier.now) txs.now ledger result.ledger result.came }
 {
     run_picked::<W, D, V, Brand, G>(rt, alloc, ledger, txs, verifier, options, gate)
 }

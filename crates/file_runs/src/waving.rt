@@ -47,7 +47,7 @@ pub fn run_wave<W: Threads + Wait + Sync, D: Disk + Send, X: Source + Send, G: G
     requires limits { AreWithin lanes.old.items }
     requires checked { IsChecked ledger }
     ensures header { result.header ≡ ledger.header }
-    ensures wave { IsWave D.content D.images ledger result lanes.old.items lanes.new.items }
+    ensures wave { IsWave D.Disk ledger result lanes.old.items lanes.new.items }
 {
     let Ledger {
         header,

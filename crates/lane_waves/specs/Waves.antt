@@ -1,6 +1,7 @@
 -- What a wave is asked, and what comes of its lanes at their seats.
 use Rattle.std.specs.Prelude.{◌≡◌, ◌<◌, ℕ, List, Option, length}
 use Rattle.std.specs.Global.{Vec}
+use Rattle.outside.specs.declared.disk.Disk.{Ghosts}
 use Rattle.cbdc_model.specs.Records.{Shape}
 use Rattle.cbdc_model.specs.Ranges.{shard_node}
 use Rattle.cbdc_model.specs.Sights.{Sight}
@@ -22,8 +23,8 @@ pub record AreNodesOf (K : Shape) (logs shards : ℕ → Sight) : Type 0 where
   pub shards_are : (s : ℕ) → s < K.shards → ((shards s).header.shape ≡ K) × ((shards s).header.node ≡ shard_node K s)
 
 -- what stays true of a node under its wrapper, whatever is asked of it
-abbrev pub log_goes : {D : Type 0} → (D → Option (List ℕ)) → (D → List ℕ → Type 0) → SharedLog D → SharedLog D → Type 0
-log_goes content images a b = IsNodeHeld content images a.node → IsNodeHeld content images b.node
+abbrev pub log_goes : {D : Type 0} → Ghosts D → SharedLog D → SharedLog D → Type 0
+log_goes device a b = IsNodeHeld device a.node → IsNodeHeld device b.node
 
 -- `log_goes`, `shard_goes`: what stays true of a node under its wrapper: of a coordinator, that its disk holds its journal, if it did; of a shard,
 -- what its type keeps

@@ -287,7 +287,7 @@ fn lock_nodes<D: Disk, S: Shard>(
     ensures logs_room { IfOk result (λ k. (k.logs.room.items ≡ []) × (length nodes.logs.items ≤ vec_capacity k.logs.room)) }
     ensures shards { IfOk result (λ k. AreLocked (shard_sight S.sight) nodes.shards.items shard_rows.items k.shards.locks.items k.shards.seats.items) }
     ensures shards_room { IfOk result (λ k. (k.shards.room.items ≡ []) × (length nodes.shards.items ≤ vec_capacity k.shards.room)) }
-    ensures logs_back { IfErr result (λ n. AreStill log_sight (log_goes D.content D.images) nodes.logs.items n.logs.items) }
+    ensures logs_back { IfErr result (λ n. AreStill log_sight (log_goes D.Disk) nodes.logs.items n.logs.items) }
     ensures shards_back { IfErr result (λ n. AreStill (shard_sight S.sight) (shard_goes S.goes) nodes.shards.items n.shards.items) }
 {
     let SharedNodes { logs, shards } = nodes;
@@ -336,7 +336,7 @@ fn wave_shared<
     requires lanes { All MayRun lanes.old.items }
     requires lanes_many { length lanes.old.items ≡ shape.now.coordinators * shape.now.lanes }
     ensures ran { WaveRan shape.now (sight_at log_sight nodes.logs.items) (sight_at (shard_sight S.sight) nodes.shards.items) (sight_at log_sight result.logs.items) (sight_at (shard_sight S.sight) result.shards.items) lanes.old.items lanes.new.items }
-    ensures logs_go { WentOn log_sight (log_goes D.content D.images) nodes.logs.items result.logs.items }
+    ensures logs_go { WentOn log_sight (log_goes D.Disk) nodes.logs.items result.logs.items }
     ensures shards_go { WentOn (shard_sight S.sight) (shard_goes S.goes) nodes.shards.items result.shards.items }
 {
     let LockedNodes { logs, shards } = match lock_nodes(alloc, nodes, home_rows, shard_rows) {
@@ -410,7 +410,7 @@ pub fn wave<
     requires limits { All (λ x. All IsCompact x.txs) lanes.old.items }
     requires lanes_many { length lanes.old.items ≡ shape.now.coordinators * shape.now.lanes }
     ensures ran { WaveRan shape.now (sight_at sight nodes.logs.items) (sight_at S.sight nodes.shards.items) (sight_at sight result.logs.items) (sight_at S.sight result.shards.items) lanes.old.items lanes.new.items }
-    ensures logs_go { WentOn sight (λ a b. IsNodeHeld D.content D.images a → IsNodeHeld D.content D.images b) nodes.logs.items result.logs.items }
+    ensures logs_go { WentOn sight (λ a b. IsNodeHeld D.Disk a → IsNodeHeld D.Disk b) nodes.logs.items result.logs.items }
     ensures shards_go { WentOn S.sight S.goes nodes.shards.items result.shards.items }
 {
     see_logs(nodes.logs.as_slice());

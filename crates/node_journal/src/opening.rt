@@ -82,7 +82,7 @@ pub fn open_node<C: Core, D: Disk>(
     ensures opened { IfOk result (IsOpened C.header C.stands C.kind) }
 
     // The content opens to just this journal, and a crash leaves nothing else.
-    ensures opens { IfOk result (λ o. Tells (D.content disk) (λ c. IsJournalOf C.kind o.log.header (reverse o.log.records.items) c × HoldsJournal D.content D.images (opened_view o.log))) }
+    ensures opens { IfOk result (λ o. Tells (D.content disk) (λ c. IsJournalOf C.kind o.log.header (reverse o.log.records.items) c × HoldsJournal D.Disk (opened_view o.log))) }
 
     // Which refusal it is.
     ensures refusal { IfErr result (λ e. Tells (D.content disk) (λ c. IsNoNodeOf C.kind C.other (D.limit disk) c e.1)) }

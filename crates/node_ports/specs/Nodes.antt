@@ -1,5 +1,6 @@
 -- Nodes by their places in a list.
 use Rattle.std.specs.Prelude.{ℕ, zero, suc, List, [], ◌∷◌, Option, None, All}
+use Rattle.outside.specs.declared.disk.Disk.{Ghosts}
 use Rattle.cbdc_model.specs.Records.{txs_of}
 use Rattle.cbdc_model.specs.Slots.{slot}
 use Rattle.cbdc_model.specs.Due.{open_batch}
@@ -26,13 +27,13 @@ sight_at sight (x ∷ xs) zero = sight x
 sight_at sight (x ∷ xs) (suc n) = sight_at sight xs n
 
 -- the node's journal is one of its header, and its disk holds it
-pub record IsNodeHeld {D : Type 0} (content : D → Option (List ℕ)) (images : D → List ℕ → Type 0) (n : NodeOf D) : Type 0 where
+pub record IsNodeHeld {D : Type 0} (device : Ghosts D) (n : NodeOf D) : Type 0 where
   pub journal : IsJournal n.header n.journal
-  pub held : HoldsJournal content images n
+  pub held : HoldsJournal device n
 
 -- all of them
-abbrev pub AreNodesHeld : {D : Type 0} → (D → Option (List ℕ)) → (D → List ℕ → Type 0) → List (NodeOf D) → Type 0
-AreNodesHeld content images nodes = All (IsNodeHeld content images) nodes
+abbrev pub AreNodesHeld : {D : Type 0} → Ghosts D → List (NodeOf D) → Type 0
+AreNodesHeld device nodes = All (IsNodeHeld device) nodes
 
 -- the coordinator's other lanes are as before
 abbrev pub KeepsRest : Sight → Sight → ℕ → Type 0

@@ -68,7 +68,7 @@ pub fn prepare_at<D: Disk>(
     ensures others { KeepsRest (sight log.old) (sight log.new) lane }
     ensures node { IsStillNode (sight log.old) (sight log.new) }
     ensures later { log.old.faults ≤ log.new.faults }
-    ensures holds { IsNodeHeld D.content D.images log.old → IsNodeHeld D.content D.images log.new }
+    ensures holds { IsNodeHeld D.Disk log.old → IsNodeHeld D.Disk log.new }
 {
     let _header = log.header();
     log.prepare(lane, txs)
@@ -95,7 +95,7 @@ pub fn decide_at<D: Disk>(
     ensures others { KeepsRest (sight log.old) (sight log.new) lane }
     ensures node { IsStillNode (sight log.old) (sight log.new) }
     ensures later { log.old.faults ≤ log.new.faults }
-    ensures holds { IsNodeHeld D.content D.images log.old → IsNodeHeld D.content D.images log.new }
+    ensures holds { IsNodeHeld D.Disk log.old → IsNodeHeld D.Disk log.new }
 {
     let _header = log.header();
     let answer = log.decide(lane, replies, out);
@@ -118,7 +118,7 @@ pub fn discard_at<D: Disk>(
     ensures others { KeepsRest (sight log.old) (sight log.new) lane }
     ensures node { IsStillNode (sight log.old) (sight log.new) }
     ensures later { log.old.faults ≤ log.new.faults }
-    ensures holds { IsNodeHeld D.content D.images log.old → IsNodeHeld D.content D.images log.new }
+    ensures holds { IsNodeHeld D.Disk log.old → IsNodeHeld D.Disk log.new }
 {
     let _header = log.header();
     log.discard(lane, cause)
@@ -139,7 +139,7 @@ pub fn done_at<D: Disk>(
     ensures others { KeepsRest (sight log.old) (sight log.new) lane }
     ensures node { IsStillNode (sight log.old) (sight log.new) }
     ensures later { log.old.faults ≤ log.new.faults }
-    ensures holds { IsNodeHeld D.content D.images log.old → IsNodeHeld D.content D.images log.new }
+    ensures holds { IsNodeHeld D.Disk log.old → IsNodeHeld D.Disk log.new }
 {
     let _header = log.header();
     log.done(lane, cause)
@@ -162,7 +162,7 @@ impl<'r, W: Wait, D: Disk> LogPort for NodeLogs<'r, W, D> {
 
     ghost faults = { λ p n. (sight_at sight p.logs.items n).faults };
 
-    ghost holds = { λ p. AreNodesHeld D.content D.images p.logs.items };
+    ghost holds = { λ p. AreNodesHeld D.Disk p.logs.items };
 
     fn prepare<G: Gate>(
         &mut self,

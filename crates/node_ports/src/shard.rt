@@ -37,7 +37,7 @@ pub fn lock_at<D: Disk>(node: &mut ShardNode<D>, call: &LockCall) -> Result<Repl
     ensures told { IfOk result (λ a. IsStamp a.stamp × All (IsReply node.old.header.shape) a.replies) }
     ensures node { IsStillNode (sight node.old) (sight node.new) }
     ensures later { node.old.faults ≤ node.new.faults }
-    ensures holds { IsNodeHeld D.content D.images node.old → IsNodeHeld D.content D.images node.new }
+    ensures holds { IsNodeHeld D.Disk node.old → IsNodeHeld D.Disk node.new }
 {
     let _header = node.header();
     node.lock(call)
@@ -50,7 +50,7 @@ pub fn finish_at<D: Disk>(node: &mut ShardNode<D>, call: &FinishCall) -> Result<
     ensures told { IfOk result IsStamp }
     ensures node { IsStillNode (sight node.old) (sight node.new) }
     ensures later { node.old.faults ≤ node.new.faults }
-    ensures holds { IsNodeHeld D.content D.images node.old → IsNodeHeld D.content D.images node.new }
+    ensures holds { IsNodeHeld D.Disk node.old → IsNodeHeld D.Disk node.new }
 {
     let _header = node.header();
     node.finish(call)
@@ -63,7 +63,7 @@ pub fn forget_at<D: Disk>(node: &mut ShardNode<D>, call: &ForgetCall) -> Result<
     ensures told { IfOk result IsStamp }
     ensures node { IsStillNode (sight node.old) (sight node.new) }
     ensures later { node.old.faults ≤ node.new.faults }
-    ensures holds { IsNodeHeld D.content D.images node.old → IsNodeHeld D.content D.images node.new }
+    ensures holds { IsNodeHeld D.Disk node.old → IsNodeHeld D.Disk node.new }
 {
     let _header = node.header();
     node.forget(call)
@@ -93,7 +93,7 @@ impl<'r, 'n, W: Wait, D: Disk> ShardPort for NodeShard<'r, 'n, W, D> {
 
     ghost faults = { λ p. p.shard.now.faults };
 
-    ghost holds = { λ p. IsNodeHeld D.content D.images p.shard.now };
+    ghost holds = { λ p. IsNodeHeld D.Disk p.shard.now };
 
     ghost serves = { λ p l. Unit {0} };
 

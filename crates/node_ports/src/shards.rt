@@ -39,7 +39,7 @@ impl<'r, W: Wait, D: Disk> NodeShards<'r, W, D> {
         ensures nodes { KeepNodes (sight_at sight self.old.nodes.items) (sight_at sight self.new.nodes.items) }
         ensures count { length self.new.nodes.items ≡ length self.old.nodes.items }
         ensures later { (n : ℕ) → (sight_at sight self.old.nodes.items n).faults ≤ (sight_at sight self.new.nodes.items n).faults }
-        ensures holds { AreNodesHeld D.content D.images self.old.nodes.items → AreNodesHeld D.content D.images self.new.nodes.items }
+        ensures holds { AreNodesHeld D.Disk self.old.nodes.items → AreNodesHeld D.Disk self.new.nodes.items }
     {
         let mut port = NodeShard {
             rt: self.rt,
@@ -64,7 +64,7 @@ impl<'r, W: Wait, D: Disk> NodeShards<'r, W, D> {
         ensures nodes { KeepNodes (sight_at sight self.old.nodes.items) (sight_at sight self.new.nodes.items) }
         ensures count { length self.new.nodes.items ≡ length self.old.nodes.items }
         ensures later { (n : ℕ) → (sight_at sight self.old.nodes.items n).faults ≤ (sight_at sight self.new.nodes.items n).faults }
-        ensures holds { AreNodesHeld D.content D.images self.old.nodes.items → AreNodesHeld D.content D.images self.new.nodes.items }
+        ensures holds { AreNodesHeld D.Disk self.old.nodes.items → AreNodesHeld D.Disk self.new.nodes.items }
     {
         let mut port = NodeShard {
             rt: self.rt,
@@ -89,7 +89,7 @@ impl<'r, W: Wait, D: Disk> NodeShards<'r, W, D> {
         ensures nodes { KeepNodes (sight_at sight self.old.nodes.items) (sight_at sight self.new.nodes.items) }
         ensures count { length self.new.nodes.items ≡ length self.old.nodes.items }
         ensures later { (n : ℕ) → (sight_at sight self.old.nodes.items n).faults ≤ (sight_at sight self.new.nodes.items n).faults }
-        ensures holds { AreNodesHeld D.content D.images self.old.nodes.items → AreNodesHeld D.content D.images self.new.nodes.items }
+        ensures holds { AreNodesHeld D.Disk self.old.nodes.items → AreNodesHeld D.Disk self.new.nodes.items }
     {
         let mut port = NodeShard {
             rt: self.rt,
@@ -110,7 +110,7 @@ impl<'r, W: Wait, D: Disk, G: Gate> PortSet<G> for NodeShards<'r, W, D> {
 
     ghost faults = { λ p n. (sight_at sight p.nodes.items n).faults };
 
-    ghost holds = { λ p. AreNodesHeld D.content D.images p.nodes.items };
+    ghost holds = { λ p. AreNodesHeld D.Disk p.nodes.items };
 
     ghost serves = { λ p l. Unit {0} };
 

@@ -51,7 +51,7 @@ fn prepare<D: Disk>(
     requires limits { All IsCompact txs.now }
     ensures gives { Gives lane true (prepare_owed lane txs.now) (good_prepare lane txs.now) (log_sight log.old) (log_sight log.new) result }
     ensures moves { Moves lane (log_sight log.old) (log_sight log.new) }
-    ensures goes { IsNodeHeld D.content D.images log.old → IsNodeHeld D.content D.images log.new }
+    ensures goes { IsNodeHeld D.Disk log.old → IsNodeHeld D.Disk log.new }
 {
     let _records = log.records();
     prepare_at(log, lane, txs)
@@ -69,7 +69,7 @@ fn decide<D: Disk>(
     requires room { length (txs_at log.old.journal lane) ≤ vec_capacity out.old }
     ensures gives { Decides lane replies.now (log_sight log.old) (log_sight log.new) out.new.items result }
     ensures moves { Moves lane (log_sight log.old) (log_sight log.new) }
-    ensures goes { IsNodeHeld D.content D.images log.old → IsNodeHeld D.content D.images log.new }
+    ensures goes { IsNodeHeld D.Disk log.old → IsNodeHeld D.Disk log.new }
 {
     let _records = log.records();
     decide_at(log, lane, replies, out)
@@ -81,7 +81,7 @@ fn discard<D: Disk>(log: &mut CoordLog<D>, lane: LaneId, cause: Stamp) -> Result
     requires cause { IsStamp cause }
     ensures gives { Gives lane false (discard_owed lane cause) (good_discard lane) (log_sight log.old) (log_sight log.new) result }
     ensures moves { Moves lane (log_sight log.old) (log_sight log.new) }
-    ensures goes { IsNodeHeld D.content D.images log.old → IsNodeHeld D.content D.images log.new }
+    ensures goes { IsNodeHeld D.Disk log.old → IsNodeHeld D.Disk log.new }
 {
     let _records = log.records();
     discard_at(log, lane, cause)
@@ -93,7 +93,7 @@ fn done<D: Disk>(log: &mut CoordLog<D>, lane: LaneId, cause: Stamp) -> Result<St
     requires cause { IsStamp cause }
     ensures gives { Gives lane false (done_owed lane cause) (good_done lane) (log_sight log.old) (log_sight log.new) result }
     ensures moves { Moves lane (log_sight log.old) (log_sight log.new) }
-    ensures goes { IsNodeHeld D.content D.images log.old → IsNodeHeld D.content D.images log.new }
+    ensures goes { IsNodeHeld D.Disk log.old → IsNodeHeld D.Disk log.new }
 {
     let _records = log.records();
     done_at(log, lane, cause)
@@ -102,7 +102,7 @@ fn done<D: Disk>(log: &mut CoordLog<D>, lane: LaneId, cause: Stamp) -> Result<St
 impl<D: Disk> Sighted for SharedLog<D> {
     ghost sight = { λ n. log_sight n.node };
 
-    ghost goes = { λ a b. IsNodeHeld D.content D.images a.node → IsNodeHeld D.content D.images b.node };
+    ghost goes = { λ a b. IsNodeHeld D.Disk a.node → IsNodeHeld D.Disk b.node };
 
     fn count(&self) -> usize {
         self.node.records().len()

@@ -72,7 +72,7 @@ pub trait Shard {
 impl<D: Disk> Shard for ShardNode<D> {
     ghost sight = { sight };
 
-    ghost goes = { λ a b. IsNodeHeld D.content D.images a → IsNodeHeld D.content D.images b };
+    ghost goes = { λ a b. IsNodeHeld D.Disk a → IsNodeHeld D.Disk b };
 
     fn header(&self) -> &Header {
         ShardNode::header(self)

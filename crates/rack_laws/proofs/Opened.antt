@@ -39,7 +39,7 @@ all_by P xs each k d inside = each k (get_or xs k d) (slice_get-get_or xs k d in
 record IsThat {D : Type 0} (device : Ghosts D) (x : NodeOf D) (K : Shape) (genesis : Digest) (n : ℕ) (J : List Record) : Type 0 where
   pub header_is : x.header ≡ header_of K genesis n
   pub journal_is : x.journal ≡ J
-  pub holds : HoldsJournal device.content device.images x
+  pub holds : HoldsJournal device x
 
 module _ {D : Type 0} (device : Ghosts D) (held : ℕ → Option D) (h : Header) (logs shards : List (NodeOf D))
     (are : AreOpened device held h logs shards)
@@ -109,10 +109,10 @@ module _ {D : Type 0} (device : Ghosts D) (held : ℕ → Option D) (h : Header)
               let past : node_count K ≤ n = ltb-false n (node_count K) u in
               past_end sight shards (n - K.coordinators) (omega (arith, shards_count, past)) ∙ sym (beyond n past)
 
-  pub logs_held : All (HoldsJournal device.content device.images) logs
-  logs_held = all_by (HoldsJournal device.content device.images) logs (λ n l there. (log_that n l there (omega (arith, coordinators_are, slice_get_within logs n l there))).holds)
+  pub logs_held : All (HoldsJournal device) logs
+  logs_held = all_by (HoldsJournal device) logs (λ n l there. (log_that n l there (omega (arith, coordinators_are, slice_get_within logs n l there))).holds)
 
-  pub shards_held : All (HoldsJournal device.content device.images) shards
-  shards_held = all_by (HoldsJournal device.content device.images) shards (λ s x there.
+  pub shards_held : All (HoldsJournal device) shards
+  shards_held = all_by (HoldsJournal device) shards (λ s x there.
       let e : h.shape.coordinators ≡ K.coordinators = ap (λ k. k.coordinators) same_shape in
       (shard_that s x there (omega (arith, shards_count, e, slice_get_within shards s x there))).holds)

@@ -24,4 +24,4 @@ pub record FitsNode {D : Type 0} (device : Ghosts D) (Is : Header → Type 0) (n
 
 -- this content opens to its journal, which its disk holds
 abbrev pub StandsNode : {D : Type 0} → Ghosts D → (Header → Type 0) → NodeOf D → List ℕ → Type 0
-StandsNode device Is n c = IsJournalOf Is n.header n.journal c × HoldsJournal device.content device.images n
+StandsNode device Is n c = IsJournalOf Is n.header n.journal c × HoldsJournal device n

@@ -145,7 +145,7 @@ module _ {D : Type 0} (device : Ghosts D) (held back : ℕ → Option D) (h g : 
     (logs now : List (NodeOf D)) (shards after : List (NodeOf D)) (are : AreOpened device held h logs shards) (caused : AreCaused h.shape (lent_journals logs shards))
     (is : IsLedger g now after) (shape : g.shape ≡ h.shape)
     (logs_back : ByPlace (λ n l. OfTold (back n) (λ d. d ≡ l.disk)) now) (shards_back : ByPlace (λ s x. OfTold (back (length now + s)) (λ d. d ≡ x.disk)) after)
-    (stored : AreStored device.content device.images logs shards → AreStored device.content device.images now after) (seen : AreSeen device now after) (before behind : ℕ → ℕ)
+    (stored : AreStored device logs shards → AreStored device now after) (seen : AreSeen device now after) (before behind : ℕ → ℕ)
     (logs_since : ByPlace (λ n l. before n ≤ device.count l.disk) logs) (shards_since : ByPlace (λ s x. before (h.shape.coordinators + s) ≤ device.count x.disk) shards)
     (logs_counted : ByPlace (λ n l. device.count l.disk ≤ behind n) now) (shards_counted : ByPlace (λ s x. device.count x.disk ≤ behind (length now + s)) after) where
   abbrev History : List Row

@@ -197,18 +197,18 @@ module _ {D : Type 0} (device : Ghosts D) where
         (λ s x there. record { back = subst (λ k. OfTold (held (k + s)) (λ d. d ≡ x.disk)) is.coordinators (shards_back s x there); has = by_all P shards shard_has s x there })
 
     -- disks that are back keep the journals, with the record that is in flight at their nodes, or without
-    pub keeps_flights : AreStored device.content device.images logs shards
+    pub keeps_flights : AreStored device logs shards
         → (n : ℕ) → n < node_count h.shape → OfTold (held n) (λ d. (c : List ℕ) → device.images d c → OpensToEither (reverse (journals_of h.shape logs shards n)) (flights_of h.shape logs shards n) c)
     keeps_flights stored n inside d told c image =
-        let x = put_back (HoldsJournal device.content device.images) stored.logs_are stored.shards_are n inside in
+        let x = put_back (HoldsJournal device) stored.logs_are stored.shards_are n inside in
         subst (λ o. OpensToEither (reverse (journals_of h.shape logs shards n)) o c) (sym x.2.flight)
         (subst (λ J. OpensToEither (reverse J) x.0.flight c) (sym x.2.journal) (x.1.has.each c (subst (λ y. device.images y c) (x.1.back d told) image)))
 
-    pub keeps_each : AreStored device.content device.images logs shards → KeepsEach device held h.shape (journals_of h.shape logs shards)
+    pub keeps_each : AreStored device logs shards → KeepsEach device held h.shape (journals_of h.shape logs shards)
     keeps_each stored n inside = (flights_of h.shape logs shards n, keeps_flights stored n inside)
 
     -- and hold nothing else, where nothing is in flight
-    pub holds_each : AreStored device.content device.images logs shards → AreQuiet logs shards → HoldsEach device held h.shape (journals_of h.shape logs shards)
+    pub holds_each : AreStored device logs shards → AreQuiet logs shards → HoldsEach device held h.shape (journals_of h.shape logs shards)
     holds_each stored quiet n inside d told c image =
         subst (λ o. OpensToEither (reverse (journals_of h.shape logs shards n)) o c) (none_fly h.shape logs shards quiet n) (keeps_flights stored n inside d told c image)
 
@@ -252,12 +252,12 @@ module _ {D : Type 0} (device : Ghosts D) where
 
   -- what all disks told is stored
   pub told_stored : (held : ℕ → Option D) (h : Header) (logs shards : List (NodeOf D)) → AreOpened device held h logs shards
-      → ((n : ℕ) → n < node_count h.shape → (d : D) × (held n ≡ Some d) × ((c : List ℕ) × (device.content d ≡ Some c))) → AreStored device.content device.images logs shards
+      → ((n : ℕ) → n < node_count h.shape → (d : D) × (held n ≡ Some d) × ((c : List ℕ) × (device.content d ≡ Some c))) → AreStored device logs shards
   told_stored held h logs shards are tells = record {
-    logs_are = all_by (HoldsJournal device.content device.images) logs (λ n l there.
+    logs_are = all_by (HoldsJournal device) logs (λ n l there.
         let t = tells n (omega (arith, slice_get_within logs n l there, are.coordinators)) in
         (((are.logs_at n l there).opened t.0 t.1).stands t.2.0 t.2.1).1);
-    shards_are = all_by (HoldsJournal device.content device.images) shards (λ s x there.
+    shards_are = all_by (HoldsJournal device) shards (λ s x there.
         let t = tells (h.shape.coordinators + s) (omega (arith, slice_get_within shards s x there, are.shards_are)) in
         (((are.shards_at s x there).opened t.0 t.1).stands t.2.0 t.2.1).1);
   }

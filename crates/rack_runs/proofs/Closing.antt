@@ -82,7 +82,7 @@ module _ {D Done : Type 0} (device : Ghosts D) (held : ℕ → Option D) (h g : 
   later : (n : ℕ) → faults_of h.shape logs shards n ≤ faults_of h.shape now after n
   later = subst (λ k. (n : ℕ) → faults_of h.shape logs shards n ≤ faults_of k now after n) shape ran.keeps_ledger.later
 
-  stored : AreStored device.content device.images logs shards → AreStored device.content device.images now after
+  stored : AreStored device logs shards → AreStored device now after
   stored = ran.keeps_ledger.held
 
   flown : (n : ℕ) (r : Record) → flights_of h.shape now after n ≡ Some r → failed n

@@ -68,7 +68,7 @@ module _ {D Done : Type 0} (device : Ghosts D) (held back : ℕ → Option D) (h
     (logs now : List (NodeOf D)) (shards after : List (NodeOf D)) (deed : Deed Done)
     (are : AreOpened device held h logs shards) (is : IsLedger g now after) (shape : g.shape ≡ h.shape)
     (logs_back : ByPlace (λ n l. OfTold (back n) (λ d. d ≡ l.disk)) now) (shards_back : ByPlace (λ s x. OfTold (back (length now + s)) (λ d. d ≡ x.disk)) after)
-    (stored : AreStored device.content device.images logs shards → AreStored device.content device.images now after) where
+    (stored : AreStored device logs shards → AreStored device now after) where
   -- what is in flight had room, by journals
   abbrev pub HaveFit : Shape → (ℕ → List Record) → (ℕ → Option Record) → Type 0
   HaveFit K J F = (n : ℕ) → n < node_count K → OfTold (back n) (λ d. IfSome (F n) (λ r. used_of (J n) + need_of K (J n) r ≤ device.limit d))
@@ -106,7 +106,7 @@ module _ {D Done : Type 0} (device : Ghosts D) (held back : ℕ → Option D) (h
     kept_there : KeptJournals K mint submissions (journals_of K logs shards)
     kept_there = subst (KeptJournals K mint submissions) (sym journals_are) kept
 
-    is_stored : AreStored device.content device.images now after
+    is_stored : AreStored device now after
     is_stored = stored (record {
       logs_are = logs_held device held h logs shards are K (genesis_id mint) E within shows;
       shards_are = shards_held device held h logs shards are K (genesis_id mint) E within shows;

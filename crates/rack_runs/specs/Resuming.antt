@@ -17,7 +17,7 @@ use Rattle.file_runs.specs.Ledgers.{LedgerOf, journals, flights, faults, opened,
 -- The open batches of a ledger were brought to their end, or a lane met a fault: what the ledger is behind that, and what came of it.
 pub record HasResumed {D : Type 0} (device : Ghosts D) (before now : LedgerOf D)
     (came : Result (Vec ResumedBatch) LaneFault) : Type 0 where
-  pub keeps_ledger : KeepsLedgerOf device.content device.images before now
+  pub keeps_ledger : KeepsLedgerOf device before now
   pub idle : OnOk came (AreIdle before.header.shape (journals now))
   pub keeps : OfKept before.header.shape (journals before) (StaysKept before.header.shape (journals before) (journals now))
   pub resumed : OnOk came (OfKept before.header.shape (journals before) (λ _ _. IsResumed before.header.shape (journals before) (journals now)))

@@ -86,7 +86,7 @@ pub record EndsBadly {Done : Type 0} (d : Deed Done) (K : Shape) (M X : ℕ → 
 -- A work was done over the nodes of a ledger with no open batch: what the ledger is behind it, and what came of it.
 pub record HasWorked {D Done : Type 0} (device : Ghosts D) (d : Deed Done)
     (before now : LedgerOf D) (came : Result Done LaneFault) : Type 0 where
-  pub keeps_ledger : KeepsLedgerOf device.content device.images before now
+  pub keeps_ledger : KeepsLedgerOf device before now
   pub checked : IsChecked now
   pub quiet : OnOk came (IsQuiet before → IsQuiet now)
   pub leaves : LeavesWork d before.header.shape (journals before) (journals now) (flights before) (flights now)
@@ -147,7 +147,7 @@ pub record AllBadly {Done : Type 0} (d : Deed Done) (K : Shape) (E X : ℕ → L
 -- The open batches of a ledger were brought to their end, and a work was done: what the ledger is behind it, and what came of it.
 pub record HasRun {D Done : Type 0} (device : Ghosts D) (d : Deed Done)
     (before now : LedgerOf D) (resumed : List ResumedBatch) (came : Result Done LaneFault) : Type 0 where
-  pub keeps_ledger : KeepsLedgerOf device.content device.images before now
+  pub keeps_ledger : KeepsLedgerOf device before now
   pub checked : IsChecked now
   pub quiet : OnOk came (IsQuiet before → IsQuiet now)
   pub leaves : LeavesAll d before.header.shape (journals before) (journals now) (flights before) (flights now)

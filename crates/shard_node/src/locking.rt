@@ -88,9 +88,9 @@ fn append_lock<D: Disk>(
     ensures meets { Meets true (lock_due parts.old.log.header.shape (D.limit (disk_of parts.old.log.journal)) call.now None (journal_of parts.old))
         (sight (view_of parts.old)) (sight (view_of parts.new)) (journal_of parts.old) result }
     ensures broken { broken_of parts.new.log.journal ≡ broken_behind result (D.count (disk_of parts.new.log.journal)) None }
-    ensures holds { HoldsJournal D.content D.images (view_of parts.old) → HoldsJournal D.content D.images (view_of parts.new) }
-    ensures leaves { HoldsJournal D.content D.images (view_of parts.old)
-        → LeavesBetween D.tells_past D.moment D.images_since D.images (view_of parts.old) (view_of parts.new) }
+    ensures holds { HoldsJournal D.Disk (view_of parts.old) → HoldsJournal D.Disk (view_of parts.new) }
+    ensures leaves { HoldsJournal D.Disk (view_of parts.old)
+        → LeavesBetween D.Disk (view_of parts.old) (view_of parts.new) }
 {
     let stamp = replied.stamp;
     if stamp.0 > LAST_LOCK {
@@ -141,9 +141,9 @@ pub(crate) fn lock_parts<D: Disk>(
     ensures meets { Meets true (lock_due parts.old.log.header.shape (D.limit (disk_of parts.old.log.journal)) call.now (broken_of parts.old.log.journal) (journal_of parts.old))
         (sight (view_of parts.old)) (sight (view_of parts.new)) (journal_of parts.old) result }
     ensures broken { broken_of parts.new.log.journal ≡ broken_behind result (D.count (disk_of parts.new.log.journal)) (broken_of parts.old.log.journal) }
-    ensures holds { HoldsJournal D.content D.images (view_of parts.old) → HoldsJournal D.content D.images (view_of parts.new) }
-    ensures leaves { HoldsJournal D.content D.images (view_of parts.old)
-        → LeavesBetween D.tells_past D.moment D.images_since D.images (view_of parts.old) (view_of parts.new) }
+    ensures holds { HoldsJournal D.Disk (view_of parts.old) → HoldsJournal D.Disk (view_of parts.new) }
+    ensures leaves { HoldsJournal D.Disk (view_of parts.old)
+        → LeavesBetween D.Disk (view_of parts.old) (view_of parts.new) }
 {
     if let Some(since) = parts.log.is_broken() {
         return Err(NodeFault::Broken { since });

@@ -64,10 +64,10 @@ impl<D: Disk> ShardNode<D> {
         ensures later { self.old.faults ≤ self.new.faults }
         ensures header { self.new.header ≡ self.old.header }
         ensures journal { IsJournal self.new.header self.new.journal }
-        ensures holds { HoldsJournal D.content D.images self.old → HoldsJournal D.content D.images self.new }
+        ensures holds { HoldsJournal D.Disk self.old → HoldsJournal D.Disk self.new }
 
         // A crash at any moment of the call leaves the journal from before it or the one behind it.
-        ensures leaves { HoldsJournal D.content D.images self.old → LeavesBetween D.tells_past D.moment D.images_since D.images self.old self.new }
+        ensures leaves { HoldsJournal D.Disk self.old → LeavesBetween D.Disk self.old self.new }
     {
         lock_parts(self.alloc, &mut self.parts, call)
     }
@@ -83,10 +83,10 @@ impl<D: Disk> ShardNode<D> {
         ensures later { self.old.faults ≤ self.new.faults }
         ensures header { self.new.header ≡ self.old.header }
         ensures journal { IsJournal self.new.header self.new.journal }
-        ensures holds { HoldsJournal D.content D.images self.old → HoldsJournal D.content D.images self.new }
+        ensures holds { HoldsJournal D.Disk self.old → HoldsJournal D.Disk self.new }
 
         // A crash at any moment of the call leaves the journal from before it or the one behind it.
-        ensures leaves { HoldsJournal D.content D.images self.old → LeavesBetween D.tells_past D.moment D.images_since D.images self.old self.new }
+        ensures leaves { HoldsJournal D.Disk self.old → LeavesBetween D.Disk self.old self.new }
     {
         finish_parts(self.alloc, &mut self.parts, call)
     }
@@ -102,10 +102,10 @@ impl<D: Disk> ShardNode<D> {
         ensures later { self.old.faults ≤ self.new.faults }
         ensures header { self.new.header ≡ self.old.header }
         ensures journal { IsJournal self.new.header self.new.journal }
-        ensures holds { HoldsJournal D.content D.images self.old → HoldsJournal D.content D.images self.new }
+        ensures holds { HoldsJournal D.Disk self.old → HoldsJournal D.Disk self.new }
 
         // A crash at any moment of the call leaves the journal from before it or the one behind it.
-        ensures leaves { HoldsJournal D.content D.images self.old → LeavesBetween D.tells_past D.moment D.images_since D.images self.old self.new }
+        ensures leaves { HoldsJournal D.Disk self.old → LeavesBetween D.Disk self.old self.new }
     {
         forget_parts(&mut self.parts, call)
     }

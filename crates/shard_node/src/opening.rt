@@ -63,7 +63,7 @@ impl<D: Disk> ShardNode<D> {
     /// Out of memory: the disk comes back as it was read.
     pub fn open(alloc: Global, disk: D) -> Result<ShardNode<D>, (D, NodeOpenFault)>
         // The content opens to just this journal, and a crash leaves nothing else.
-        ensures opens { IfOk result (λ n. Tells (D.content disk) (λ c. IsShardJournal n.header n.journal c × HoldsJournal D.content D.images n)) }
+        ensures opens { IfOk result (λ n. Tells (D.content disk) (λ c. IsShardJournal n.header n.journal c × HoldsJournal D.Disk n)) }
 
         // It is a shard's journal, whatever the content tells.
         ensures journal { IfOk result (λ n. IsJournal n.header n.journal) }

@@ -57,9 +57,9 @@ fn append_finish<D: Disk>(
     ensures meets { Meets false (finish_due call.now None (journal_of parts.old))
         (sight (view_of parts.old)) (sight (view_of parts.new)) (journal_of parts.old) result }
     ensures broken { broken_of parts.new.log.journal ≡ broken_behind result (D.count (disk_of parts.new.log.journal)) None }
-    ensures holds { HoldsJournal D.content D.images (view_of parts.old) → HoldsJournal D.content D.images (view_of parts.new) }
-    ensures leaves { HoldsJournal D.content D.images (view_of parts.old)
-        → LeavesBetween D.tells_past D.moment D.images_since D.images (view_of parts.old) (view_of parts.new) }
+    ensures holds { HoldsJournal D.Disk (view_of parts.old) → HoldsJournal D.Disk (view_of parts.new) }
+    ensures leaves { HoldsJournal D.Disk (view_of parts.old)
+        → LeavesBetween D.Disk (view_of parts.old) (view_of parts.new) }
 {
     if stamp.0 > LAST_STAMP {
         return Err(NodeFault::ClockEnd { stamp });
@@ -96,9 +96,9 @@ fn append_forget<D: Disk>(
     ensures meets { Meets false (forget_due call.now None (journal_of parts.old))
         (sight (view_of parts.old)) (sight (view_of parts.new)) (journal_of parts.old) result }
     ensures broken { broken_of parts.new.log.journal ≡ broken_behind result (D.count (disk_of parts.new.log.journal)) None }
-    ensures holds { HoldsJournal D.content D.images (view_of parts.old) → HoldsJournal D.content D.images (view_of parts.new) }
-    ensures leaves { HoldsJournal D.content D.images (view_of parts.old)
-        → LeavesBetween D.tells_past D.moment D.images_since D.images (view_of parts.old) (view_of parts.new) }
+    ensures holds { HoldsJournal D.Disk (view_of parts.old) → HoldsJournal D.Disk (view_of parts.new) }
+    ensures leaves { HoldsJournal D.Disk (view_of parts.old)
+        → LeavesBetween D.Disk (view_of parts.old) (view_of parts.new) }
 {
     if stamp.0 > LAST_STAMP {
         return Err(NodeFault::ClockEnd { stamp });
@@ -125,9 +125,9 @@ pub(crate) fn finish_parts<D: Disk>(
     ensures meets { Meets false (finish_due call.now (broken_of parts.old.log.journal) (journal_of parts.old))
         (sight (view_of parts.old)) (sight (view_of parts.new)) (journal_of parts.old) result }
     ensures broken { broken_of parts.new.log.journal ≡ broken_behind result (D.count (disk_of parts.new.log.journal)) (broken_of parts.old.log.journal) }
-    ensures holds { HoldsJournal D.content D.images (view_of parts.old) → HoldsJournal D.content D.images (view_of parts.new) }
-    ensures leaves { HoldsJournal D.content D.images (view_of parts.old)
-        → LeavesBetween D.tells_past D.moment D.images_since D.images (view_of parts.old) (view_of parts.new) }
+    ensures holds { HoldsJournal D.Disk (view_of parts.old) → HoldsJournal D.Disk (view_of parts.new) }
+    ensures leaves { HoldsJournal D.Disk (view_of parts.old)
+        → LeavesBetween D.Disk (view_of parts.old) (view_of parts.new) }
 {
     if let Some(since) = parts.log.is_broken() {
         return Err(NodeFault::Broken { since });
@@ -150,9 +150,9 @@ pub(crate) fn forget_parts<D: Disk>(
     ensures meets { Meets false (forget_due call.now (broken_of parts.old.log.journal) (journal_of parts.old))
         (sight (view_of parts.old)) (sight (view_of parts.new)) (journal_of parts.old) result }
     ensures broken { broken_of parts.new.log.journal ≡ broken_behind result (D.count (disk_of parts.new.log.journal)) (broken_of parts.old.log.journal) }
-    ensures holds { HoldsJournal D.content D.images (view_of parts.old) → HoldsJournal D.content D.images (view_of parts.new) }
-    ensures leaves { HoldsJournal D.content D.images (view_of parts.old)
-        → LeavesBetween D.tells_past D.moment D.images_since D.images (view_of parts.old) (view_of parts.new) }
+    ensures holds { HoldsJournal D.Disk (view_of parts.old) → HoldsJournal D.Disk (view_of parts.new) }
+    ensures leaves { HoldsJournal D.Disk (view_of parts.old)
+        → LeavesBetween D.Disk (view_of parts.old) (view_of parts.new) }
 {
     if let Some(since) = parts.log.is_broken() {
         return Err(NodeFault::Broken { since });

@@ -23,9 +23,9 @@ pub(crate) fn write<D: Disk>(parts: &mut Parts<D>, next: Record) -> Result<(), N
     ensures written { OnOk result (HasWritten parts.old parts.new next) }
     ensures failed { OnErr result (HasFailed parts.old parts.new next) }
     ensures fault { IfErr result (λ e. e ≡ NodeFault.DiskFault) }
-    ensures holds { HoldsJournal D.content D.images (view_of parts.old) → HoldsJournal D.content D.images (view_of parts.new) }
-    ensures leaves { HoldsJournal D.content D.images (view_of parts.old)
-        → LeavesBetween D.tells_past D.moment D.images_since D.images (view_of parts.old) (view_of parts.new) }
+    ensures holds { HoldsJournal D.Disk (view_of parts.old) → HoldsJournal D.Disk (view_of parts.new) }
+    ensures leaves { HoldsJournal D.Disk (view_of parts.old)
+        → LeavesBetween D.Disk (view_of parts.old) (view_of parts.new) }
 {
     match parts.log.write(&next) {
         Ok(()) => {

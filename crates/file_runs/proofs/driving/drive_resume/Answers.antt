@@ -34,7 +34,7 @@ pub go-came-requires-clause-ledger : goal.go-came-requires-clause-ledger
 go-came-requires-clause-ledger g c = subst (λ (p : PlanOf). AreShardsOf p.shape (sight_at sight c.args.ports.now.shards.nodes.items)) (sym c.requires.plan) (are_shards c.args.header.now c.args.ports.now.log.logs.items c.args.ports.now.shards.nodes.items c.requires.ledger)
 
 pub returns-clause-step : goal.returns-clause-step
-returns-clause-step g c = is_step g.D.Disk.content g.D.Disk.images c.args.header.now c.args.lane c.home-ports.result c.go-came.new.ports.log.at
+returns-clause-step g c = is_step g.D.Disk c.args.header.now c.args.lane c.home-ports.result c.go-came.new.ports.log.at
     c.args.ports.now.log.logs.items c.args.ports.now.shards.nodes.items c.go-came.new.ports.log.logs.items c.go-came.new.ports.shards.nodes.items
     c.requires.ledger c.requires.lane c.home-ports.ensures.place c.go-came.ensures.keeps_log.at_same c.args.unfinished.now.batch.lane (told_lane (sight_at sight c.args.ports.now.log.logs.items (home_of c.args.header.now.shape c.args.lane)).seen c.args.lane c.args.unfinished.now c.requires.told) c.go-came.ensures.keeps_log.count_same c.go-came.ensures.keeps_shards.count_same c.go-came.ensures.keeps_log.elsewhere c.go-came.ensures.keeps_log.nodes c.go-came.ensures.keeps_shards.nodes
     (others_keep (sight_at sight c.args.ports.now.log.logs.items c.home-ports.result).header c.args.unfinished.now (λ l. (slot (sight_at sight c.args.ports.now.log.logs.items c.home-ports.result).seen l).phase) (λ l. (slot (sight_at sight c.go-came.new.ports.log.logs.items c.go-came.new.ports.log.at).seen l).phase) (λ l. txs_of (sight_at sight c.args.ports.now.log.logs.items c.home-ports.result).seen (open_batch (sight_at sight c.args.ports.now.log.logs.items c.home-ports.result).seen l)) (λ l. txs_of (sight_at sight c.go-came.new.ports.log.logs.items c.go-came.new.ports.log.at).seen (open_batch (sight_at sight c.go-came.new.ports.log.logs.items c.go-came.new.ports.log.at).seen l))
@@ -84,7 +84,7 @@ pub go-came-requires-clause-stand : goal.go-came-requires-clause-stand
 go-came-requires-clause-stand g c =
     subst (λ (p : PlanOf). AreUnfinished p.shape p.lanes (sight_at sight c.args.ports.now.log.logs.items c.home-ports.result) (λ n. sight_at sight c.args.ports.now.shards.nodes.items n)) (sym c.requires.plan)
     (All-cons (λ x. IsUnfinished x.phase c.args.header.now.shape x (sight_at sight c.args.ports.now.log.logs.items c.home-ports.result) (λ n. sight_at sight c.args.ports.now.shards.nodes.items n)) c.args.unfinished.now []
-    (is_unfinished g.D.Disk.content g.D.Disk.images c.args.header.now c.args.lane c.args.ports.now.log.logs.items c.args.ports.now.shards.nodes.items c.requires.ledger c.requires.lane c.args.unfinished.now c.requires.told c.requires.checked c.home-ports.result c.home-ports.ensures.place)
+    (is_unfinished g.D.Disk c.args.header.now c.args.lane c.args.ports.now.log.logs.items c.args.ports.now.shards.nodes.items c.requires.ledger c.requires.lane c.args.unfinished.now c.requires.told c.requires.checked c.home-ports.result c.home-ports.ensures.place)
     (All-nil (λ x. IsUnfinished x.phase c.args.header.now.shape x (sight_at sight c.args.ports.now.log.logs.items c.home-ports.result) (λ n. sight_at sight c.args.ports.now.shards.nodes.items n))))
 
 pub go-came-requires-clause-alone : goal.go-came-requires-clause-alone

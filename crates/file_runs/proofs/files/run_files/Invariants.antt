@@ -13,7 +13,7 @@ abbrev pub invariant-files : goal.invariant-files
 invariant-files g l =
     let K = l.fn.ledger.header.shape in
     record {
-      keeps_ledger : KeepsLedgerOf g.D.Disk.content g.D.Disk.images l.fn.ledger l.ledger;
+      keeps_ledger : KeepsLedgerOf g.D.Disk l.fn.ledger l.ledger;
       so : FilesSo K (g.V.Verifier.verdict_of l.fn.verifier) (take l.txs-index l.files) (journals l.fn.ledger) (journals l.ledger);
       told : OfKept K (journals l.fn.ledger) (λ _ _. TellFiles K (g.V.Verifier.verdict_of l.fn.verifier) (take l.txs-index l.files) (journals l.fn.ledger) (journals l.ledger) l.waves.items);
       quiet : IsQuiet l.fn.ledger → IsQuiet l.ledger;

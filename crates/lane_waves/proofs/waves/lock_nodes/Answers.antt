@@ -7,7 +7,7 @@ use Rattle.lane_waves.proofs.Waving.{locks_many}
 use Rattle.lane_waves.proofs.waves.lock_nodes.Goals as goal
 
 pub returns-in-Err-clause-logs_back : goal.returns-in-Err-clause-logs_back
-returns-in-Err-clause-logs_back g c = all_same log_sight (log_goes g.D.Disk.content g.D.Disk.images) (λ n held. held) c.args.nodes.logs.items
+returns-in-Err-clause-logs_back g c = all_same log_sight (log_goes g.D.Disk) (λ n held. held) c.args.nodes.logs.items
 
 pub returns-in-Err-clause-shards_back : goal.returns-in-Err-clause-shards_back
 returns-in-Err-clause-shards_back g c = c.in-Err.ensures.back

@@ -26,7 +26,7 @@ returns-in_default-clause-ran g c =
     c.requires.settled c.requires.lanes_many (c.stop_all.ensures.same ∙ c.node_room.ensures.same) c.stop_all.ensures.stopped
 
 pub returns-in_default-clause-logs_go : goal.returns-in_default-clause-logs_go
-returns-in_default-clause-logs_go g c = went_same sight (λ a b. IsNodeHeld g.D.Disk.content g.D.Disk.images a → IsNodeHeld g.D.Disk.content g.D.Disk.images b) (λ n held. held) c.args.nodes.logs.items
+returns-in_default-clause-logs_go g c = went_same sight (λ a b. IsNodeHeld g.D.Disk a → IsNodeHeld g.D.Disk b) (λ n held. held) c.args.nodes.logs.items
 
 pub returns-in_default-clause-shards_go : goal.returns-in_default-clause-shards_go
 returns-in_default-clause-shards_go g c = went_same g.S.Shard.sight g.S.Shard.goes c.see_shards.ensures.stay c.args.nodes.shards.items
@@ -75,7 +75,7 @@ wave_shared-logs-requires-clause-lanes_many g c κs within = same_many c.args.la
 
 pub own_logs-requires-clause-room : goal.own_logs-requires-clause-room
 own_logs-requires-clause-room g c =
-    let same = same_length log_sight (λ a b. IsNodeHeld g.D.Disk.content g.D.Disk.images a.node → IsNodeHeld g.D.Disk.content g.D.Disk.images b.node) c.share_logs-logs.result.0.items c.wave_shared-logs.result.logs.items c.wave_shared-logs.ensures.logs_go in
+    let same = same_length log_sight (λ a b. IsNodeHeld g.D.Disk a.node → IsNodeHeld g.D.Disk b.node) c.share_logs-logs.result.0.items c.wave_shared-logs.result.logs.items c.wave_shared-logs.ensures.logs_go in
     let many = sym (map_many (λ (s : SharedLog g.row.D.Denot). s.node) c.share_logs-logs.result.0.items) ∙ ap (λ (xs : List _). length xs) c.share_logs-logs.ensures.nodes in
     let room = c.share_logs-logs.ensures.room.1 in
     omega (arith, same, many, room)
@@ -111,9 +111,9 @@ returns-clause-ran g c =
 
 pub returns-clause-logs_go : goal.returns-clause-logs_go
 returns-clause-logs_go g c =
-    subst (λ xs. WentOn sight (λ a b. IsNodeHeld g.D.Disk.content g.D.Disk.images a → IsNodeHeld g.D.Disk.content g.D.Disk.images b) xs c.own_logs.result.items) c.share_logs-logs.ensures.nodes
-    (subst (λ ys. WentOn sight (λ a b. IsNodeHeld g.D.Disk.content g.D.Disk.images a → IsNodeHeld g.D.Disk.content g.D.Disk.images b) (map (λ (s : SharedLog g.row.D.Denot). s.node) c.share_logs-logs.result.0.items) ys) (sym c.own_logs.ensures)
-    (went_map (λ (s : SharedLog g.row.D.Denot). s.node) sight (λ a b. IsNodeHeld g.D.Disk.content g.D.Disk.images a → IsNodeHeld g.D.Disk.content g.D.Disk.images b) c.share_logs-logs.result.0.items c.wave_shared-logs.result.logs.items c.wave_shared-logs.ensures.logs_go))
+    subst (λ xs. WentOn sight (λ a b. IsNodeHeld g.D.Disk a → IsNodeHeld g.D.Disk b) xs c.own_logs.result.items) c.share_logs-logs.ensures.nodes
+    (subst (λ ys. WentOn sight (λ a b. IsNodeHeld g.D.Disk a → IsNodeHeld g.D.Disk b) (map (λ (s : SharedLog g.row.D.Denot). s.node) c.share_logs-logs.result.0.items) ys) (sym c.own_logs.ensures)
+    (went_map (λ (s : SharedLog g.row.D.Denot). s.node) sight (λ a b. IsNodeHeld g.D.Disk a → IsNodeHeld g.D.Disk b) c.share_logs-logs.result.0.items c.wave_shared-logs.result.logs.items c.wave_shared-logs.ensures.logs_go))
 
 pub returns-clause-shards_go : goal.returns-clause-shards_go
 returns-clause-shards_go g c =

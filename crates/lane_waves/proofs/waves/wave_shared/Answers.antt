@@ -48,13 +48,13 @@ returns-in-Err-clause-ran g c =
     let shards_many = c.requires.shards_many in
     unrun_wave K (sight_at log_sight ns) (sight_at seen ms) (sight_at log_sight ns') (sight_at seen ms') c.args.lanes.now.items c.stop_all.new.lanes.items
     c.requires.limits
-    (λ n lt. nodes_still log_sight (log_goes g.D.Disk.content g.D.Disk.images) ns ns' c.in-Err.ensures.logs_back n (subst (λ m. n < m) (sym logs_many) lt))
+    (λ n lt. nodes_still log_sight (log_goes g.D.Disk) ns ns' c.in-Err.ensures.logs_back n (subst (λ m. n < m) (sym logs_many) lt))
     (λ s lt. nodes_still seen goes ms ms' c.in-Err.ensures.shards_back s (subst (λ m. s < m) (sym shards_many) lt))
     (λ s le. past_end seen goes ms s (subst (λ m. m ≤ s) (sym shards_many) le))
     c.requires.settled c.requires.lanes_many c.stop_all.ensures.same c.stop_all.ensures.stopped
 
 pub returns-in-Err-clause-logs_go : goal.returns-in-Err-clause-logs_go
-returns-in-Err-clause-logs_go g c = (held log_sight (log_goes g.D.Disk.content g.D.Disk.images)).1 c.args.nodes.logs.items c.in-Err.nodes.logs.items c.in-Err.ensures.logs_back
+returns-in-Err-clause-logs_go g c = (held log_sight (log_goes g.D.Disk)).1 c.args.nodes.logs.items c.in-Err.nodes.logs.items c.in-Err.ensures.logs_back
 
 pub returns-in-Err-clause-shards_go : goal.returns-in-Err-clause-shards_go
 returns-in-Err-clause-shards_go g c = (held (shard_sight g.S.Shard.sight) (shard_goes g.S.Shard.goes)).1 c.args.nodes.shards.items c.in-Err.nodes.shards.items c.in-Err.ensures.shards_back
@@ -133,7 +133,7 @@ returns-clause-ran g c =
     let ns' = c.close_all.result.items in
     let ms' = c.close_all-2.result.items in
     subst (λ (v : Vec LaneOf). WaveRan K (sight_at log_sight ns) (sight_at (shard_sight sight) ms) (sight_at log_sight ns') (sight_at (shard_sight sight) ms') c.args.lanes.now.items v.items) (sym c.replace-2.ensures.after)
-    (ran_wave sight (log_goes g.D.Disk.content g.D.Disk.images) (shard_goes g.S.Shard.goes) K
+    (ran_wave sight (log_goes g.D.Disk) (shard_goes g.S.Shard.goes) K
     ns ns' ms ms' c.args.home_rows.items c.args.shard_rows.items k.logs.locks.items k.shards.locks.items
     k.logs.seats.items homes k.shards.seats.items rows c.args.lanes.now.items new
     c.requires.logs_many c.requires.shards_many c.requires.home_rows c.requires.home_rows_many c.requires.shard_rows c.requires.shard_rows_many
@@ -142,7 +142,7 @@ returns-clause-ran g c =
 pub returns-clause-logs_go : goal.returns-clause-logs_go
 returns-clause-logs_go g c =
     let k = c.in-Ok.locked.logs in
-    (held log_sight (log_goes g.D.Disk.content g.D.Disk.images)).0 c.args.nodes.logs.items c.args.home_rows.items k.locks.items
+    (held log_sight (log_goes g.D.Disk)).0 c.args.nodes.logs.items c.args.home_rows.items k.locks.items
     k.seats.items c.run_seated-homes.result.homes.items c.close_all.result.items c.in-Ok.ensures.logs c.close_all.ensures
 
 pub returns-clause-shards_go : goal.returns-clause-shards_go

@@ -42,7 +42,7 @@ end_on-requires-clause-come g c =
 
 pub returns-in-Err-clause-stopped : goal.returns-in-Err-clause-stopped
 returns-in-Err-clause-stopped g c =
-    ⊎_elim (λ turns. ⊎_elim (λ refused. inl refused) (λ cut. inr (fault_as g.R.Disk.Disk.content g.R.Disk.Disk.images g.R.Disk.Disk.limit (g.R.Rack.held c.args.rack.now) (g.R.Rack.held c.begin_on.new.rack) (g.R.Rack.count c.args.rack.now) (g.R.Rack.count c.begin_on.new.rack)
+    ⊎_elim (λ turns. ⊎_elim (λ refused. inl refused) (λ cut. inr (fault_as g.R.Disk.Disk (g.R.Rack.held c.args.rack.now) (g.R.Rack.held c.begin_on.new.rack) (g.R.Rack.count c.args.rack.now) (g.R.Rack.count c.begin_on.new.rack)
     NothingNext (EndsWork no_deed) IsLeastOpen (BeginsWork no_deed) NonePrepared [] ends_none begun_none c.in-Err.fault cut)) turns) (λ tested. absurd tested.refused) c.in-Err.ensures.stopped
 
 pub returns-in-Ok-end_on-clause-caused : goal.returns-in-Ok-end_on-clause-caused
@@ -96,7 +96,7 @@ returns-in-Err-end_on-clause-stopped g c =
     let done : HasDone g.R.Disk.Disk (g.R.Rack.held c.args.rack.now) (g.R.Rack.held c.end_on.new.rack) (g.R.Rack.count c.args.rack.now) (g.R.Rack.count c.end_on.new.rack) no_deed c.end_on.result =
     subst (λ b. HasDone g.R.Disk.Disk (g.R.Rack.held c.args.rack.now) (g.R.Rack.held c.end_on.new.rack) b (g.R.Rack.count c.end_on.new.rack) no_deed c.end_on.result) begun.2
     (subst (λ h. HasDone g.R.Disk.Disk h (g.R.Rack.held c.end_on.new.rack) begun.0.before (g.R.Rack.count c.end_on.new.rack) no_deed c.end_on.result) begun.1 (c.end_on.ensures.done begun.0 has)) in
-    ⊎_elim (λ refused. inl refused) (λ cut. inr (fault_as g.R.Disk.Disk.content g.R.Disk.Disk.images g.R.Disk.Disk.limit (g.R.Rack.held c.args.rack.now) (g.R.Rack.held c.end_on.new.rack) (g.R.Rack.count c.args.rack.now) (g.R.Rack.count c.end_on.new.rack)
+    ⊎_elim (λ refused. inl refused) (λ cut. inr (fault_as g.R.Disk.Disk (g.R.Rack.held c.args.rack.now) (g.R.Rack.held c.end_on.new.rack) (g.R.Rack.count c.args.rack.now) (g.R.Rack.count c.end_on.new.rack)
     NothingNext (EndsWork no_deed) IsLeastOpen (BeginsWork no_deed) NonePrepared [] ends_none begun_none c.in-Err-end_on.fault cut)) (of_fault _ c.end_on.result c.in-Err-end_on.fault c.in-Err-end_on.is done.stopped)
 
 pub returns-in-Ok-end_on-clause-later : goal.returns-in-Ok-end_on-clause-later

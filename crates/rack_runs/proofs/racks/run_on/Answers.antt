@@ -37,7 +37,7 @@ end_on-requires-clause-come g c =
 
 pub returns-in-Err-clause-stopped : goal.returns-in-Err-clause-stopped
 returns-in-Err-clause-stopped g c =
-    ⊎_elim (λ turns. ⊎_elim (λ refused. inl refused) (λ cut. inr (fault_as g.R.Disk.Disk.content g.R.Disk.Disk.images g.R.Disk.Disk.limit (g.R.Rack.held c.args.rack.now) (g.R.Rack.held c.begin_on.new.rack) (g.R.Rack.count c.args.rack.now) (g.R.Rack.count c.begin_on.new.rack)
+    ⊎_elim (λ turns. ⊎_elim (λ refused. inl refused) (λ cut. inr (fault_as g.R.Disk.Disk (g.R.Rack.held c.args.rack.now) (g.R.Rack.held c.begin_on.new.rack) (g.R.Rack.count c.args.rack.now) (g.R.Rack.count c.begin_on.new.rack)
     (PieceNext (g.V.Verifier.verdict_of c.args.verifier.now) c.args.files.now) (EndsWork (files_deed (g.V.Verifier.verdict_of c.args.verifier.now) c.args.files.now)) (EndsRun (g.V.Verifier.verdict_of c.args.verifier.now) c.args.files.now) (BeginsWork (files_deed (g.V.Verifier.verdict_of c.args.verifier.now) c.args.files.now)) (PiecesPrepared (g.V.Verifier.verdict_of c.args.verifier.now) c.args.files.now) c.args.files.now (ends_run (g.V.Verifier.verdict_of c.args.verifier.now) c.args.files.now) (begun_run (g.V.Verifier.verdict_of c.args.verifier.now) c.args.files.now) c.in-Err.fault cut)) turns) (λ tested. absurd tested.refused) c.in-Err.ensures.stopped
 
 pub returns-in-Ok-end_on-clause-caused : goal.returns-in-Ok-end_on-clause-caused
@@ -88,7 +88,7 @@ returns-in-Err-end_on-clause-stopped g c =
     let done : HasDone g.R.Disk.Disk (g.R.Rack.held c.args.rack.now) (g.R.Rack.held c.end_on.new.rack) (g.R.Rack.count c.args.rack.now) (g.R.Rack.count c.end_on.new.rack) (files_deed (g.V.Verifier.verdict_of c.args.verifier.now) c.args.files.now) c.end_on.result =
     subst (λ b. HasDone g.R.Disk.Disk (g.R.Rack.held c.args.rack.now) (g.R.Rack.held c.end_on.new.rack) b (g.R.Rack.count c.end_on.new.rack) (files_deed (g.V.Verifier.verdict_of c.args.verifier.now) c.args.files.now) c.end_on.result) begun.2
     (subst (λ h. HasDone g.R.Disk.Disk h (g.R.Rack.held c.end_on.new.rack) begun.0.before (g.R.Rack.count c.end_on.new.rack) (files_deed (g.V.Verifier.verdict_of c.args.verifier.now) c.args.files.now) c.end_on.result) begun.1 (c.end_on.ensures.done begun.0 has)) in
-    ⊎_elim (λ refused. inl refused) (λ cut. inr (fault_as g.R.Disk.Disk.content g.R.Disk.Disk.images g.R.Disk.Disk.limit (g.R.Rack.held c.args.rack.now) (g.R.Rack.held c.end_on.new.rack) (g.R.Rack.count c.args.rack.now) (g.R.Rack.count c.end_on.new.rack)
+    ⊎_elim (λ refused. inl refused) (λ cut. inr (fault_as g.R.Disk.Disk (g.R.Rack.held c.args.rack.now) (g.R.Rack.held c.end_on.new.rack) (g.R.Rack.count c.args.rack.now) (g.R.Rack.count c.end_on.new.rack)
     (PieceNext (g.V.Verifier.verdict_of c.args.verifier.now) c.args.files.now) (EndsWork (files_deed (g.V.Verifier.verdict_of c.args.verifier.now) c.args.files.now)) (EndsRun (g.V.Verifier.verdict_of c.args.verifier.now) c.args.files.now) (BeginsWork (files_deed (g.V.Verifier.verdict_of c.args.verifier.now) c.args.files.now)) (PiecesPrepared (g.V.Verifier.verdict_of c.args.verifier.now) c.args.files.now) c.args.files.now (ends_run (g.V.Verifier.verdict_of c.args.verifier.now) c.args.files.now) (begun_run (g.V.Verifier.verdict_of c.args.verifier.now) c.args.files.now) c.in-Err-end_on.fault cut)) (of_fault _ c.end_on.result c.in-Err-end_on.fault c.in-Err-end_on.is done.stopped)
 
 pub returns-in-Ok-end_on-clause-later : goal.returns-in-Ok-end_on-clause-later

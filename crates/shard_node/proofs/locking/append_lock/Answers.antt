@@ -101,17 +101,17 @@ returns-in-Err-write-clause-meets g c =
 pub returns-in-Ok-write-clause-leaves : goal.returns-in-Ok-write-clause-leaves
 returns-in-Ok-write-clause-leaves g c =
     let seen = shown_same c.args.parts.now.log c.take_memory.new.log c.args.parts.now.opened c.args.parts.now.flight c.take_memory.ensures.untouched c.take_memory.ensures.records c.take_memory.ensures.header in
-    subst (λ v. HoldsJournal g.D.Disk.content g.D.Disk.images v → LeavesBetween g.D.Disk.tells_past g.D.Disk.moment g.D.Disk.images_since g.D.Disk.images v (view_of c.write.new.parts)) seen c.write.ensures.leaves
+    subst (λ v. HoldsJournal g.D.Disk v → LeavesBetween g.D.Disk v (view_of c.write.new.parts)) seen c.write.ensures.leaves
 
 pub returns-in-Err-write-clause-leaves : goal.returns-in-Err-write-clause-leaves
 returns-in-Err-write-clause-leaves g c =
     let seen = shown_same c.args.parts.now.log c.take_memory.new.log c.args.parts.now.opened c.args.parts.now.flight c.take_memory.ensures.untouched c.take_memory.ensures.records c.take_memory.ensures.header in
-    subst (λ v. HoldsJournal g.D.Disk.content g.D.Disk.images v → LeavesBetween g.D.Disk.tells_past g.D.Disk.moment g.D.Disk.images_since g.D.Disk.images v (view_of c.write.new.parts)) seen c.write.ensures.leaves
+    subst (λ v. HoldsJournal g.D.Disk v → LeavesBetween g.D.Disk v (view_of c.write.new.parts)) seen c.write.ensures.leaves
 
 pub returns-in-Err-clause-leaves : goal.returns-in-Err-clause-leaves
 returns-in-Err-clause-leaves g c = λ holds.
     let seen = shown_same c.args.parts.now.log c.take_memory.new.log c.args.parts.now.opened c.args.parts.now.flight c.take_memory.ensures.untouched c.take_memory.ensures.records c.take_memory.ensures.header in
-    subst (λ v. LeavesBetween g.D.Disk.tells_past g.D.Disk.moment g.D.Disk.images_since g.D.Disk.images (view_of c.args.parts.now) v) (sym seen)
+    subst (λ v. LeavesBetween g.D.Disk (view_of c.args.parts.now) v) (sym seen)
     (still g.D.Disk (view_of c.args.parts.now) (g.met.D.Disk.only_now c.args.parts.now.log.journal.disk) holds)
 
 pub returns-then-stamp-gt-LAST_LOCK-clause-leaves : goal.returns-then-stamp-gt-LAST_LOCK-clause-leaves

@@ -164,14 +164,14 @@ returns-then-stamp-gt-LAST_STAMP-clause-leaves g c = still g.D.Disk c.args.self.
 
 pub returns-in-Err-clause-leaves : goal.returns-in-Err-clause-leaves
 returns-in-Err-clause-leaves g c =
-    let P : NodeOf g.row.D.Denot → Type 0 = λ x. HoldsJournal g.D.Disk.content g.D.Disk.images x
-    → LeavesBetween g.D.Disk.tells_past g.D.Disk.moment g.D.Disk.images_since g.D.Disk.images x (shown c.write.new.log c.self.inside.opened c.write.new.flight) in
+    let P : NodeOf g.row.D.Denot → Type 0 = λ x. HoldsJournal g.D.Disk x
+    → LeavesBetween g.D.Disk x (shown c.write.new.log c.self.inside.opened c.write.new.flight) in
     subst P c.self.view_is (c.write.ensures.leaves c.self.inside.opened)
 
 pub returns-clause-leaves : goal.returns-clause-leaves
 returns-clause-leaves g c =
-    let P : NodeOf g.row.D.Denot → Type 0 = λ x. HoldsJournal g.D.Disk.content g.D.Disk.images x
-    → LeavesBetween g.D.Disk.tells_past g.D.Disk.moment g.D.Disk.images_since g.D.Disk.images x (shown c.write.new.log c.self.inside.opened c.write.new.flight) in
+    let P : NodeOf g.row.D.Denot → Type 0 = λ x. HoldsJournal g.D.Disk x
+    → LeavesBetween g.D.Disk x (shown c.write.new.log c.self.inside.opened c.write.new.flight) in
     subst P c.self.view_is (c.write.ensures.leaves c.self.inside.opened)
 
 pub returns-in-Some-clause-own : goal.returns-in-Some-clause-own

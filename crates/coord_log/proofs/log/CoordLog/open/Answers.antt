@@ -17,6 +17,6 @@ of_parts-requires g c =
 
 pub returns-in-Ok-reserve-clause-opens : goal.returns-in-Ok-reserve-clause-opens
 returns-in-Ok-reserve-clause-opens g c = λ bytes told.
-    let P : NodeOf g.row.D.Denot → Type 0 = λ l. IsCoordJournal l.header l.journal bytes × HoldsJournal g.D.Disk.content g.D.Disk.images l in
+    let P : NodeOf g.row.D.Denot → Type 0 = λ l. IsCoordJournal l.header l.journal bytes × HoldsJournal g.D.Disk l in
     let same = c.of_parts.ensures ∙ same_opened c.in-Ok.field-0.log c.reserve.new.self c.reserve.ensures.untouched c.reserve.ensures.records c.reserve.ensures.header in
     subst P (sym same) (c.in-Ok.ensures.opens bytes told)

@@ -44,5 +44,5 @@ returns-clause-keeps g c =
       elsewhere = λ n ne. set_elsewhere sight c.args.self.now.logs.items c.args.self.now.at c.done_at-answer.new.log n ne;
       nodes = turned_nodes sight c.args.self.now.logs.items c.args.self.now.at c.index_mut.result.now c.done_at-answer.new.log within c.index_mut.ensures.value c.done_at-answer.ensures.node;
       later = turned_faults sight c.args.self.now.logs.items c.args.self.now.at c.index_mut.result.now c.done_at-answer.new.log within c.index_mut.ensures.value c.done_at-answer.ensures.later;
-      held = turned_held sight c.args.self.now.logs.items c.args.self.now.at c.index_mut.result.now c.done_at-answer.new.log within c.index_mut.ensures.value (IsNodeHeld g.D.Disk.content g.D.Disk.images) c.done_at-answer.ensures.holds;
+      held = turned_held sight c.args.self.now.logs.items c.args.self.now.at c.index_mut.result.now c.done_at-answer.new.log within c.index_mut.ensures.value (IsNodeHeld g.D.Disk) c.done_at-answer.ensures.holds;
     }

@@ -33,7 +33,7 @@ returns-clause-later g c =
 
 pub returns-clause-holds : goal.returns-clause-holds
 returns-clause-holds g c =
-    turned_held sight c.args.self.now.nodes.items c.args.shard c.index_mut.result.now _ c.requires.place c.index_mut.ensures.value (IsNodeHeld g.D.Disk.content g.D.Disk.images) (search (rules, c.lock.ensures.keeps.held))
+    turned_held sight c.args.self.now.nodes.items c.args.shard c.index_mut.result.now _ c.requires.place c.index_mut.ensures.value (IsNodeHeld g.D.Disk) (search (rules, c.lock.ensures.keeps.held))
 
 pub returns-clause-told : goal.returns-clause-told
 returns-clause-told g c =

@@ -17,5 +17,5 @@ invariant-calls g l = record {
   capacity : vec_capacity l.out ≡ vec_capacity l.initial.out;
   count : length l.self.nodes.items ≡ length l.initial.self.nodes.items;
   later : (n : ℕ) → ((sight_at sight l.initial.self.nodes.items) n).faults ≤ ((sight_at sight l.self.nodes.items) n).faults;
-  holds : AreNodesHeld g.D.Disk.content g.D.Disk.images l.initial.self.nodes.items → AreNodesHeld g.D.Disk.content g.D.Disk.images l.self.nodes.items;
+  holds : AreNodesHeld g.D.Disk l.initial.self.nodes.items → AreNodesHeld g.D.Disk l.self.nodes.items;
 }
