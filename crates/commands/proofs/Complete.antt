@@ -78,7 +78,7 @@ module _ {D : Type 0} (files : Text → Option (List ℕ)) (files_before files_n
   recover_none : (answer : Answer) → IsReady device held before now none_sound [] → WhyNoTurns device held back before now NothingNext IsLeastOpen NonePrepared [] answer → answer ≡ answers.Memory
   recover_none answer ready (inl unbegun) = unresumed none_sound [] answer ready unbegun.0
   recover_none answer ready (inr lane) =
-      recovery_none device.content device.images device.limit held back before now ready.shape ready.mint ready.submissions ready.journals ready.shows ready.steady none_sound ready.ample answer lane
+      recovery_none device held back before now ready.shape ready.mint ready.submissions ready.journals ready.shows ready.steady none_sound ready.ample answer lane
 
   module _ (verdicts : FileWord) (clients : List FileWord) (can : CanRun files files_before files_now device held before now verdicts.name.now (names_of clients)) where
     -- over the transactions and verdicts that the files hold
@@ -87,7 +87,7 @@ module _ {D : Type 0} (files : Text → Option (List ℕ)) (files_before files_n
     turns_none handed tells answer these known (inl unbegun) = unresumed (sound_by (told can.known)) can.handed answer can.ready unbegun.0
     turns_none handed tells answer these known (inr lane) =
         let ready = can.ready in
-        run_none device.content device.images device.limit held back before now ready.shape ready.mint ready.submissions ready.journals ready.shows ready.steady tells handed
+        run_none device held back before now ready.shape ready.mint ready.submissions ready.journals ready.shows ready.steady tells handed
         (subst (λ v. Ample ready.shape (sound_by v) (λ n. limit_at device (held n)) handed ready.journals) (sym known)
         (subst (λ hs. Ample ready.shape (sound_by (told can.known)) (λ n. limit_at device (held n)) hs ready.journals) (sym these) ready.ample)) answer lane
 

@@ -168,7 +168,7 @@ module _ (K : Shape) (mint : List Output) (few_coins : length mint ≤ 1000000) 
     unrun a (inl (inr (inl unsound), back)) = absurd (unsound_none plain (disk_at mid) K mint [] (first_journals K mint) ready a unsound)
     unrun a (inl (inr (inr memory), back)) = memory
     unrun a (inr fault) =
-        run_none plain.content plain.images plain.limit (disk_at mid) (disk_at new) (faults_at mid.misses) (faults_at new.misses) K mint [] (first_journals K mint) ready (none_rises mid new) all_good files ample a fault
+        run_none plain (disk_at mid) (disk_at new) (faults_at mid.misses) (faults_at new.misses) K mint [] (first_journals K mint) ready (none_rises mid new) all_good files ample a fault
 
 -- ---- a workload's run and audit
 

@@ -19,7 +19,7 @@ pub wave-logs-requires-clause-limits : goal.wave-logs-requires-clause-limits
 wave-logs-requires-clause-limits g c κs k = all_within c.args.lanes.now.items c.requires.limits
 
 pub invariant_of-result : goal.invariant_of-result
-invariant_of-result g c = (wave_law g.D.Disk.content g.D.Disk.images c.ledger.inside.header c.ledger.inside.logs.items c.ledger.inside.shards.items c.wave-logs.result.logs.items c.wave-logs.result.shards.items
+invariant_of-result g c = (wave_law g.D.Disk c.ledger.inside.header c.ledger.inside.logs.items c.ledger.inside.shards.items c.wave-logs.result.logs.items c.wave-logs.result.shards.items
     c.args.lanes.now.items c.wave-logs.new.lanes.items c.ledger.invariant (subst (λ v. length c.args.lanes.now.items ≡ v.header.shape.coordinators * v.header.shape.lanes) (sym c.ledger.view_is) c.requires.count)
     c.wave-logs.ensures.ran c.wave-logs.ensures.logs_go c.wave-logs.ensures.shards_go
     (subst (λ (ls : List (NodeOf g.row.D.Denot)). All (λ l. IsJournal l.header l.journal) ls) c.as_slice.ensures.value c.see_logs.ensures.journals)
@@ -28,7 +28,7 @@ invariant_of-result g c = (wave_law g.D.Disk.content g.D.Disk.images c.ledger.in
     (subst (λ (ss : List (NodeOf g.row.D.Denot)). All FliesNext ss) c.as_slice-2.ensures.value c.see_shards.ensures.next)).ledger
 
 pub returns-clause-wave : goal.returns-clause-wave
-returns-clause-wave g c = rw (← c.ledger.view_is) (wave_law g.D.Disk.content g.D.Disk.images c.ledger.inside.header c.ledger.inside.logs.items c.ledger.inside.shards.items c.wave-logs.result.logs.items c.wave-logs.result.shards.items
+returns-clause-wave g c = rw (← c.ledger.view_is) (wave_law g.D.Disk c.ledger.inside.header c.ledger.inside.logs.items c.ledger.inside.shards.items c.wave-logs.result.logs.items c.wave-logs.result.shards.items
     c.args.lanes.now.items c.wave-logs.new.lanes.items c.ledger.invariant (subst (λ v. length c.args.lanes.now.items ≡ v.header.shape.coordinators * v.header.shape.lanes) (sym c.ledger.view_is) c.requires.count)
     c.wave-logs.ensures.ran c.wave-logs.ensures.logs_go c.wave-logs.ensures.shards_go
     (subst (λ (ls : List (NodeOf g.row.D.Denot)). All (λ l. IsJournal l.header l.journal) ls) c.as_slice.ensures.value c.see_logs.ensures.journals)

@@ -37,7 +37,7 @@ end_on-requires-clause-come g c =
 
 pub returns-in-Err-clause-refused : goal.returns-in-Err-clause-refused
 returns-in-Err-clause-refused g c n is =
-    ⊎_elim (λ turns. absurd (not_empty g.R.Disk.Disk.content g.R.Disk.Disk.images g.R.Disk.Disk.limit g.R.Disk.Disk.count (g.R.Rack.held c.args.rack.now) (g.R.Rack.held c.begin_on.new.rack) (g.R.Rack.count c.args.rack.now) (g.R.Rack.count c.begin_on.new.rack) NothingNext (EndsWork no_deed) (BeginsWork no_deed) [] n
+    ⊎_elim (λ turns. absurd (not_empty g.R.Disk.Disk (g.R.Rack.held c.args.rack.now) (g.R.Rack.held c.begin_on.new.rack) (g.R.Rack.count c.args.rack.now) (g.R.Rack.count c.begin_on.new.rack) NothingNext (EndsWork no_deed) (BeginsWork no_deed) [] n
     (subst (λ a. WhyNoTurns g.R.Disk.Disk (g.R.Rack.held c.args.rack.now) (g.R.Rack.held c.begin_on.new.rack) (g.R.Rack.count c.args.rack.now) (g.R.Rack.count c.begin_on.new.rack) NothingNext (EndsWork no_deed) (BeginsWork no_deed) [] a) is turns))) (λ refused. refused) c.in-Err.ensures.stopped
 
 pub returns-clause-refused : goal.returns-clause-refused
@@ -53,7 +53,7 @@ returns-clause-refused g c =
     } in
     if_err_by (WhyNoTurns g.R.Disk.Disk begun.0.held (g.R.Rack.held c.end_on.new.rack) begun.0.before (g.R.Rack.count c.end_on.new.rack) NothingNext (EndsWork no_deed) (BeginsWork no_deed) [])
     (λ a. (n : ℕ) → a ≡ answers.NotEmpty n → IsTestRefused g.R.Disk.Disk (g.R.Rack.held c.args.rack.now) (g.R.Rack.held c.end_on.new.rack) (few_records c.args.most) a) c.end_on.result
-    (λ a turns n is. absurd (not_empty g.R.Disk.Disk.content g.R.Disk.Disk.images g.R.Disk.Disk.limit g.R.Disk.Disk.count begun.0.held (g.R.Rack.held c.end_on.new.rack) begun.0.before (g.R.Rack.count c.end_on.new.rack) NothingNext (EndsWork no_deed) (BeginsWork no_deed) [] n
+    (λ a turns n is. absurd (not_empty g.R.Disk.Disk begun.0.held (g.R.Rack.held c.end_on.new.rack) begun.0.before (g.R.Rack.count c.end_on.new.rack) NothingNext (EndsWork no_deed) (BeginsWork no_deed) [] n
     (subst (λ a. WhyNoTurns g.R.Disk.Disk begun.0.held (g.R.Rack.held c.end_on.new.rack) begun.0.before (g.R.Rack.count c.end_on.new.rack) NothingNext (EndsWork no_deed) (BeginsWork no_deed) [] a) is turns))) (c.end_on.ensures.done begun.0 has).stopped
 
 pub returns-clause-passed : goal.returns-clause-passed
