@@ -1,5 +1,5 @@
 -- What a workload's run and audit come to, over nodes in memory.
-use Rattle.std.proofs.Common.{◌≡◌, ◌⊎◌, inl, inr, ◌<◌, ◌≤◌, ◌++◌, ℕ, List, [], length, reverse, Option, Some, None, refl, sym, ap, ◌∙◌, subst, arith}
+use Rattle.std.proofs.Common.{◌≡◌, tt, ◌⊎◌, inl, inr, ◌<◌, ◌≤◌, ◌++◌, ℕ, List, [], length, reverse, Option, Some, None, refl, sym, ap, ◌∙◌, subst, arith}
 use Rattle.std.proofs.lemmas.Bool.{cases_lt}
 use Rattle.std.proofs.lemmas.List.FromFn.{length-map-range_with_len}
 use Rattle.outside.specs.declared.disk.Disk.{Ghosts}
@@ -77,7 +77,7 @@ module _ {D : Type 0} (device : Ghosts D) (held : ℕ → Option D) (K : Shape) 
   pub shown : HoldsEach device held K X → ((n : ℕ) → n < node_count K → (d : D) × (held n ≡ Some d) × ((c : List ℕ) × (device.content d ≡ Some c) × device.images d c)) → Shows device held K (genesis_id mint) X
   shown disks tells n inside =
       let t = tells n inside in
-      (t.0, t.1, (t.2.0, t.2.1, record { opens = disks n inside t.0 t.1 t.2.0 t.2.2; limits = within; journal = kept_journal K mint within minted_few submissions X kept n inside }))
+      (t.0, t.1, (t.2.0, t.2.1, record { opens = disks n inside t.0 t.1 t.2.0 t.2.2; limits = within; journal = kept_journal K mint within minted_few submissions X kept n inside; kind = tt }))
 
   -- the history that was told is that of its journals
   module _ (shows : Shows device held K (genesis_id mint) X) (shape : Shape) (rows : List Row) (history : IsToldHistory device held shape (genesis_id mint) rows) where

@@ -1,5 +1,5 @@
 -- The journals of a kept ledger as its nodes' disks show them, and those of one that was just made.
-use Rattle.std.proofs.Common.{◌≡◌, ◌+◌, ◌-◌, ◌<◌, ◌≤◌, ◌==◌, ℕ, suc, Bool, true, false, nat_lt, if◌then◌else◌, List, [], ◌∷◌, ◌++◌, length, map, reverse, Option, Some, refl, sym, ap, ◌∙◌, subst, arith}
+use Rattle.std.proofs.Common.{◌≡◌, tt, ◌+◌, ◌-◌, ◌<◌, ◌≤◌, ◌==◌, ℕ, suc, Bool, true, false, nat_lt, if◌then◌else◌, List, [], ◌∷◌, ◌++◌, length, map, reverse, Option, Some, refl, sym, ap, ◌∙◌, subst, arith}
 use Rattle.std.specs.Prelude.{All, IsSome}
 use Rattle.std.proofs.lemmas.Bool.{ltb-true, ltb-false}
 use Rattle.std.proofs.lemmas.List.Elements.{All-nil, All-cons, All-head, All-tail}
@@ -133,4 +133,4 @@ module _ (K : Shape) (mint : List Output) (within : IsWithinLimits K) (few : len
       let own : first_journals K mint n ≡ first_record K (minted mint) n ∷ [] = first_is K (minted mint) n inside in
       let opens : OpensTo (reverse (first_journals K mint n)) h.bytes = subst (λ J. OpensTo (reverse J) h.bytes) (sym own) h.opens in
       let journal_is : IsJournal (header_of K (genesis_id mint) n) (first_journals K mint n) = kept_journal [] (first_journals K mint) first_kept n inside in
-      (d, here, (h.bytes, h.told, record { opens = opens; limits = within; journal = journal_is }))
+      (d, here, (h.bytes, h.told, record { opens = opens; limits = within; journal = journal_is; kind = tt }))
