@@ -15,7 +15,7 @@ use Rattle.run_laws.proofs.Room.{kept_room_law, idle_room_law}
 use Rattle.gate_journal.specs.Rows.{rows, IsShut}
 use Rattle.record_log.specs.Held.{bodies_of}
 use Rattle.record_log.proofs.LogSizes.{rows_size}
-use Rattle.coord_log.proofs.Opened.{sum_reversed}
+use Rattle.node_journal.proofs.Journals.{sum_reversed}
 use Rattle.rack_ledgers.proofs.Fronts.{Begins, Follow, journal_begins}
 use Rattle.rack_ledgers.specs.Refused.{IsNodeJournal}
 use Rattle.rack_laws.specs.Shown.{node_count}
