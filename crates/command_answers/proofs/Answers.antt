@@ -8,9 +8,9 @@ use Rattle.requests.specs.declared.FileWord.{FileWord}
 use Rattle.line_text.specs.Lines.{Text}
 use Rattle.input_files.specs.Contents.{IsNotRead, IsNoVerdicts, FirstNotRead, txs_of_file, all_txs}
 use Rattle.command_answers.proofs.Counts.{rose_later}
-use Rattle.command_answers.specs.Causes.{IsFault, IsDone, IsTold, IsWell, OnePlace, OneRose}
+use Rattle.command_answers.specs.Causes.{IsReadOrNodeFault, IsAnswerToRequest, HasToldCause, IsWell, OnePlace, OneRose}
 
-pub fault_done : (named read : ℕ → Type 0) (written : Type 0) (a : Answer) → IsFault named read a → IsDone named read written a
+pub fault_done : (named read : ℕ → Type 0) (written : Type 0) (a : Answer) → IsReadOrNodeFault named read a → IsAnswerToRequest named read written a
 fault_done named read written answers.Ok is = absurd is
 fault_done named read written answers.BadWords is = absurd is
 fault_done named read written (answers.BadInput file at kind) is = is
@@ -28,7 +28,7 @@ fault_done named read written (answers.DiskFault k) is = tt
 fault_done named read written answers.Memory is = tt
 
 pub not_read_fault : {X : Type 0} (place : ℕ) (told : Option (List ℕ)) (read : List ℕ → Result X BadFile) (before now : ℕ) (named rose : ℕ → Type 0) → ((file : ℕ) → file ≡ place → named file) → ((file : ℕ) → file ≡ place → Rose before now → rose file) → (a : Answer)
-    → IsNotRead place told read before now a → IsFault named rose a
+    → IsNotRead place told read before now a → IsReadOrNodeFault named rose a
 not_read_fault place told read before now named rose has of answers.Ok is = absurd is
 not_read_fault place told read before now named rose has of answers.BadWords is = absurd is
 not_read_fault place told read before now named rose has of (answers.BadInput file at kind) is = has file is.0
@@ -51,7 +51,7 @@ there (x ∷ xs) ys y = there xs ys y
 
 -- the first of some files that is not read
 pub first_fault : (held : Text → Option (List ℕ)) (before now : Text → ℕ) (files : List FileWord) (named rose : ℕ → Type 0) → ((place : ℕ) → OnePlace files place → named place) → ((place : ℕ) → OneRose before now files place → rose place)
-    → (a : Answer) → FirstNotRead held before now files a → IsFault named rose a
+    → (a : Answer) → FirstNotRead held before now files a → IsReadOrNodeFault named rose a
 first_fault held before now files named rose has of a is =
     let at_place : slice_get files (length is.ahead) ≡ Some is.file = subst (λ fs. slice_get fs (length is.ahead) ≡ Some is.file) (sym is.parts) (there is.ahead is.behind is.file) in
     not_read_fault is.file.place (held is.file.name.now) (txs_of_file (all_txs is.read)) (before is.file.name.now) (now is.file.name.now) named rose
@@ -63,7 +63,7 @@ pub one_later : (before mid now : Text → ℕ) (files : List FileWord) (place :
 one_later before mid now files place later (k, file, at, (is, rose)) =
     (k, file, at, (is, rose_later (before file.name.now) (mid file.name.now) (now file.name.now) (now file.name.now) (later file.name.now) (omega arith) rose))
 
-pub told : (cause : Answer → Type 0) (a : Answer) → cause a → IsTold cause a
+pub told : (cause : Answer → Type 0) (a : Answer) → cause a → HasToldCause cause a
 told cause answers.Ok is = tt
 told cause answers.BadWords is = tt
 told cause (answers.BadInput file at kind) is = is
@@ -81,7 +81,7 @@ told cause (answers.DiskFault k) is = is
 told cause answers.Memory is = tt
 
 -- another cause where the one was
-pub told_by : (P Q : Answer → Type 0) (a : Answer) → ((b : Answer) → P b → Q b) → IsTold P a → IsTold Q a
+pub told_by : (P Q : Answer → Type 0) (a : Answer) → ((b : Answer) → P b → Q b) → HasToldCause P a → HasToldCause Q a
 told_by P Q answers.Ok f is = tt
 told_by P Q answers.BadWords f is = tt
 told_by P Q (answers.BadInput file at kind) f is = f (answers.BadInput file at kind) is
@@ -115,7 +115,7 @@ no_verdicts_later place held before mid now answers.WriteFault later is = is
 no_verdicts_later place held before mid now (answers.DiskFault k) later is = is
 no_verdicts_later place held before mid now answers.Memory later is = is
 
-pub well_told : (cause : Answer → Type 0) (a : Answer) → IsWell a → IsTold cause a
+pub well_told : (cause : Answer → Type 0) (a : Answer) → IsWell a → HasToldCause cause a
 well_told cause answers.Ok is = tt
 well_told cause answers.BadWords is = tt
 well_told cause (answers.BadInput file at kind) is = absurd is

@@ -3,11 +3,11 @@ use Rattle.std.proofs.Common.{ℕ}
 use Rattle.cbdc_types.specs.declared.answer.Answer.{Answer}
 use Rattle.cbdc_types.specs.declared.answer.Answer.TheVariants as answers
 use Rattle.rack_ledgers.specs.Refused.{IsNodeRefusal}
-use Rattle.command_answers.specs.Causes.{IsFault, IsWell}
+use Rattle.command_answers.specs.Causes.{IsReadOrNodeFault, IsWell}
 use Rattle.command_answers.specs.Left.{IsBeforeDisks}
 
 -- what a node can't be opened for is a fault
-pub refusal_fault : (place read : ℕ → Type 0) (a : Answer) → IsNodeRefusal a → IsFault place read a
+pub refusal_fault : (place read : ℕ → Type 0) (a : Answer) → IsNodeRefusal a → IsReadOrNodeFault place read a
 refusal_fault place read answers.Ok is = absurd is
 refusal_fault place read answers.BadWords is = absurd is
 refusal_fault place read (answers.BadInput file at kind) is = absurd is

@@ -19,13 +19,13 @@ abbrev pub OnePlace : List FileWord → ℕ → Type 0
 OnePlace files place = (k : ℕ) × (file : FileWord) × (slice_get files k ≡ Some file) × (place ≡ file.place)
 
 -- reading and the work at the nodes: neither words nor the output are at fault, a bad file has a place, and a fault of reading has its cause
-abbrev pub IsFault : (ℕ → Type 0) → (ℕ → Type 0) → Answer → Type 0
-IsFault place read answers.Ok = ⊥
-IsFault place read answers.BadWords = ⊥
-IsFault place read answers.WriteFault = ⊥
-IsFault place read (answers.BadInput file at kind) = place file
-IsFault place read (answers.ReadFault file) = read file
-IsFault place read other = Unit {0}
+abbrev pub IsReadOrNodeFault : (ℕ → Type 0) → (ℕ → Type 0) → Answer → Type 0
+IsReadOrNodeFault place read answers.Ok = ⊥
+IsReadOrNodeFault place read answers.BadWords = ⊥
+IsReadOrNodeFault place read answers.WriteFault = ⊥
+IsReadOrNodeFault place read (answers.BadInput file at kind) = place file
+IsReadOrNodeFault place read (answers.ReadFault file) = read file
+IsReadOrNodeFault place read other = Unit {0}
 
 -- all was done, whether its lines could be written or not
 abbrev pub IsWell : Answer → Type 0
@@ -34,17 +34,17 @@ IsWell answers.WriteFault = Unit {0}
 IsWell other = ⊥
 
 -- what it was has its cause, unless all was done, the words are bad or memory ran out
-abbrev pub IsTold : (Answer → Type 0) → Answer → Type 0
-IsTold cause answers.Ok = Unit {0}
-IsTold cause answers.WriteFault = Unit {0}
-IsTold cause answers.BadWords = Unit {0}
-IsTold cause answers.Memory = Unit {0}
-IsTold cause other = cause other
+abbrev pub HasToldCause : (Answer → Type 0) → Answer → Type 0
+HasToldCause cause answers.Ok = Unit {0}
+HasToldCause cause answers.WriteFault = Unit {0}
+HasToldCause cause answers.BadWords = Unit {0}
+HasToldCause cause answers.Memory = Unit {0}
+HasToldCause cause other = cause other
 
 -- doing what is asked: a bad file has a place, and a fault of reading or writing has its cause
-abbrev pub IsDone : (ℕ → Type 0) → (ℕ → Type 0) → Type 0 → Answer → Type 0
-IsDone place read written answers.BadWords = ⊥
-IsDone place read written (answers.BadInput file at kind) = place file
-IsDone place read written (answers.ReadFault file) = read file
-IsDone place read written answers.WriteFault = written
-IsDone place read written other = Unit {0}
+abbrev pub IsAnswerToRequest : (ℕ → Type 0) → (ℕ → Type 0) → Type 0 → Answer → Type 0
+IsAnswerToRequest place read written answers.BadWords = ⊥
+IsAnswerToRequest place read written (answers.BadInput file at kind) = place file
+IsAnswerToRequest place read written (answers.ReadFault file) = read file
+IsAnswerToRequest place read written answers.WriteFault = written
+IsAnswerToRequest place read written other = Unit {0}

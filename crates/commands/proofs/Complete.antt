@@ -15,7 +15,7 @@ use Rattle.requests.specs.declared.Request.TheVariants.{Init, Run, Recover, Stat
 use Rattle.requests.specs.declared.WordsFault.TheVariants.{Bad}
 use Rattle.cbdc_model.specs.Clean.{Clean}
 use Rattle.workload.specs.Generator.{mint_of}
-use Rattle.submission_laws.specs.Files.{all_of}
+use Rattle.submission_laws.specs.Files.{all_submissions}
 use Rattle.command_line.specs.Refused.{AreWhole, HasHashes}
 use Rattle.command_line.specs.Single.{AreAlike, names_of}
 use Rattle.command_line.proofs.Refused.{asked_law}
@@ -33,7 +33,7 @@ use Rattle.submissions.specs.SoundTest.{sound_by}
 use Rattle.submissions.specs.Checks.{VerdictsOf}
 use Rattle.sentinel.specs.Files.{told}
 use Rattle.rack_laws.specs.Making.{CanMake}
-use Rattle.rack_laws.specs.Ready.{IsReady, limit_at}
+use Rattle.rack_laws.specs.Ready.{IsRackReady, limit_at}
 use Rattle.rack_laws.proofs.Audited.{audit_sound}
 use Rattle.rack_laws.proofs.Files.{read_once, not_read_none, clients_once, clients_none}
 use Rattle.rack_laws.proofs.Caused.{unsound_none}
@@ -43,7 +43,7 @@ use Rattle.rack_laws.proofs.Openings.{unopened_none}
 use Rattle.rack_laws.proofs.KeptRooms.{ample_rooms, idle_rooms}
 use Rattle.rack_laws.proofs.Verdicts.{verdicts_none, verdicts_once}
 use Rattle.audit_command.specs.Audits.{IsUnsoundBy, WasAudited, WhyUnopened, WhyUnaudited, WhyNoAudit}
-use Rattle.command_answers.specs.Causes.{IsTold, IsWell}
+use Rattle.command_answers.specs.Causes.{HasToldCause, IsWell}
 use Rattle.commands.specs.Complete.{CanInit, CanRun, CanAudit, IsUnhindered, none_sound}
 use Rattle.gen_command.specs.Generated.{WhyNoWorkload}
 use Rattle.init_command.specs.Outcomes.{WhyNoInit}
@@ -60,14 +60,14 @@ module _ {D : Type 0} (files : Text → Option (List ℕ)) (files_before files_n
       let same : unmade.0 ≡ can.mint = read_once files files_before files_now mint_of_file file.name.now can.mint unmade.0 can.holds unmade.1 in
       made device held before now shape unmade.0 answer (subst (λ (m : List Output). CanMake device held shape m) (sym same) can.can) can.steady unmade.2
 
-  status_none : (answer : Answer) → IsReady device held before now none_sound [] → WhyNoStatus device held back before now answer → answer ≡ answers.Memory
+  status_none : (answer : Answer) → IsRackReady device held before now none_sound [] → WhyNoStatus device held back before now answer → answer ≡ answers.Memory
   status_none answer ready why =
       let shows = ready.shows in
       let rooms = ample_rooms ready.shape ready.mint ready.submissions ready.journals (λ n. limit_at device (held n)) shows.limits shows.kept none_sound [] ready.ample in
       unopened_none device held before now ready.shape ready.mint ready.submissions ready.journals ready.shows rooms ready.steady None answer tt why.0
 
   -- what is not resumed
-  unresumed : (sound : FullTx → Bool) (handed : List (List FullTx)) (answer : Answer) → IsReady device held before now sound handed → IsUnresumed device held before now answer → answer ≡ answers.Memory
+  unresumed : (sound : FullTx → Bool) (handed : List (List FullTx)) (answer : Answer) → IsRackReady device held before now sound handed → IsUnresumed device held before now answer → answer ≡ answers.Memory
   unresumed sound handed answer ready (inl unopened) =
       let shows = ready.shows in
       let rooms = ample_rooms ready.shape ready.mint ready.submissions ready.journals (λ n. limit_at device (held n)) shows.limits shows.kept sound handed ready.ample in
@@ -75,7 +75,7 @@ module _ {D : Type 0} (files : Text → Option (List ℕ)) (files_before files_n
   unresumed sound handed answer ready (inr (inl unsound)) = absurd (unsound_none device held ready.shape ready.mint ready.submissions ready.journals ready.shows answer unsound)
   unresumed sound handed answer ready (inr (inr memory)) = memory
 
-  recover_none : (answer : Answer) → IsReady device held before now none_sound [] → WhyNoTurns device held back before now NothingNext IsLeastOpen NonePrepared [] answer → answer ≡ answers.Memory
+  recover_none : (answer : Answer) → IsRackReady device held before now none_sound [] → WhyNoTurns device held back before now NothingNext IsLeastOpen NonePrepared [] answer → answer ≡ answers.Memory
   recover_none answer ready (inl unbegun) = unresumed none_sound [] answer ready unbegun.0
   recover_none answer ready (inr lane) =
       recovery_none device held back before now ready.shape ready.mint ready.submissions ready.journals ready.shows ready.steady none_sound ready.ample answer lane
@@ -146,7 +146,7 @@ module _ {D : Type 0} (files : Text → Option (List ℕ)) (files_before files_n
       | inr without ↦ unaudited answer without
     ]
 
-  gen_none : (shape : Shape) (seed size : ℕ) (answer : Answer) → Clean (mint_of seed size) (all_of seed size) → WhyNoWorkload shape seed size answer → answer ≡ answers.Memory
+  gen_none : (shape : Shape) (seed size : ℕ) (answer : Answer) → Clean (mint_of seed size) (all_submissions seed size) → WhyNoWorkload shape seed size answer → answer ≡ answers.Memory
   gen_none shape seed size (answers.Unsound place kind) clean unsound = absurd (unsound.unclean clean)
   gen_none shape seed size answers.Memory clean why = refl
   gen_none shape seed size answers.Ok clean why = absurd why
@@ -192,7 +192,7 @@ module _ {D : Type 0} (files : Text → Option (List ℕ)) (files_before files_n
   free_alike (Audit mint clients) (Audit file others) alike free =
       subst (λ (names : List Text). CanAudit files files_before files_now device held before now file.name.now names) alike.1
       (subst (λ (name : Text). CanAudit files files_before files_now device held before now name (names_of clients.items)) alike.0 free)
-  free_alike (Gen shape seed size) (Gen kind number device.count) alike free = subst (λ k. Clean (mint_of number k) (all_of number k)) alike.2 (subst (λ k. Clean (mint_of k size) (all_of k size)) alike.1 free)
+  free_alike (Gen shape seed size) (Gen kind number device.count) alike free = subst (λ k. Clean (mint_of number k) (all_submissions number k)) alike.2 (subst (λ k. Clean (mint_of k size) (all_submissions k size)) alike.1 free)
   free_alike (Show text) (Show other) alike free = tt
   free_alike _ _ alike free = absurd alike
 
@@ -209,7 +209,7 @@ module _ {D : Type 0} (files : Text → Option (List ℕ)) (files_before files_n
     told_none : (answer : Answer) → (other : Request) × IsAsked words other × Caused other answer → answer ≡ answers.Memory
     told_none answer told = why_none told.0 answer (free_alike r told.0 (one_request_law words r told.0 asked told.1) free) told.2
 
-    pub complete : (answer : Answer) → IsTold (λ a. (other : Request) × IsAsked words other × Caused other a) answer → (answer ≡ answers.BadWords → IsRefused words Bad) → IsWell answer ⊎ (answer ≡ answers.Memory)
+    pub complete : (answer : Answer) → HasToldCause (λ a. (other : Request) × IsAsked words other × Caused other a) answer → (answer ≡ answers.BadWords → IsRefused words Bad) → IsWell answer ⊎ (answer ≡ answers.Memory)
     complete answers.Ok told bad = inl tt
     complete answers.Memory told bad = inr refl
     complete answers.BadWords told bad = absurd (asked_law words r (has_hashes r free) asked (bad refl))

@@ -15,11 +15,11 @@ use Rattle.requests.specs.declared.Request.{Request}
 use Rattle.requests.specs.declared.Request.TheVariants.{Init, Run, Recover, Status, Audit, Gen, Show}
 use Rattle.sentinel.specs.declared.file.VerdictFile.{VerdictFile}
 use Rattle.rack_laws.specs.Files.{HoldsFile, HoldsVerdicts, HoldClients}
-use Rattle.rack_laws.specs.Ready.{IsReady, NoneRises}
+use Rattle.rack_laws.specs.Ready.{IsRackReady, NoneRises}
 use Rattle.mem_devices.specs.Sinks.{misses_at}
 use Rattle.command_answers.specs.Causes.{IsWell}
 use Rattle.commands.specs.Complete.{IsUnhindered}
-use Rattle.commands.specs.InMemory.{IsFree}
+use Rattle.commands.specs.InMemory.{IsUnhinderedWhereSteady}
 
 module _ {D : Type 0} (files : Text → Option (List ℕ)) (files_before files_now : Text → ℕ) (device : Ghosts D) (held : ℕ → Option D) (before now : ℕ → ℕ)
     (files_steady : (name : Text) (bytes : List ℕ) → files name ≡ Some bytes → Rose (files_before name) (files_now name) → ⊥) (nodes_steady : (n : ℕ) → n < 80 → Rose (before n) (now n) → ⊥) where
@@ -41,7 +41,7 @@ module _ {D : Type 0} (files : Text → Option (List ℕ)) (files_before files_n
   steady : (K : Shape) → K.shards ≤ 64 → K.coordinators ≤ 16 → NoneRises K before now
   steady K shards coordinators n low = nodes_steady n (omega (arith, low, shards, coordinators))
 
-  ready : (sound : FullTx → Bool) (handed : List (List FullTx)) → IsReady device held (λ _. 0) (λ _. 0) sound handed → IsReady device held before now sound handed
+  ready : (sound : FullTx → Bool) (handed : List (List FullTx)) → IsRackReady device held (λ _. 0) (λ _. 0) sound handed → IsRackReady device held before now sound handed
   ready sound handed is = record {
     shape = is.shape;
     mint = is.mint;
@@ -52,7 +52,7 @@ module _ {D : Type 0} (files : Text → Option (List ℕ)) (files_before files_n
     steady = steady is.shape is.shows.limits.shards is.shows.limits.coordinators;
   }
 
-  pub unhindered : (words : List Text) (r : Request) → IsAsked words r → IsFree files device held r → IsUnhindered files files_before files_now device held before now r
+  pub unhindered : (words : List Text) (r : Request) → IsAsked words r → IsUnhinderedWhereSteady files device held r → IsUnhindered files files_before files_now device held before now r
   unhindered words (Init shape mint) asked free =
       let shaped = asked.1.1 in
       record {

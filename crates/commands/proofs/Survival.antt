@@ -25,9 +25,9 @@ use Rattle.record_log.specs.Held.{OpensTo}
 use Rattle.rack_ledgers.proofs.Fronts.{has_first, whole_fronts}
 use Rattle.rack_ledgers.proofs.Once.{opens_once_law}
 use Rattle.rack_ledgers.specs.Racked.{OfTold, AreBack, AreUnchanged}
-use Rattle.rack_laws.specs.Shown.{AreLeft, HoldsEach, OpenTo, Shows, node_count}
+use Rattle.rack_laws.specs.Shown.{AreImagesLeft, HoldsEach, OpenTo, Shows, node_count}
 use Rattle.rack_runs.specs.Runs.{IsGrown, SurvivesCrashes}
-use Rattle.commands.specs.Left.{IsOfNoRack, Leaves}
+use Rattle.commands.specs.Left.{IsOfNoRack, RequestLeaves}
 use Rattle.commands.specs.Outcomes.{Did}
 use Rattle.commands.specs.Spared.{AreBadOr}
 use Rattle.commands.specs.Survival.{GrewFrom, GrowsWhatever, IsKeptWhatever, Survives}
@@ -107,7 +107,7 @@ module _ {D : Type 0} (device : Ghosts D) (reads : (d : D) (c : List ℕ) → de
   abbrev LeavesNoMore : Type 0
   LeavesNoMore = (n : ℕ) → n < node_count K → OfTold (before n) (λ was. OfTold (now n) (λ is. NoMore (device.images was) (device.images is)))
 
-  left_before : (contents : ℕ → List ℕ) → LeavesNoMore → AreLeft device now K contents → AreLeft device before K (chosen contents)
+  left_before : (contents : ℕ → List ℕ) → LeavesNoMore → AreImagesLeft device now K contents → AreImagesLeft device before K (chosen contents)
   left_before contents fewer left n inside d is = go (now n) refl
     where
       go : (o : Option D) → now n ≡ o → device.images d (pick o (bytes_of (before n)) (contents n))
@@ -117,7 +117,7 @@ module _ {D : Type 0} (device : Ghosts D) (reads : (d : D) (c : List ℕ) → de
   stays : LeavesNoMore → IsKeptWhatever device before K mint submissions → GrowsWhatever device before now K mint submissions E
   stays fewer whatever contents left = (k.0, opens, k.2, grew)
     where
-      old : AreLeft device before K (chosen contents)
+      old : AreImagesLeft device before K (chosen contents)
       old = left_before contents fewer left
 
       k : (X : ℕ → List Record) × OpenTo before K (chosen contents) X × KeptJournals K mint submissions X
@@ -210,7 +210,7 @@ module _ {D : Type 0} (device : Ghosts D) (reads : (d : D) (c : List ℕ) → de
     did_survive (Gen shape seed size) asked did = same did.0
     did_survive (Show text) asked did = same (spared (inr (Show text, asked, tt)))
 
-    left_survives : (r : Request) (answer : Answer) → IsAsked words r → Leaves files device before now disks_before disks_now r answer → Survived
+    left_survives : (r : Request) (answer : Answer) → IsAsked words r → RequestLeaves files device before now disks_before disks_now r answer → Survived
     left_survives (Init shape mint) answer asked (other, told, inl back) = returned back
     left_survives (Init shape mint) answer asked (other, told, inr (k, stopped)) = made_none shape other asked.1.1.coordinators.2.some stopped.was
     left_survives (Run verdicts clients options) answer asked (handed, read, known, told, inl back) = returned back
@@ -226,13 +226,13 @@ module _ {D : Type 0} (device : Ghosts D) (reads : (d : D) (c : List ℕ) → de
     left_survives (Gen shape seed size) answer asked left = same (spared (inr (Gen shape seed size, asked, tt)))
     left_survives (Show text) answer asked left = same (spared (inr (Show text, asked, tt)))
 
-    by_left : (answer : Answer) → ((n : ℕ) → now n ≡ before n) ⊎ ((r : Request) × IsAsked words r × Leaves files device before now disks_before disks_now r answer) → Survived
+    by_left : (answer : Answer) → ((n : ℕ) → now n ≡ before n) ⊎ ((r : Request) × IsAsked words r × RequestLeaves files device before now disks_before disks_now r answer) → Survived
     by_left answer (inl e) = same e
     by_left answer (inr left) = left_survives left.0 answer left.1 left.2
 
     -- whatever was answered
     pub survives : (answer : Answer) → (IsWell answer → (r : Request) × IsAsked words r × Did files device before now printed r)
-        → ((IsWell answer → ⊥) → ((n : ℕ) → now n ≡ before n) ⊎ ((r : Request) × IsAsked words r × Leaves files device before now disks_before disks_now r answer)) → Survived
+        → ((IsWell answer → ⊥) → ((n : ℕ) → now n ≡ before n) ⊎ ((r : Request) × IsAsked words r × RequestLeaves files device before now disks_before disks_now r answer)) → Survived
     survives answers.Ok did left = let d = did tt in did_survive d.0 d.1 d.2
     survives answers.WriteFault did left = let d = did tt in did_survive d.0 d.1 d.2
     survives answers.BadWords did left = by_left answers.BadWords (left (λ w. w))

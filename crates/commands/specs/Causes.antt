@@ -44,9 +44,9 @@ abbrev pub NamedRose : List Text → (Text → ℕ) → (Text → ℕ) → ℕ �
 NamedRose words before now place = (r : Request) × IsAsked words r × RequestRose r before now place
 
 -- doing what the words ask for: a bad file is one that they ask for; words that are refused, and a fault of reading or writing, have their cause
-abbrev pub IsAnswered : List Text → (Text → ℕ) → (Text → ℕ) → Type 0 → Answer → Type 0
-IsAnswered words before now written answers.BadWords = IsRefused words Bad
-IsAnswered words before now written (answers.BadInput file at kind) = (r : Request) × IsAsked words r × RequestPlace r file
-IsAnswered words before now written (answers.ReadFault file) = NamedRose words before now file
-IsAnswered words before now written answers.WriteFault = written
-IsAnswered words before now written other = Unit {0}
+abbrev pub IsAnswerToWords : List Text → (Text → ℕ) → (Text → ℕ) → Type 0 → Answer → Type 0
+IsAnswerToWords words before now written answers.BadWords = IsRefused words Bad
+IsAnswerToWords words before now written (answers.BadInput file at kind) = (r : Request) × IsAsked words r × RequestPlace r file
+IsAnswerToWords words before now written (answers.ReadFault file) = NamedRose words before now file
+IsAnswerToWords words before now written answers.WriteFault = written
+IsAnswerToWords words before now written other = Unit {0}

@@ -17,11 +17,11 @@ use Rattle.command_line.specs.Single.{names_of}
 use Rattle.input_files.specs.Contents.{mint_of_file}
 use Rattle.file_runs.specs.Runs.{joined}
 use Rattle.workload.specs.Generator.{mint_of}
-use Rattle.submission_laws.specs.Files.{all_of}
+use Rattle.submission_laws.specs.Files.{all_submissions}
 use Rattle.rack_laws.specs.Shown.{node_count}
 use Rattle.rack_laws.specs.Files.{HoldsFile, HoldsVerdicts, HoldClients}
 use Rattle.rack_laws.specs.Making.{CanMake}
-use Rattle.rack_laws.specs.Ready.{IsReady, ShowsKept, NoneRises, limit_at}
+use Rattle.rack_laws.specs.Ready.{IsRackReady, ShowsKept, NoneRises, limit_at}
 
 -- the file holds a mint of which a ledger can be made (`CanMake`), and no count of faults of its nodes rises
 pub record CanInit {D : Type 0} (files : Text → Option (List ℕ)) (files_before files_now : Text → ℕ) (device : Ghosts D) (held : ℕ → Option D) (before now : ℕ → ℕ) (shape : Shape) (name : Text) : Type 0 where
@@ -36,7 +36,7 @@ pub record CanRun {D : Type 0} (files : Text → Option (List ℕ)) (files_befor
   pub handed : List (List FullTx)
   pub knows : HoldsVerdicts files files_before files_now verdicts known
   pub holds : HoldClients files files_before files_now 0 clients handed
-  pub ready : IsReady device held before now (sound_by (told known)) handed
+  pub ready : IsRackReady device held before now (sound_by (told known)) handed
 
 -- the files hold a mint and transactions, no hashes of which clash; the disks show a kept ledger of this mint and these transactions, every lane of
 -- which is idle; each disk may hold the bytes that its journal takes; and no count of faults of its nodes rises
@@ -57,16 +57,16 @@ pub record CanAudit {D : Type 0} (files : Text → Option (List ℕ)) (files_bef
 abbrev pub none_sound : FullTx → Bool
 none_sound t = false
 
--- nothing hinders what is asked: of `init` `CanInit`; of `run` `CanRun`; of `recover` `IsReady` of no files; of `status` the same, and each hash
+-- nothing hinders what is asked: of `init` `CanInit`; of `run` `CanRun`; of `recover` `IsRackReady` of no files; of `status` the same, and each hash
 -- has its 32 bytes; of `audit` `CanAudit`; of `gen` that no hashes of its workload clash; of a text that is shown nothing more. So of `run`,
 -- `recover` and `status` the disks are `Ample`
 abbrev pub IsUnhindered : {D : Type 0} → (Text → Option (List ℕ)) → (Text → ℕ) → (Text → ℕ) → Ghosts D → (ℕ → Option D) → (ℕ → ℕ) → (ℕ → ℕ) → Request → Type 0
 IsUnhindered files files_before files_now device held before now (Init shape mint) = CanInit files files_before files_now device held before now shape mint.name.now
 IsUnhindered files files_before files_now device held before now (Run verdicts clients options) =
     CanRun files files_before files_now device held before now verdicts.name.now (names_of clients.items)
-IsUnhindered files files_before files_now device held before now Recover = IsReady device held before now none_sound []
-IsUnhindered files files_before files_now device held before now (Status hashes) = AreWhole hashes.items × IsReady device held before now none_sound []
+IsUnhindered files files_before files_now device held before now Recover = IsRackReady device held before now none_sound []
+IsUnhindered files files_before files_now device held before now (Status hashes) = AreWhole hashes.items × IsRackReady device held before now none_sound []
 IsUnhindered files files_before files_now device held before now (Audit mint clients) =
     CanAudit files files_before files_now device held before now mint.name.now (names_of clients.items)
-IsUnhindered files files_before files_now device held before now (Gen shape seed device.count) = Clean (mint_of seed device.count) (all_of seed device.count)
+IsUnhindered files files_before files_now device held before now (Gen shape seed device.count) = Clean (mint_of seed device.count) (all_submissions seed device.count)
 IsUnhindered files files_before files_now device held before now (Show text) = Unit {0}

@@ -14,7 +14,7 @@ use Rattle.sentinel.specs.declared.file.VerdictFile.{VerdictFile}
 use Rattle.input_files.specs.Contents.{mint_of_file}
 use Rattle.rack_ledgers.specs.Ledgers.{IsUnopened, IsUnopenedBy}
 use Rattle.rack_ledgers.specs.Caused.{IsUnresumed}
-use Rattle.rack_ledgers.specs.RefusalLaws.{AllTell, EachOpens, IsOfBytes}
+use Rattle.rack_ledgers.specs.RefusalLaws.{AllTell, EachOpens, IsAnswerOfBytes}
 use Rattle.ledger_runs.specs.Least.{IsLeastOpen}
 use Rattle.audit_command.specs.Audits.{IsUnsoundBy, WasAudited}
 use Rattle.rack_runs.specs.Endings.{EndsRun}
@@ -24,7 +24,7 @@ use Rattle.rack_runs.specs.Runs.{IsLaneFault, NonePrepared, NothingNext, PieceNe
 -- not caused
 abbrev pub IsOfDisks : Answer → Type 0
 IsOfDisks (answers.Unsound place kind) = Unit {0}
-IsOfDisks answer = IsOfBytes answer
+IsOfDisks answer = IsAnswerOfBytes answer
 
 -- what is told of the disks opens to the journals of a ledger, and where each of its nodes' disks is told, with its content, no such answer has this
 -- cause, whatever the counts of faults are

@@ -6,5 +6,5 @@ use Rattle.requests.specs.declared.Request.{Request}
 use Rattle.commands.specs.Complete.{IsUnhindered}
 
 -- nothing hinders what is asked where no count of faults rises, of a file or of a node: this says nothing of counts
-abbrev pub IsFree : {D : Type 0} → (Text → Option (List ℕ)) → Ghosts D → (ℕ → Option D) → Request → Type 0
-IsFree files device held r = IsUnhindered files (λ name. 0) (λ name. 0) device held (λ n. 0) (λ n. 0) r
+abbrev pub IsUnhinderedWhereSteady : {D : Type 0} → (Text → Option (List ℕ)) → Ghosts D → (ℕ → Option D) → Request → Type 0
+IsUnhinderedWhereSteady files device held r = IsUnhindered files (λ name. 0) (λ name. 0) device held (λ n. 0) (λ n. 0) r

@@ -15,13 +15,13 @@ use Rattle.run_command.specs.Outcomes.{RunLeaves}
 -- what is left by what was asked for and did not come through: by `init` of a mint that its file holds all disks as they were read, or first records at
 -- the nodes above the one at which their writing stopped; by `run` of transactions that its files hold, and by `recover`, all disks as they were read, or
 -- as a lane's fault leaves them; by `status` and `audit` all disks as they were read; of a workload and of a text that is shown nothing is said here
-abbrev pub Leaves : {D : Type 0} → (Text → Option (List ℕ)) → Ghosts D → (ℕ → Option D) → (ℕ → Option D) → (ℕ → ℕ) → (ℕ → ℕ) → Request → Answer → Type 0
-Leaves files device before now disks_before disks_now (Init shape mint) answer = InitLeaves files device before now disks_before disks_now shape mint answer
-Leaves files device before now disks_before disks_now (Run verdicts clients options) answer = RunLeaves files device before now disks_before disks_now verdicts clients.items answer
-Leaves files device before now disks_before disks_now Recover answer = TurnsLeave device before now disks_before disks_now NothingNext IsLeastOpen NonePrepared [] answer
-Leaves files device before now disks_before disks_now (Status hashes) answer = AreBack device disks_before disks_now before now
-Leaves files device before now disks_before disks_now (Audit mint clients) answer = AreBack device disks_before disks_now before now
-Leaves files device before now disks_before disks_now other answer = Unit {0}
+abbrev pub RequestLeaves : {D : Type 0} → (Text → Option (List ℕ)) → Ghosts D → (ℕ → Option D) → (ℕ → Option D) → (ℕ → ℕ) → (ℕ → ℕ) → Request → Answer → Type 0
+RequestLeaves files device before now disks_before disks_now (Init shape mint) answer = InitLeaves files device before now disks_before disks_now shape mint answer
+RequestLeaves files device before now disks_before disks_now (Run verdicts clients options) answer = RunLeaves files device before now disks_before disks_now verdicts clients.items answer
+RequestLeaves files device before now disks_before disks_now Recover answer = TurnsLeave device before now disks_before disks_now NothingNext IsLeastOpen NonePrepared [] answer
+RequestLeaves files device before now disks_before disks_now (Status hashes) answer = AreBack device disks_before disks_now before now
+RequestLeaves files device before now disks_before disks_now (Audit mint clients) answer = AreBack device disks_before disks_now before now
+RequestLeaves files device before now disks_before disks_now other answer = Unit {0}
 
 -- what is asked is about no rack: a workload in memory, or a text that is shown
 abbrev pub IsOfNoRack : Request → Type 0

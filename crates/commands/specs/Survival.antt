@@ -14,12 +14,12 @@ use Rattle.input_files.specs.Contents.{AreRead}
 use Rattle.file_runs.specs.Runs.{joined}
 use Rattle.record_log.specs.Held.{OpensTo}
 use Rattle.rack_ledgers.specs.Racked.{OfTold}
-use Rattle.rack_laws.specs.Shown.{AreLeft, OfShown, OpenTo, node_count}
+use Rattle.rack_laws.specs.Shown.{AreImagesLeft, OfShown, OpenTo, node_count}
 
 -- whatever a crash leaves of the disks opens to kept journals
 abbrev pub IsKeptWhatever : {D : Type 0} → Ghosts D → (ℕ → Option D) → Shape → List Output → List FullTx → Type 0
 IsKeptWhatever device held K mint submissions =
-    (contents : ℕ → List ℕ) → AreLeft device held K contents → (X : ℕ → List Record) × OpenTo held K contents X × KeptJournals K mint submissions X
+    (contents : ℕ → List ℕ) → AreImagesLeft device held K contents → (X : ℕ → List Record) × OpenTo held K contents X × KeptJournals K mint submissions X
 
 -- the journal has grown at its end from one that a crash might have left of the disk; where nothing was unsynced there, from the one that it told, E
 pub record GrewFrom {D : Type 0} (device : Ghosts D) (d : D) (E J : List Record) : Type 0 where
@@ -33,7 +33,7 @@ pub record GrewFrom {D : Type 0} (device : Ghosts D) (d : D) (E J : List Record)
 -- whatever a crash leaves of the disks now opens to kept journals, each of which has so grown
 abbrev pub GrowsWhatever : {D : Type 0} → Ghosts D → (ℕ → Option D) → (ℕ → Option D) → Shape → List Output → List FullTx → (ℕ → List Record) → Type 0
 GrowsWhatever device before now K mint submissions E =
-    (contents : ℕ → List ℕ) → AreLeft device now K contents
+    (contents : ℕ → List ℕ) → AreImagesLeft device now K contents
     → (X : ℕ → List Record) × OpenTo now K contents X × KeptJournals K mint submissions X × ((n : ℕ) → n < node_count K → OfTold (before n) (λ d. GrewFrom device d (E n) (X n)))
 
 -- the transactions of all client files that are to be run

@@ -5,7 +5,7 @@ ghost use Rattle.command_answers.specs.Texts.{IsPrinted};
 ghost use Rattle.command_line.specs.Asked.{IsAsked};
 ghost use Rattle.command_line.specs.Words.{texts};
 ghost use Rattle.requests.specs.declared.Request.{Request as Asked};
-ghost use Rattle.commands.specs.InMemory.{IsFree};
+ghost use Rattle.commands.specs.InMemory.{IsUnhinderedWhereSteady};
 ghost use Rattle.commands.specs.Outcomes.{Did};
 ghost use Rattle.mem_devices.specs.Named.{file_of};
 ghost use Rattle.mem_devices.specs.PlainRacks.{AllIn, disk_at, plain};
@@ -23,7 +23,7 @@ use std::thread::Threads;
 /// full. So none of their counts of faults rises, but the output's at its end.
 ///
 /// The same over files, nodes and an output in memory, of which none fails but an output that is full (`MemInbox`, `PlainRack`, `PlainSink`): where
-/// nothing hinders what is asked, with no premise on counts of faults (`IsFree`), it ends with Ok or Memory, or with WriteFault, where the output
+/// nothing hinders what is asked, with no premise on counts of faults (`IsUnhinderedWhereSteady`), it ends with Ok or Memory, or with WriteFault, where the output
 /// is full; what it does is `did` (`complete`, `did`, `back`). Tested in `ledger_rows` (`run.rows`), used by no other program.
 pub fn process_in_memory<const N: usize, W: Wait + Threads + Sync, G: Gate + Sync>(
     rt: &W,
@@ -42,7 +42,7 @@ pub fn process_in_memory<const N: usize, W: Wait + Threads + Sync, G: Gate + Syn
         (IsPrinted (Some out.old.bytes.items) (Some out.new.bytes.items) result.status) r }
 
     // Where nothing hinders what is asked, it was done, unless memory ran out, and its lines were written, unless the output is full.
-    ensures complete { (r : Asked) → IsAsked (texts words.now) r → IsFree (λ name. file_of inbox.old.files.items name) plain (disk_at rack) r
+    ensures complete { (r : Asked) → IsAsked (texts words.now) r → IsUnhinderedWhereSteady (λ name. file_of inbox.old.files.items name) plain (disk_at rack) r
         → (result.status ≡ Answer.Ok) ⊎ ((result.status ≡ Answer.Memory) ⊎ ((result.status ≡ Answer.WriteFault) × (N ≤ length out.new.bytes.items))) }
 {
     process(rt, alloc, words, inbox, rack, out, gate)

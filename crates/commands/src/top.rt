@@ -6,14 +6,14 @@ ghost use Rattle.command_line.specs.Asked.{IsRefused};
 ghost use Rattle.command_line.specs.Words.{texts};
 ghost use Rattle.command_line.specs.Asked.{IsAsked};
 ghost use Rattle.requests.specs.declared.Request.{Request as Asked};
-ghost use Rattle.commands.specs.Causes.{IsAnswered, NamedRose, RequestPlace, RequestRose, AskedName, OneNamed, RequestNames};
-ghost use Rattle.command_answers.specs.Causes.{IsDone, IsTold, IsWell, OnePlace};
+ghost use Rattle.commands.specs.Causes.{IsAnswerToWords, NamedRose, RequestPlace, RequestRose, AskedName, OneNamed, RequestNames};
+ghost use Rattle.command_answers.specs.Causes.{IsAnswerToRequest, HasToldCause, IsWell, OnePlace};
 ghost use Rattle.commands.specs.Complete.{IsUnhindered};
 ghost use Rattle.commands.specs.Exact.{IsEndedLater, IsExact};
 ghost use Rattle.commands.specs.Sizes.{IsSized};
 ghost use Rattle.commands.specs.Outcomes.{Did, Why};
 ghost use Rattle.command_answers.specs.Left.{IsBeforeDisks};
-ghost use Rattle.commands.specs.Left.{IsOfNoFile, IsOfNoRack, Leaves};
+ghost use Rattle.commands.specs.Left.{IsOfNoFile, IsOfNoRack, RequestLeaves};
 ghost use Rattle.commands.specs.Spared.{AreBadOr};
 ghost use Rattle.commands.specs.Survival.{StaysKeptWhatever};
 ghost use Rattle.line_text.specs.Lines.{Text};
@@ -53,7 +53,7 @@ fn see_images<D: Disk>()
 
 // Prints a text that the words ask for.
 fn show<O: Sink>(out: &mut O, text: &str) -> Answer
-    ensures cause { IsDone (λ file. ⊥) (λ file. ⊥) (Rose (O.count out.old) (O.count out.new)) result }
+    ensures cause { IsAnswerToRequest (λ file. ⊥) (λ file. ⊥) (Rose (O.count out.old) (O.count out.new)) result }
     ensures shown { IsWell result }
     ensures prints { IsPrinted (O.taken out.old) (O.taken out.new) result text.now }
     ensures silent { IsSilent (O.taken out.old) (O.taken out.new) result }
@@ -125,14 +125,14 @@ where
     requires all { (n : ℕ) → R.can_take rack.old n }
     requires sized { IsSized request.now }
     ensures back { (n : ℕ) → R.can_take rack.new n }
-    ensures cause { IsDone (RequestPlace request.now) (RequestRose request.now (I.count inbox.old) (I.count inbox.new)) (Rose (O.count out.old) (O.count out.new)) result }
+    ensures cause { IsAnswerToRequest (RequestPlace request.now) (RequestRose request.now (I.count inbox.old) (I.count inbox.new)) (Rose (O.count out.old) (O.count out.new)) result }
     ensures did { IsWell result → Did (I.file inbox.old) R.Disk.Disk (R.held rack.old) (R.held rack.new) (IsPrinted (O.taken out.old) (O.taken out.new) result) request.now }
-    ensures why { IsTold (Why (I.file inbox.old) (I.count inbox.old) (I.count inbox.new) R.Disk.Disk (R.held rack.old) (R.held rack.new) (R.count rack.old) (R.count rack.new) request.now) result }
+    ensures why { HasToldCause (Why (I.file inbox.old) (I.count inbox.old) (I.count inbox.new) R.Disk.Disk (R.held rack.old) (R.held rack.new) (R.count rack.old) (R.count rack.new) request.now) result }
     ensures untouched { IsBeforeDisks result → rack.new ≡ rack.old }
     ensures spared { IsOfNoRack request.now → rack.new ≡ rack.old }
     ensures unread { IsOfNoFile request.now → inbox.new ≡ inbox.old }
     ensures files { (name : Text) → I.file inbox.new name ≡ I.file inbox.old name }
-    ensures left { (IsWell result → ⊥) → (rack.new ≡ rack.old) ⊎ Leaves (I.file inbox.old) R.Disk.Disk (R.held rack.old) (R.held rack.new) (R.count rack.old) (R.count rack.new) request.now result }
+    ensures left { (IsWell result → ⊥) → (rack.new ≡ rack.old) ⊎ RequestLeaves (I.file inbox.old) R.Disk.Disk (R.held rack.old) (R.held rack.new) (R.count rack.old) (R.count rack.new) request.now result }
     ensures silent { IsSilent (O.taken out.old) (O.taken out.new) result }
     ensures written_later { O.count out.old ≤ O.count out.new }
 {
@@ -169,15 +169,15 @@ where
     R::Disk: Send,
     requires { (n : ℕ) → R.can_take rack.old n }
     ensures back { (n : ℕ) → R.can_take rack.new n }
-    ensures cause { IsAnswered (texts words.entry.now) (I.count inbox.old) (I.count inbox.new) (Rose (O.count out.old) (O.count out.new)) result.status }
+    ensures cause { IsAnswerToWords (texts words.entry.now) (I.count inbox.old) (I.count inbox.new) (Rose (O.count out.old) (O.count out.new)) result.status }
     ensures told { IsRefused (texts words.entry.now) WordsFault.Bad → (result.status ≡ Answer.BadWords) ⊎ (result.status ≡ Answer.Memory) }
     ensures did { IsWell result.status → (r : Asked) × IsAsked (texts words.entry.now) r × Did (I.file inbox.old) R.Disk.Disk (R.held rack.old) (R.held rack.new) (IsPrinted (O.taken out.old) (O.taken out.new) result.status) r }
-    ensures why { IsTold (λ a. (r : Asked) × IsAsked (texts words.entry.now) r × Why (I.file inbox.old) (I.count inbox.old) (I.count inbox.new) R.Disk.Disk (R.held rack.old) (R.held rack.new) (R.count rack.old) (R.count rack.new) r a) result.status }
+    ensures why { HasToldCause (λ a. (r : Asked) × IsAsked (texts words.entry.now) r × Why (I.file inbox.old) (I.count inbox.old) (I.count inbox.new) R.Disk.Disk (R.held rack.old) (R.held rack.new) (R.count rack.old) (R.count rack.new) r a) result.status }
     ensures untouched { IsBeforeDisks result.status → rack.new ≡ rack.old }
     ensures spared { AreBadOr IsOfNoRack (texts words.entry.now) → rack.new ≡ rack.old }
     ensures unread { AreBadOr IsOfNoFile (texts words.entry.now) → inbox.new ≡ inbox.old }
     ensures files { (name : Text) → I.file inbox.new name ≡ I.file inbox.old name }
-    ensures left { (IsWell result.status → ⊥) → (rack.new ≡ rack.old) ⊎ ((r : Asked) × IsAsked (texts words.entry.now) r × Leaves (I.file inbox.old) R.Disk.Disk (R.held rack.old) (R.held rack.new) (R.count rack.old) (R.count rack.new) r result.status) }
+    ensures left { (IsWell result.status → ⊥) → (rack.new ≡ rack.old) ⊎ ((r : Asked) × IsAsked (texts words.entry.now) r × RequestLeaves (I.file inbox.old) R.Disk.Disk (R.held rack.old) (R.held rack.new) (R.count rack.old) (R.count rack.new) r result.status) }
     ensures named { Names (AskedName (texts words.entry.now)) result.status result.name.now }
     ensures silent { IsSilent (O.taken out.old) (O.taken out.new) result.status }
     ensures written_later { O.count out.old ≤ O.count out.new }
@@ -284,7 +284,7 @@ where
     // `gen` ends with Ok, WriteFault or Memory; or its audit is Unsound with just this place and kind, and then two outputs of the workload share a
     // hash or two transactions an id. No other answer comes: the workload fits, its nodes in memory have room and stamps for all that it writes,
     // none of them is at fault or in use, and no record is without its cause.
-    ensures why { IsTold (λ a. (r : Asked) × IsAsked (texts words.now) r × Why (I.file inbox.old) (I.count inbox.old) (I.count inbox.new) R.Disk.Disk (R.held rack) (R.held result.rack) (R.count rack) (R.count result.rack) r a) result.status }
+    ensures why { HasToldCause (λ a. (r : Asked) × IsAsked (texts words.now) r × Why (I.file inbox.old) (I.count inbox.old) (I.count inbox.new) R.Disk.Disk (R.held rack) (R.held result.rack) (R.count rack) (R.count result.rack) r a) result.status }
 
     // At BadWords, BadInput, ReadFault and TooMuch the rack is as it was: no disk was taken. Tested in `ledger_rows` (`left.rows`,
     // `bad_words.rows`).
@@ -309,7 +309,7 @@ where
     // is in use); or the writing of first records stopped at a node that has no room or whose disk failed, or where memory ran out: the disks of
     // the nodes below it are unchanged, those above it hold their first records, and a crash leaves of its own no first record, or what it might
     // have left before, or, where the disk failed, the new one alone. Tested in `left.rows`.
-    ensures left { (IsWell result.status → ⊥) → (result.rack ≡ rack) ⊎ ((r : Asked) × IsAsked (texts words.now) r × Leaves (I.file inbox.old) R.Disk.Disk (R.held rack) (R.held result.rack) (R.count rack) (R.count result.rack) r result.status) }
+    ensures left { (IsWell result.status → ⊥) → (result.rack ≡ rack) ⊎ ((r : Asked) × IsAsked (texts words.now) r × RequestLeaves (I.file inbox.old) R.Disk.Disk (R.held rack) (R.held result.rack) (R.count rack) (R.count result.rack) r result.status) }
 
     // Whatever was answered: of a kept ledger that the disks showed, and that was kept whatever a crash before the call left of them, whatever a
     // crash behind it leaves opens to kept journals, with the transactions of the files that were to be run besides or without. Each of these has

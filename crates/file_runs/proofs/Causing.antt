@@ -11,7 +11,7 @@ use Rattle.submissions.specs.Checks.{VerdictsOf}
 use Rattle.lane_driver.specs.declared.fault.LaneFault.{LaneFault}
 use Rattle.ledger_runs.specs.Waving.{HaveSent, FirstFaultIs}
 use Rattle.ledger_runs.specs.Pieces.{HasPreparedAll, HasBegun, IsNextPiece, HaveBegun, HavePreparedAll}
-use Rattle.ledger_runs.specs.Faults.{IsRunCause, HaveCauses, Rests, AllRest}
+use Rattle.ledger_runs.specs.Faults.{IsRunCause, HaveCauses, LaneRests, LanesRest}
 use Rattle.ledger_runs.specs.Least.{RunTheirs}
 use Rattle.ledger_runs.specs.Lanes.{LaneOf}
 use Rattle.ledger_runs.proofs.WaveKeeping.{at_place}
@@ -38,13 +38,13 @@ file_cause K verdicts file lanes after I J failed holds count are keeps causes e
 
 -- behind a wave each lane rests
 pub wave_rests : (K : Shape) (after : List LaneOf) (I J : ℕ → List Record) (failed : ℕ → Type 0) (holds : ℕ → ℕ → Type 0)
-    → length after ≡ K.coordinators * K.lanes → HaveCauses K I J failed holds after → RunTheirs K I J after → AllRest K J failed
+    → length after ≡ K.coordinators * K.lanes → HaveCauses K I J failed holds after → RunTheirs K I J after → LanesRest K J failed
 wave_rests K after I J failed holds count causes theirs lane inside = go there.0 there.1 there.0.fault refl
   where
     there : (x : LaneOf) × (slice_get after lane ≡ Some x)
     there = at_place after lane (omega (arith, inside, count))
 
-    go : (x : LaneOf) → slice_get after lane ≡ Some x → (o : Option LaneFault) → x.fault ≡ o → Rests K lane J failed
+    go : (x : LaneOf) → slice_get after lane ≡ Some x → (o : Option LaneFault) → x.fault ≡ o → LaneRests K lane J failed
     go x at None none = inl (inl (theirs lane x at none).1)
     go x at (Some e) is = rests_by K lane (IsNextPiece K lane x.txs I J) I J failed holds e (causes lane x at e is)
 

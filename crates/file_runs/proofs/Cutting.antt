@@ -10,12 +10,12 @@ use Rattle.ledger_laws.proofs.Cuts.{end_self}
 use Rattle.submissions.specs.Checks.{VerdictsOf, TellsSound}
 use Rattle.ledger_runs.specs.Turning.{OfKept}
 use Rattle.file_runs.specs.Runs.{joined, HaveBegunFile}
-use Rattle.file_runs.specs.Endings.{AreCut, HasBegunFirst}
+use Rattle.file_runs.specs.Endings.{AreRunOrCut, HasBegunFirst}
 use Rattle.file_runs.proofs.Joining.{FilesSo, files_begin, so_far}
 use Rattle.file_runs.proofs.Pieces.{file_unbegun}
 
 abbrev pub CutFiles : Shape → VerdictsOf → List (List FullTx) → (ℕ → List Record) → (ℕ → List Record) → Type 0
-CutFiles K verdicts files I X = OfKept K I (λ mint _. (sound : FullTx → Bool) (E : ℕ → List Record) → TellsSound verdicts sound → IsResumed K E I → AreCut K sound files mint E X)
+CutFiles K verdicts files I X = OfKept K I (λ mint _. (sound : FullTx → Bool) (E : ℕ → List Record) → TellsSound verdicts sound → IsResumed K E I → AreRunOrCut K sound files mint E X)
 
 -- behind files that have been run the next one has been begun
 pub cut_behind : (K H : Shape) (verdicts : VerdictsOf) (files : List (List FullTx)) (i : ℕ) (file : List FullTx) (I J X : ℕ → List Record) → H ≡ K → i < length files → file ≡ get_or files i file

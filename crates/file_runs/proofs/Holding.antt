@@ -4,7 +4,7 @@ use Rattle.outside.specs.declared.disk.Disk.{Ghosts}
 use Rattle.ledger_runs.specs.Lanes.{LaneOf}
 use Rattle.file_runs.specs.Ledgers.{LedgerOf}
 use Rattle.file_runs.specs.Waving.{IsWave}
-use Rattle.file_runs.specs.Feeding.{CanWave, Stands, IsHeld}
+use Rattle.file_runs.specs.Feeding.{CanWave, WaveStands, IsHeld}
 
 module _ {D : Type 0} (device : Ghosts D) (before : LedgerOf D) (lanes : List LaneOf) where
   the_one : (o : Option (LedgerOf D)) (a b : LedgerOf D) → o ≡ Some a → o ≡ Some b → a ≡ b
@@ -14,7 +14,7 @@ module _ {D : Type 0} (device : Ghosts D) (before : LedgerOf D) (lanes : List La
   pub ready : (o : Option (LedgerOf D)) (works : List LaneOf) (has_run : Bool) (l : LedgerOf D) → IsHeld device before lanes o works has_run → has_run ≡ false → o ≡ Some l
       → (l ≡ before) × (works ≡ lanes) × CanWave before lanes
   ready o works has_run l held isnt there =
-      let s : Stands device before lanes held.now works false = subst (λ b. Stands device before lanes held.now works b) isnt held.stands in
+      let s : WaveStands device before lanes held.now works false = subst (λ b. WaveStands device before lanes held.now works b) isnt held.stands in
       (the_one o l held.now there held.there ∙ s.0, s.1, s.2)
 
   -- so a wave may run on them
@@ -40,4 +40,4 @@ module _ {D : Type 0} (device : Ghosts D) (before : LedgerOf D) (lanes : List La
       → IsWave device before l lanes works
   ran o works has_run l held is there =
       subst (λ k. IsWave device before k lanes works) (sym (the_one o l held.now there held.there))
-      (subst (λ b. Stands device before lanes held.now works b) is held.stands)
+      (subst (λ b. WaveStands device before lanes held.now works b) is held.stands)

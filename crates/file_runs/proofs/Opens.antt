@@ -18,7 +18,7 @@ use Rattle.ledger_runs.specs.Turning.{IsLaneOf}
 use Rattle.ledger_runs.specs.Faults.{GrowBy}
 use Rattle.ledger_runs.specs.Planning.{IsFound, KeepsOpens}
 use Rattle.ledger_runs.proofs.Others.{own_same}
-use Rattle.file_runs.specs.Ledgers.{IsLedger, journals_of}
+use Rattle.file_runs.specs.Ledgers.{IsLedger, node_journals}
 use Rattle.file_runs.proofs.Steps.{home_inside, open_at}
 use Rattle.file_runs.proofs.Turns.{told_there, none_open}
 
@@ -53,7 +53,7 @@ module _ {D : Type 0} (device : Ghosts D) (h : Header) (lane : ℕ) (logs shards
   opens l = open_lane (sight_at sight logs (home_of K l)).seen l
 
   abbrev I : ℕ → List Record
-  I = journals_of h.shape logs shards
+  I = node_journals h.shape logs shards
 
   sizes : (found : Option OpenLane) → opens lane ≡ found → IfSome found (λ o. HasSize K o.txs)
   sizes None told = tt
@@ -72,10 +72,10 @@ module _ {D : Type 0} (device : Ghosts D) (h : Header) (lane : ℕ) (logs shards
       }
 
   -- another lane's is what it was behind a turn of this one
-  pub opens_keep : (logs' : List (NodeOf D)) (shards' : List (NodeOf D)) → GrowBy lane I (journals_of h.shape logs' shards') → KeepsOpens K lane opens (λ l. open_lane (sight_at sight logs' (home_of K l)).seen l)
+  pub opens_keep : (logs' : List (NodeOf D)) (shards' : List (NodeOf D)) → GrowBy lane I (node_journals h.shape logs' shards') → KeepsOpens K lane opens (λ l. open_lane (sight_at sight logs' (home_of K l)).seen l)
   opens_keep logs' shards' grown other inside apart =
       let home : home_of K other < K.coordinators = home_inside other K.coordinators K.lanes inside in
       same_open other (sight_at sight logs (home_of K other)).seen (sight_at sight logs' (home_of K other)).seen
       (ap (λ L. own other L) (sym (seen_log K (sight_at sight logs') (sight_at sight shards') (home_of K other) home))
-      ∙ own_same other lane (λ e. apart (sym e)) I (journals_of h.shape logs' shards') grown (home_of K other)
+      ∙ own_same other lane (λ e. apart (sym e)) I (node_journals h.shape logs' shards') grown (home_of K other)
       ∙ ap (λ L. own other L) (seen_log K (sight_at sight logs) (sight_at sight shards) (home_of K other) home))

@@ -8,7 +8,7 @@ use Rattle.cbdc_model.specs.Coins.{FullTx}
 use Rattle.cbdc_model.specs.Waves.{IsCut, prepared, sent_to}
 use Rattle.submissions.specs.Checks.{VerdictsOf}
 use Rattle.ledger_runs.specs.Turning.{IsLaneOf}
-use Rattle.ledger_runs.specs.Pieces.{HasPrepared, IsNextOf, IsNextPiece}
+use Rattle.ledger_runs.specs.Pieces.{HasPreparedPieces, IsNextOf, IsNextPiece}
 use Rattle.ledger_runs.proofs.Preparing.{cut_of}
 use Rattle.file_runs.specs.Runs.{HavePreparedFile, HavePreparedFiles, IsSentPiece, AreFilesPieces, IsFilesPiece, HaveBegunFile, HaveBegunFiles}
 use Rattle.file_runs.proofs.Joining.{so_far}
@@ -22,7 +22,7 @@ some_cut n xs pieces [] piece more cut is = some_batch n xs piece more (subst (�
 some_cut n xs pieces (first ∷ done) piece more cut is = some_batch n xs first (done ++ piece ∷ more) (subst (λ ps. IsCut n xs ps) is cut)
 
 -- one behind the other, the newest first
-both_prepared : (K : Shape) (lane : ℕ) (one two : List (List Compact)) (I J L : ℕ → List Record) → HasPrepared K lane one I J → HasPrepared K lane two J L → HasPrepared K lane (one ++ two) I L
+both_prepared : (K : Shape) (lane : ℕ) (one two : List (List Compact)) (I J L : ℕ → List Record) → HasPreparedPieces K lane one I J → HasPreparedPieces K lane two J L → HasPreparedPieces K lane (one ++ two) I L
 both_prepared K lane one two I J L a b =
     let P = prepared lane (I (home_of K lane)) in
     b ∙ ap (λ ps. reverse two ++ ps) a ∙ sym (append_assoc (reverse two) (reverse one) P) ∙ ap (λ ps. ps ++ P) (sym (reverse-append one two))
@@ -67,7 +67,7 @@ pub files_piece : (K : Shape) (verdicts : VerdictsOf) (files : List (List FullTx
     → HavePreparedFiles K verdicts (take i files) I J → IsLaneOf K lane → IsSentPiece K verdicts file J L lane txs → IsFilesPiece K verdicts files I L lane txs
 files_piece K verdicts files i file I J L lane txs low is so inside piece sound tells = go (piece sound tells)
   where
-    was : (pieces : List (List Compact)) × AreFilesPieces K sound lane (take i files) pieces × HasPrepared K lane pieces I J
+    was : (pieces : List (List Compact)) × AreFilesPieces K sound lane (take i files) pieces × HasPreparedPieces K lane pieces I J
     was = so lane inside sound tells
 
     all : (take i files ++ file ∷ []) ++ drop (i + 1) files ≡ files

@@ -11,7 +11,7 @@ use Rattle.submissions.proofs.Telling.{is_sound_law, one_test_law}
 use Rattle.submissions.specs.Checks.{VerdictsOf, TellsSound, IsSentFrom}
 use Rattle.submissions.proofs.Placing.{snoc_get}
 use Rattle.ledger_runs.specs.Lanes.{LaneOf}
-use Rattle.lane_sources.specs.Sources.{lanes_of, all_of}
+use Rattle.lane_sources.specs.Sources.{count_of_lanes, all_for_lane}
 use Rattle.file_runs.specs.Runs.{AreLanesOf}
 
 module _ (K : Shape) (verdicts : VerdictsOf) (file : List FullTx) where
@@ -35,11 +35,11 @@ module _ (K : Shape) (verdicts : VerdictsOf) (file : List FullTx) where
 
   module _ (lanes : List LaneOf) (are : AreLanesOf K verdicts file lanes) where
     pub sent_from : (lane : ℕ) (x : LaneOf) → slice_get lanes lane ≡ Some x → All (IsSentFrom verdicts file) x.txs
-    sent_from lane x there = subst (λ xs. All (IsSentFrom verdicts file) xs) (sym (are.each lane x there)) (from_some (lanes_of K) lane 0 file (λ t c. c))
+    sent_from lane x there = subst (λ xs. All (IsSentFrom verdicts file) xs) (sym (are.each lane x there)) (from_some (count_of_lanes K) lane 0 file (λ t c. c))
 
     -- by whatever test
     pub sent_is : (sound : FullTx → Bool) → TellsSound verdicts sound → (lane : ℕ) (x : LaneOf) → slice_get lanes lane ≡ Some x → x.txs ≡ sent_to K sound file lane
-    sent_is sound tells lane x there = are.each lane x there ∙ subst (λ f. all_of K verdicts file lane ≡ sent_to K f file lane) (one_test_law verdicts (sound_by verdicts) sound (is_sound_law verdicts) tells) refl
+    sent_is sound tells lane x there = are.each lane x there ∙ subst (λ f. all_for_lane K verdicts file lane ≡ sent_to K f file lane) (one_test_law verdicts (sound_by verdicts) sound (is_sound_law verdicts) tells) refl
 
 pub are_of : (H K : Shape) (verdicts : VerdictsOf) (file : List FullTx) (lanes : List LaneOf) → H ≡ K → AreLanesOf H verdicts file lanes → AreLanesOf K verdicts file lanes
 are_of H K verdicts file lanes same are = subst (λ k. AreLanesOf k verdicts file lanes) same are
@@ -48,7 +48,7 @@ are_of H K verdicts file lanes same are = subst (λ k. AreLanesOf k verdicts fil
 
 -- it has its transactions, and has done nothing
 pub record IsBegun (K : Shape) (verdicts : VerdictsOf) (file : List FullTx) (lane : ℕ) (x : LaneOf) : Type 0 where
-  pub txs : x.txs ≡ all_of K verdicts file lane
+  pub txs : x.txs ≡ all_for_lane K verdicts file lane
   pub fault : x.fault ≡ None
   pub fresh : (x.decided.items ≡ []) × (x.batches ≡ 0)
 
@@ -58,7 +58,7 @@ AreBegun K verdicts file lanes = (lane : ℕ) (x : LaneOf) → slice_get lanes l
 pub none_yet : (K : Shape) (verdicts : VerdictsOf) (file : List FullTx) → AreBegun K verdicts file []
 none_yet K verdicts file lane x there = absurd (let z : None ≡ Some x = there in cc)
 
-pub one_more : (K : Shape) (verdicts : VerdictsOf) (file : List FullTx) (lanes : List LaneOf) (y : LaneOf) → AreBegun K verdicts file lanes → y.txs ≡ all_of K verdicts file (length lanes) → y.fault ≡ None
+pub one_more : (K : Shape) (verdicts : VerdictsOf) (file : List FullTx) (lanes : List LaneOf) (y : LaneOf) → AreBegun K verdicts file lanes → y.txs ≡ all_for_lane K verdicts file (length lanes) → y.fault ≡ None
     → (y.decided.items ≡ []) × (y.batches ≡ 0) → AreBegun K verdicts file (lanes ++ y ∷ [])
 one_more K verdicts file lanes y so txs fault fresh lane x there = elim (snoc_get lanes y x lane there) [
   | inl h ↦ so lane x h

@@ -24,7 +24,7 @@ use Rattle.recovery.specs.Open.{IsOpen}
 use Rattle.thread_laws.specs.Nodes.{AreNodes, AreNext}
 use Rattle.thread_laws.proofs.OpenThere.{told_is_open}
 use Rattle.ledger_runs.specs.Turning.{IsLaneOf, KeepsLanes}
-use Rattle.file_runs.specs.Ledgers.{IsLedger, FliesNext, journals_of, faults_of, AreStored}
+use Rattle.file_runs.specs.Ledgers.{IsLedger, FliesNext, node_journals, faults_of, AreStored}
 use Rattle.file_runs.specs.Steps.{IsStep}
 
 pub home_inside : (lane coordinators lanes : ℕ) → lane < coordinators * lanes → lane / lanes < coordinators
@@ -139,7 +139,7 @@ module _ {D : Type 0} where
     is_home l e low = subst (λ k. IsLane k l) (sym (subst (λ m. (sight_at sight logs m).header ≡ header_of h.shape h.genesis m) (sym at_is)
         (ledger.log_headers (home_of h.shape lane) (home_inside lane h.shape.coordinators h.shape.lanes lt)))) (low, sym e)
 
-    other_lanes : KeepsLanes h.shape lane (journals_of h.shape logs shards) (journals_of h.shape logs' shards')
+    other_lanes : KeepsLanes h.shape lane (node_journals h.shape logs shards) (node_journals h.shape logs' shards')
     other_lanes l low other =
         let inside = home_inside l h.shape.coordinators h.shape.lanes low in
         ap (λ L. (slot L l).phase) (seen_log h.shape (sight_at sight logs') (sight_at sight shards') (home_of h.shape l) inside)

@@ -18,7 +18,7 @@ use Rattle.lane_driver.specs.Stops.{IsSettled}
 use Rattle.recovery.specs.declared.resumed.ResumedBatch.{ResumedBatch}
 use Rattle.recovery.specs.Open.{IsResumed, IsUnfinished, HasItsOutcomes, IsResumeStopped}
 use Rattle.run_laws.proofs.Seen.{seen_log}
-use Rattle.ledger_runs.specs.Turning.{phase_at, IsLaneOf, OfKept, StaysKept, TookUp}
+use Rattle.ledger_runs.specs.Turning.{lane_phase, IsLaneOf, OfKept, StaysKept, TookUp}
 use Rattle.run_laws.proofs.Rests.{checked_rest_law}
 use Rattle.run_laws.proofs.OpenLanes.{checked_resume_law}
 use Rattle.thread_laws.proofs.OpenThere.{is_idle, unfinished}
@@ -28,11 +28,11 @@ use Rattle.thread_laws.proofs.Turned.{resume_keeps, left_keeps, resume_took}
 use Rattle.thread_laws.proofs.TurnFlying.{resume_flies, left_flies}
 use Rattle.thread_laws.proofs.TurnLaunching.{resume_same, resume_launches, left_launches}
 use Rattle.lane_driver.specs.declared.fault.LaneFaultKind.TheVariants.{Memory as NoMemory}
-use Rattle.ledger_runs.specs.Telling.{IsOpened}
+use Rattle.ledger_runs.specs.Telling.{IsLanesOpenBatch}
 use Rattle.ledger_runs.specs.Flying.{FliesOn, Launches}
-use Rattle.ledger_runs.specs.Pieces.{HasPrepared}
-use Rattle.ledger_runs.specs.Faults.{IsOpenCause, HaveFailed, MayHold, Nothing}
-use Rattle.file_runs.specs.Ledgers.{IsLedger, journals_of, flights_of, faults_of, opened_of, capacity_of, AreChecked, AreQuiet, KeepsLedgerOf}
+use Rattle.ledger_runs.specs.Pieces.{HasPreparedPieces}
+use Rattle.ledger_runs.specs.Faults.{IsOpenCause, HaveFailed, MayHoldBytes, Nothing}
+use Rattle.file_runs.specs.Ledgers.{IsLedger, node_journals, flights_of, faults_of, opened_of, capacity_of, HaveCheckedJournals, AreQuiet, KeepsLedgerOf}
 use Rattle.file_runs.specs.Steps.{IsStep}
 use Rattle.file_runs.proofs.Steps.{home_inside, are_nodes, are_shards, is_lane, journal_at}
 
@@ -58,7 +58,7 @@ module _ {D : Type 0} (device : Ghosts D) (h : Header) (lane : ℕ) (logs shards
   S = sight_at sight shards
 
   abbrev I : ℕ → List Record
-  I = journals_of h.shape logs shards
+  I = node_journals h.shape logs shards
 
   home : home_of K lane < K.coordinators
   home = home_inside lane K.coordinators K.lanes lt
@@ -74,7 +74,7 @@ module _ {D : Type 0} (device : Ghosts D) (h : Header) (lane : ℕ) (logs shards
   at_log = seen_log K L S (home_of K lane) home
 
   -- a lane of which nothing is told is idle
-  pub none_open : open_lane (L (home_of K lane)).seen lane ≡ None → phase_at K I lane ≡ Idle
+  pub none_open : open_lane (L (home_of K lane)).seen lane ≡ None → lane_phase K I lane ≡ Idle
   none_open told =
       ap (λ J. (slot J lane).phase) at_log
       ∙ is_idle (L (home_of K lane)).header (L (home_of K lane)).seen (journal_at logs ledger.log_journals (home_of K lane) (subst (λ m. home_of K lane < m) (sym ledger.coordinators) home)) lane
@@ -82,11 +82,11 @@ module _ {D : Type 0} (device : Ghosts D) (h : Header) (lane : ℕ) (logs shards
       (subst (λ k. k.node < k.shape.coordinators) (sym (ledger.log_headers (home_of K lane) home)) home) told
 
   -- what the driver wants of checked journals: the lane is settled where it is idle, and else each shard has come as far as its phase lets it
-  pub is_settled : phase_at K I lane ≡ Idle → AreChecked K logs shards → (at : ℕ) → at ≡ home_of K lane → IsSettled K lane (sight_at sight logs at) S
+  pub is_settled : lane_phase K I lane ≡ Idle → HaveCheckedJournals K logs shards → (at : ℕ) → at ≡ home_of K lane → IsSettled K lane (sight_at sight logs at) S
   is_settled idle c at e = subst (λ n. IsSettled K lane (sight_at sight logs n) S) (sym e)
       ((slot (L (home_of K lane)).seen lane).number, checked_rest_law K c.0 lane L S some home shape c.1 (ap (λ J. (slot J lane).phase) (sym at_log) ∙ idle))
 
-  pub is_unfinished : (o : OpenLane) → open_lane (L (home_of K lane)).seen lane ≡ Some o → AreChecked K logs shards → (at : ℕ) → at ≡ home_of K lane → IsUnfinished o.phase K o (sight_at sight logs at) S
+  pub is_unfinished : (o : OpenLane) → open_lane (L (home_of K lane)).seen lane ≡ Some o → HaveCheckedJournals K logs shards → (at : ℕ) → at ≡ home_of K lane → IsUnfinished o.phase K o (sight_at sight logs at) S
   is_unfinished o told c at e = subst (λ n. IsUnfinished o.phase K o (sight_at sight logs n) S) (sym e)
       (unfinished K lane (L (home_of K lane)) S o told (checked_resume_law K c.0 lane L S some home shape c.1))
 
@@ -94,7 +94,7 @@ module _ {D : Type 0} (device : Ghosts D) (h : Header) (lane : ℕ) (logs shards
   is_opened : (o : OpenLane) → open_lane (L (home_of K lane)).seen lane ≡ Some o → (r : ResumedBatch) → IsResumed o r → r.batch ≡ open_batch (I (home_of K lane)) lane
   is_opened o told r resumed = resumed.batch ∙ batch_of (L (home_of K lane)).seen lane (open_phase (slot (L (home_of K lane)).seen lane).phase) o told ∙ ap (λ J. open_batch J lane) (sym at_log)
 
-  pub all_opened : (o : OpenLane) → open_lane (L (home_of K lane)).seen lane ≡ Some o → (came : Result ResumedBatch LaneFault) → IfOk came (IsResumed o) → IfOk came (λ r. IsOpened K lane I (Some r))
+  pub all_opened : (o : OpenLane) → open_lane (L (home_of K lane)).seen lane ≡ Some o → (came : Result ResumedBatch LaneFault) → IfOk came (IsResumed o) → IfOk came (λ r. IsLanesOpenBatch K lane I (Some r))
   all_opened o told (Ok r) resumed = is_opened o told r resumed
   all_opened o told (Err e) resumed = tt
 
@@ -114,7 +114,7 @@ module _ {D : Type 0} (device : Ghosts D) (h : Header) (lane : ℕ) (logs shards
     S' = sight_at sight shards'
 
     abbrev J : ℕ → List Record
-    J = journals_of h.shape logs' shards'
+    J = node_journals h.shape logs' shards'
 
     -- nothing is in flight behind a turn that left what was as it was
     quiet_on : SameFlights L S L' S' → AreQuiet logs shards → AreQuiet logs' shards'
@@ -142,7 +142,7 @@ module _ {D : Type 0} (device : Ghosts D) (h : Header) (lane : ℕ) (logs shards
     shard_shapes : (s : ℕ) → s < K.shards → (S' s).header.shape ≡ K
     shard_shapes s lt = (are_shards h logs' shards' step.ledger s lt).0
 
-    module _ (idle : phase_at K I lane ≡ Idle) (txs : List Compact) where
+    module _ (idle : lane_phase K I lane ≡ Idle) (txs : List Compact) where
       idle_there : (slot (L (home_of K lane)).seen lane).phase ≡ Idle
       idle_there = ap (λ J. (slot J lane).phase) (sym at_log) ∙ idle
 
@@ -162,39 +162,39 @@ module _ {D : Type 0} (device : Ghosts D) (h : Header) (lane : ℕ) (logs shards
           left_flies K lane L S L' S' some home shape step.elsewhere (are_nodes h logs shards ledger) (are_nodes h logs' shards' step.ledger) step.log_nodes step.shard_nodes step.next o told e stop
 
       pub resumed_checked : (came : Result ResumedBatch LaneFault) → OnOk came (IsUnfinished o.phase K o (L (home_of K lane)) S → IsTakenUp K true o.batch (L (home_of K lane)) S (L' (home_of K lane)) S')
-          → IfErr came (IsResumeStopped K true o (L (home_of K lane)) S (L' (home_of K lane)) S') → (c : AreChecked K logs shards) → IsCheckedTurn K c.0 lane I J
+          → IfErr came (IsResumeStopped K true o (L (home_of K lane)) S (L' (home_of K lane)) S') → (c : HaveCheckedJournals K logs shards) → IsCheckedTurn K c.0 lane I J
       resumed_checked (Ok r) taken stop c =
           taken_checked K lane L S L' S' ledger.limits home shape shard_shapes step.elsewhere (are_nodes h logs shards ledger) (are_nodes h logs' shards' step.ledger) step.log_nodes step.shard_nodes c.0 c.1 o told taken
       resumed_checked (Err e) taken stop c =
           left_checked K lane L S L' S' ledger.limits home shape shard_shapes step.elsewhere (are_nodes h logs shards ledger) (are_nodes h logs' shards' step.ledger) step.log_nodes step.shard_nodes c.0 c.1 o told e stop
 
       pub resumed_unprepared : (came : Result ResumedBatch LaneFault) → OnOk came (IsUnfinished o.phase K o (L (home_of K lane)) S → IsTakenUp K true o.batch (L (home_of K lane)) S (L' (home_of K lane)) S')
-          → IfErr came (IsResumeStopped K true o (L (home_of K lane)) S (L' (home_of K lane)) S') → AreChecked K logs shards → HasPrepared K lane [] I J
+          → IfErr came (IsResumeStopped K true o (L (home_of K lane)) S (L' (home_of K lane)) S') → HaveCheckedJournals K logs shards → HasPreparedPieces K lane [] I J
       resumed_unprepared (Ok r) taken stop c =
           taken_unprepared K lane L S L' S' ledger.limits home shape shard_shapes step.elsewhere (are_nodes h logs shards ledger) (are_nodes h logs' shards' step.ledger) step.log_nodes step.shard_nodes c.0 c.1 o told taken
       resumed_unprepared (Err e) taken stop c =
           left_unprepared K lane L S L' S' ledger.limits home shape shard_shapes step.elsewhere (are_nodes h logs shards ledger) (are_nodes h logs' shards' step.ledger) step.log_nodes step.shard_nodes c.0 c.1 o told e stop
 
-      resumed_cause : (e : LaneFault) → IsResumeStopped K true o (L (home_of K lane)) S (L' (home_of K lane)) S' e → AreChecked K logs shards
-          → IsOpenCause K lane I J (HaveFailed (opened_of K logs' shards') (faults_of K logs' shards')) (MayHold (capacity_of K logs' shards')) e
+      resumed_cause : (e : LaneFault) → IsResumeStopped K true o (L (home_of K lane)) S (L' (home_of K lane)) S' e → HaveCheckedJournals K logs shards
+          → IsOpenCause K lane I J (HaveFailed (opened_of K logs' shards') (faults_of K logs' shards')) (MayHoldBytes (capacity_of K logs' shards')) e
       resumed_cause e stop c =
           left_cause K lane L S L' S' ledger.limits home shape shard_shapes step.elsewhere (are_nodes h logs shards ledger) (are_nodes h logs' shards' step.ledger) step.log_nodes step.shard_nodes c.0 c.1 o told e stop
 
-      pub resumed_fault : (came : Result ResumedBatch LaneFault) → IfErr came (IsResumeStopped K true o (L (home_of K lane)) S (L' (home_of K lane)) S') → AreChecked K logs shards
-          → IfErr came (IsOpenCause K lane I J (HaveFailed (opened_of K logs' shards') (faults_of K logs' shards')) (MayHold (capacity_of K logs' shards')))
+      pub resumed_fault : (came : Result ResumedBatch LaneFault) → IfErr came (IsResumeStopped K true o (L (home_of K lane)) S (L' (home_of K lane)) S') → HaveCheckedJournals K logs shards
+          → IfErr came (IsOpenCause K lane I J (HaveFailed (opened_of K logs' shards') (faults_of K logs' shards')) (MayHoldBytes (capacity_of K logs' shards')))
       resumed_fault (Ok r) stop c = tt
       resumed_fault (Err e) stop c = resumed_cause e stop c
 
-      quiet_behind : (IsUnfinished o.phase K o (L (home_of K lane)) S → IsTakenUp K true o.batch (L (home_of K lane)) S (L' (home_of K lane)) S') → AreChecked K logs shards → AreQuiet logs shards → AreQuiet logs' shards'
+      quiet_behind : (IsUnfinished o.phase K o (L (home_of K lane)) S → IsTakenUp K true o.batch (L (home_of K lane)) S (L' (home_of K lane)) S') → HaveCheckedJournals K logs shards → AreQuiet logs shards → AreQuiet logs' shards'
       quiet_behind taken c = quiet_on (resume_same K lane L S L' S' ledger.limits home shape shard_shapes step.elsewhere (are_nodes h logs shards ledger) (are_nodes h logs' shards' step.ledger) step.log_nodes step.shard_nodes step.next c.0 c.1 o told taken)
 
-      pub resumed_quiet : (came : Result ResumedBatch LaneFault) → OnOk came (IsUnfinished o.phase K o (L (home_of K lane)) S → IsTakenUp K true o.batch (L (home_of K lane)) S (L' (home_of K lane)) S') → AreChecked K logs shards
+      pub resumed_quiet : (came : Result ResumedBatch LaneFault) → OnOk came (IsUnfinished o.phase K o (L (home_of K lane)) S → IsTakenUp K true o.batch (L (home_of K lane)) S (L' (home_of K lane)) S') → HaveCheckedJournals K logs shards
           → OnOk came (AreQuiet logs shards → AreQuiet logs' shards')
       resumed_quiet (Ok r) taken c = quiet_behind taken c
       resumed_quiet (Err e) taken c = tt
 
       pub resumed_launches : (came : Result ResumedBatch LaneFault) → OnOk came (IsUnfinished o.phase K o (L (home_of K lane)) S → IsTakenUp K true o.batch (L (home_of K lane)) S (L' (home_of K lane)) S')
-          → IfErr came (IsResumeStopped K true o (L (home_of K lane)) S (L' (home_of K lane)) S') → AreChecked K logs shards → Launches K (λ _. Nothing) I J (flights_of K logs shards) (flights_of K logs' shards')
+          → IfErr came (IsResumeStopped K true o (L (home_of K lane)) S (L' (home_of K lane)) S') → HaveCheckedJournals K logs shards → Launches K (λ _. Nothing) I J (flights_of K logs shards) (flights_of K logs' shards')
       resumed_launches (Ok r) taken stop c = resume_launches K lane L S L' S' ledger.limits home shape shard_shapes step.elsewhere (are_nodes h logs shards ledger) (are_nodes h logs' shards' step.ledger) step.log_nodes step.shard_nodes step.next c.0 c.1 o told taken
       resumed_launches (Err e) taken stop c = left_launches K lane L S L' S' ledger.limits home shape shard_shapes step.elsewhere (are_nodes h logs shards ledger) (are_nodes h logs' shards' step.ledger) step.log_nodes step.shard_nodes step.next c.0 c.1 o told e stop
 

@@ -20,8 +20,8 @@ use Rattle.thread_laws.proofs.Running.{fresh_settled_law, wave_ran_law}
 use Rattle.lane_waves.specs.Waves.{AreNodesOf}
 use Rattle.lane_waves.specs.Laws.{WentOn}
 use Rattle.lane_waves.proofs.NodePlaces.{same_length, past_end, beyond, all_held}
-use Rattle.file_runs.specs.Ledgers.{IsLedger, FliesNext, journals_of, AreChecked, AreStored, AreQuiet}
-use Rattle.file_runs.specs.Waving.{WaveLaw}
+use Rattle.file_runs.specs.Ledgers.{IsLedger, FliesNext, node_journals, HaveCheckedJournals, AreStored, AreQuiet}
+use Rattle.file_runs.specs.Waving.{LedgerWaveLaw}
 use Rattle.file_runs.proofs.Steps.{are_nodes, are_next, are_shards, all_held as all_held_there}
 
 is_low : (a b : ℕ) → a < b → nat_lt a b ≡ true
@@ -124,7 +124,7 @@ module _ {D : Type 0} (device : Ghosts D) (h : Header) (logs shards : List (Node
       log_at n (inr le) = ap (λ x. x.flight) (past_end sight Goes logs' n (subst (λ m. m ≤ n) (sym still.coordinators) le))
 
 pub wave_law : {D : Type 0} (device : Ghosts D) (h : Header) (logs shards : List (NodeOf D)) (logs' : List (NodeOf D)) (shards' : List (NodeOf D))
-    (old new : List LaneOf) → WaveLaw device h logs shards logs' shards' old new
+    (old new : List LaneOf) → LedgerWaveLaw device h logs shards logs' shards' old new
 wave_law device h logs shards logs' shards' old new ledger places ran logs_go shards_go log_journals log_flights shard_journals shard_flights =
     let a = all device h logs shards logs' shards' old new ledger places ran logs_go shards_go log_journals log_flights shard_journals shard_flights in
     record {
@@ -151,7 +151,7 @@ module _ {D : Type 0} (h : Header) (logs shards : List (NodeOf D)) (ledger : IsL
     shards_are = are_shards h logs shards ledger;
   }
 
-  pub all_settled : AreChecked h.shape logs shards → AreIdle h.shape (journals_of h.shape logs shards) → (lane : ℕ) → lane < h.shape.coordinators * h.shape.lanes
+  pub all_settled : HaveCheckedJournals h.shape logs shards → AreIdle h.shape (node_journals h.shape logs shards) → (lane : ℕ) → lane < h.shape.coordinators * h.shape.lanes
       → IsSettled h.shape lane (sight_at sight logs (home_of h.shape lane)) (sight_at sight shards)
   all_settled c idle lane lt = fresh_settled_law h.shape c.0 (sight_at sight logs) (sight_at sight shards) lane (sight_at sight logs (home_of h.shape lane)) (sight_at sight shards)
       ledger.limits lt (λ n low. (nodes_of.logs_are n low).0) c.1 idle (refl, refl) (λ s. refl)

@@ -7,7 +7,7 @@ use Rattle.cbdc_model.specs.World.{AreIdle, KeptJournals}
 use Rattle.cbdc_model.specs.Waves.{sent_to, Waves}
 use Rattle.submissions.specs.Checks.{VerdictsOf, TellsSound}
 use Rattle.lane_driver.specs.declared.fault.LaneFault.{LaneFault}
-use Rattle.ledger_runs.specs.Least.{IsLeastFault, IsUnbegun}
+use Rattle.ledger_runs.specs.Least.{IsLeastFault, IsUnbegunForMemory}
 use Rattle.ledger_runs.specs.Turning.{IsLaneOf}
 use Rattle.ledger_runs.specs.Pieces.{HasBegun}
 use Rattle.file_runs.specs.Runs.{IsSentPiece, HavePreparedFiles, HaveBegunFile}
@@ -15,12 +15,12 @@ use Rattle.file_runs.specs.Runs.{IsSentPiece, HavePreparedFiles, HaveBegunFile}
 -- a file's: memory ran out before its wave; or it is the least lane's that met one in the wave, and each lesser lane has run all that the file sends it
 abbrev pub EndsFile : Shape → VerdictsOf → List FullTx → (ℕ → List Record) → (ℕ → List Record) → (ℕ → Type 0) → (ℕ → ℕ → Type 0) → LaneFault → Type 0
 EndsFile K verdicts file I J failed may_hold e =
-    IsUnbegun I J e ⊎ ((sound : FullTx → Bool) → TellsSound verdicts sound → IsLeastFault K (sent_to K sound file) (IsSentPiece K verdicts file I J) I J failed may_hold e)
+    IsUnbegunForMemory I J e ⊎ ((sound : FullTx → Bool) → TellsSound verdicts sound → IsLeastFault K (sent_to K sound file) (IsSentPiece K verdicts file I J) I J failed may_hold e)
 
 -- the first of more files; without one memory ran out and nothing was done; no lane has prepared anything of the files behind it, only the first
 -- pieces of what it sends
 abbrev pub EndsFirst : Shape → VerdictsOf → List (List FullTx) → (ℕ → List Record) → (ℕ → List Record) → (ℕ → Type 0) → (ℕ → ℕ → Type 0) → LaneFault → Type 0
-EndsFirst K verdicts [] I J failed may_hold e = IsUnbegun I J e
+EndsFirst K verdicts [] I J failed may_hold e = IsUnbegunForMemory I J e
 EndsFirst K verdicts (file ∷ more) I J failed may_hold e = EndsFile K verdicts file I J failed may_hold e × (0 < K.batch → HaveBegunFile K verdicts file I J)
 
 -- of files from journals I to J: those before have been run by all lanes, which were idle then, and the first of those behind them was ended
@@ -42,7 +42,7 @@ HasBegunFirst K sound (file ∷ more) M X = 0 < K.batch → (lane : ℕ) → IsL
 
 -- files that were run or cut short, from journals E, in which batches were open, to X: the open batches and the waves of the files before are at their
 -- end, those journals are kept with all lanes idle, and from there on they have grown by the first of the other files alone
-pub record AreCut (K : Shape) (sound : FullTx → Bool) (files : List (List FullTx)) (mint : List Output) (E X : ℕ → List Record) : Type 0 where
+pub record AreRunOrCut (K : Shape) (sound : FullTx → Bool) (files : List (List FullTx)) (mint : List Output) (E X : ℕ → List Record) : Type 0 where
   pub done : List (List FullTx)
   pub more : List (List FullTx)
   pub are : files ≡ done ++ more

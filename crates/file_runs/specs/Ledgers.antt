@@ -31,8 +31,8 @@ pub record LedgerOf (D : Type 0) : Type 0 where
   pub shards : List (NodeOf D)
 
 -- the journals of all nodes, the coordinators first
-abbrev pub journals_of : {D : Type 0} → Shape → List (NodeOf D) → List (NodeOf D) → ℕ → List Record
-journals_of K logs shards = seen_by K (sight_at sight logs) (sight_at sight shards)
+abbrev pub node_journals : {D : Type 0} → Shape → List (NodeOf D) → List (NodeOf D) → ℕ → List Record
+node_journals K logs shards = seen_by K (sight_at sight logs) (sight_at sight shards)
 
 -- how often the disk of each node has failed
 abbrev pub faults_of : {D : Type 0} → Shape → List (NodeOf D) → List (NodeOf D) → ℕ → ℕ
@@ -56,8 +56,8 @@ abbrev pub FliesNext : {D : Type 0} → NodeOf D → Type 0
 FliesNext n = IfSome n.flight (After n.header n.journal)
 
 -- each record of the journals is after those before it, and caused
-abbrev pub AreChecked : {D : Type 0} → Shape → List (NodeOf D) → List (NodeOf D) → Type 0
-AreChecked K logs shards = (m : Minted) × CheckedJournals K m (journals_of K logs shards)
+abbrev pub HaveCheckedJournals : {D : Type 0} → Shape → List (NodeOf D) → List (NodeOf D) → Type 0
+HaveCheckedJournals K logs shards = (m : Minted) × CheckedJournals K m (node_journals K logs shards)
 
 -- each node's disk holds its journal
 pub record AreStored {D : Type 0} (device : Ghosts D) (logs shards : List (NodeOf D)) : Type 0 where
@@ -73,37 +73,37 @@ pub record AreQuiet {D : Type 0} (logs shards : List (NodeOf D)) : Type 0 where
 
 module _ {D : Type 0} where
   -- the journal of each node, and the record in flight there, if there is one
-  abbrev pub journals : LedgerOf D → ℕ → List Record
-  journals l = journals_of l.header.shape l.logs l.shards
+  abbrev pub ledger_journals : LedgerOf D → ℕ → List Record
+  ledger_journals l = node_journals l.header.shape l.logs l.shards
 
-  -- `journals`, `flights`, `faults`, `opened`, `capacity`, `IsChecked`, `IsQuiet`, `IsStored`: the same of a ledger, by its own shape
-  abbrev pub flights : LedgerOf D → ℕ → Option Record
-  flights l = flights_of l.header.shape l.logs l.shards
+  -- `ledger_journals`, `ledger_flights`, `ledger_faults`, `ledger_opened`, `ledger_capacity`, `IsChecked`, `IsLedgerQuiet`, `IsLedgerStored`: the same of a ledger, by its own shape
+  abbrev pub ledger_flights : LedgerOf D → ℕ → Option Record
+  ledger_flights l = flights_of l.header.shape l.logs l.shards
 
   -- how often the disk of each node has failed, how often it had when the node was opened, and how many bytes it may hold
-  abbrev pub faults : LedgerOf D → ℕ → ℕ
-  faults l = faults_of l.header.shape l.logs l.shards
+  abbrev pub ledger_faults : LedgerOf D → ℕ → ℕ
+  ledger_faults l = faults_of l.header.shape l.logs l.shards
 
-  abbrev pub opened : LedgerOf D → ℕ → ℕ
-  opened l = opened_of l.header.shape l.logs l.shards
+  abbrev pub ledger_opened : LedgerOf D → ℕ → ℕ
+  ledger_opened l = opened_of l.header.shape l.logs l.shards
 
-  abbrev pub capacity : LedgerOf D → ℕ → ℕ
-  capacity l = capacity_of l.header.shape l.logs l.shards
+  abbrev pub ledger_capacity : LedgerOf D → ℕ → ℕ
+  ledger_capacity l = capacity_of l.header.shape l.logs l.shards
 
   -- each record of its journals is after those before it, and caused
   abbrev pub IsChecked : LedgerOf D → Type 0
-  IsChecked l = AreChecked l.header.shape l.logs l.shards
+  IsChecked l = HaveCheckedJournals l.header.shape l.logs l.shards
 
 -- each node's disk holds its journal, and no node has a record in flight
-abbrev pub IsStored : {D : Type 0} → Ghosts D → LedgerOf D → Type 0
-IsStored device l = AreStored device l.logs l.shards
+abbrev pub IsLedgerStored : {D : Type 0} → Ghosts D → LedgerOf D → Type 0
+IsLedgerStored device l = AreStored device l.logs l.shards
 
-abbrev pub IsQuiet : {D : Type 0} → LedgerOf D → Type 0
-IsQuiet l = AreQuiet l.logs l.shards
+abbrev pub IsLedgerQuiet : {D : Type 0} → LedgerOf D → Type 0
+IsLedgerQuiet l = AreQuiet l.logs l.shards
 
 -- what a call keeps of a ledger's nodes
 module _ {D : Type 0} (device : Ghosts D) where
   -- `KeepsLedger` (ledger_runs) of a ledger's nodes: what their disks held they hold
   abbrev pub KeepsLedgerOf : LedgerOf D → LedgerOf D → Type 0
   KeepsLedgerOf before after =
-      KeepsLedger (λ (l : LedgerOf D). l.header.shape) opened faults capacity (IsStored device) before after
+      KeepsLedger (λ (l : LedgerOf D). l.header.shape) ledger_opened ledger_faults ledger_capacity (IsLedgerStored device) before after

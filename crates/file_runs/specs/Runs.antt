@@ -5,10 +5,10 @@ use Rattle.cbdc_model.specs.Coins.{Output, FullTx}
 use Rattle.cbdc_model.specs.Waves.{IsCut, sent_to}
 use Rattle.submissions.specs.Checks.{VerdictsOf, TellsSound}
 use Rattle.ledger_runs.specs.Turning.{IsLaneOf}
-use Rattle.ledger_runs.specs.Pieces.{HasPrepared, HasPreparedAll, IsNextOf, IsNextPiece, HasBegun}
+use Rattle.ledger_runs.specs.Pieces.{HasPreparedPieces, HasPreparedAll, IsNextOf, IsNextPiece, HasBegun}
 use Rattle.ledger_runs.specs.Flying.{AllMayCome}
 use Rattle.ledger_runs.specs.Lanes.{LaneOf}
-use Rattle.lane_sources.specs.Sources.{all_of}
+use Rattle.lane_sources.specs.Sources.{all_for_lane}
 
 -- all in one list
 abbrev pub joined : {A : Type 0} → List (List A) → List A
@@ -32,7 +32,7 @@ AreFilesPieces K sound lane (file ∷ files) pieces =
 -- from journals I to J each lane has prepared all that files send it
 abbrev pub HavePreparedFiles : Shape → VerdictsOf → List (List FullTx) → (ℕ → List Record) → (ℕ → List Record) → Type 0
 HavePreparedFiles K verdicts files I J =
-    (lane : ℕ) → IsLaneOf K lane → (sound : FullTx → Bool) → TellsSound verdicts sound → (pieces : List (List Compact)) × AreFilesPieces K sound lane files pieces × HasPrepared K lane pieces I J
+    (lane : ℕ) → IsLaneOf K lane → (sound : FullTx → Bool) → TellsSound verdicts sound → (pieces : List (List Compact)) × AreFilesPieces K sound lane files pieces × HasPreparedPieces K lane pieces I J
 
 -- the next of them
 abbrev pub IsFilesPiece : Shape → VerdictsOf → List (List FullTx) → (ℕ → List Record) → (ℕ → List Record) → ℕ → List Compact → Type 0
@@ -50,11 +50,11 @@ HaveBegunFile K verdicts file I J = (lane : ℕ) → IsLaneOf K lane → (sound 
 -- of those that files send it
 abbrev pub HaveBegunFiles : Shape → VerdictsOf → List (List FullTx) → (ℕ → List Record) → (ℕ → List Record) → Type 0
 HaveBegunFiles K verdicts files I J = (lane : ℕ) → IsLaneOf K lane → (sound : FullTx → Bool) → TellsSound verdicts sound
-    → (done : List (List Compact)) × (more : List (List Compact)) × AreFilesPieces K sound lane files (done ++ more) × HasPrepared K lane done I J
+    → (done : List (List Compact)) × (more : List (List Compact)) × AreFilesPieces K sound lane files (done ++ more) × HasPreparedPieces K lane done I J
 
 -- a lane for each of the ledger's, which gets what the file sends it, has done nothing and has not stopped
 pub record AreLanesOf (K : Shape) (verdicts : VerdictsOf) (file : List FullTx) (lanes : List LaneOf) : Type 0 where
   pub count : length lanes ≡ K.coordinators * K.lanes
-  pub each : (n : ℕ) (x : LaneOf) → slice_get lanes n ≡ Some x → x.txs ≡ all_of K verdicts file n
+  pub each : (n : ℕ) (x : LaneOf) → slice_get lanes n ≡ Some x → x.txs ≡ all_for_lane K verdicts file n
   pub fresh : (n : ℕ) (x : LaneOf) → slice_get lanes n ≡ Some x → x.fault ≡ None
   pub untold : (n : ℕ) (x : LaneOf) → slice_get lanes n ≡ Some x → (x.decided.items ≡ []) × (x.batches ≡ 0)

@@ -8,8 +8,8 @@ ghost use Rattle.coord_log.specs.OpenLanes.{open_lane};
 ghost use Rattle.node_ports.specs.Nodes.{sight_at};
 ghost use Rattle.lane_laws.specs.Resuming.{IsTakenUp};
 ghost use Rattle.recovery.specs.Open.{IsResumed, IsUnfinished, HasItsOutcomes, IsResumeStopped};
-ghost use Rattle.ledger_runs.specs.Turning.{phase_at, IsLaneOf};
-ghost use Rattle.file_runs.specs.Ledgers.{IsLedger, FliesNext, journals_of, AreChecked};
+ghost use Rattle.ledger_runs.specs.Turning.{lane_phase, IsLaneOf};
+ghost use Rattle.file_runs.specs.Ledgers.{IsLedger, FliesNext, node_journals, HaveCheckedJournals};
 ghost use Rattle.file_runs.specs.Steps.{IsStep};
 ghost use Rattle.file_runs.specs.Ones.{IsOneOf};
 ghost use Rattle.recovery.specs.declared.resumed.ResumedBatch.{ResumedBatch as BatchOf};
@@ -80,7 +80,7 @@ pub(crate) fn drive_resume<W: Wait, D: Disk, G: Gate>(
     requires lane { IsLaneOf header.now.shape lane }
     requires told { open_lane (sight_at sight ports.old.log.logs.items (home_of header.now.shape lane)).seen lane ≡ Some unfinished.now }
     requires plan { plan ≡ record { shape = header.now.shape; lanes = unfinished.now ∷ [] } }
-    requires checked { AreChecked header.now.shape ports.old.log.logs.items ports.old.shards.nodes.items }
+    requires checked { HaveCheckedJournals header.now.shape ports.old.log.logs.items ports.old.shards.nodes.items }
     ensures step { IsStep D.Disk header.now lane ports.old.log.logs.items ports.old.shards.nodes.items ports.new.log.logs.items ports.new.shards.nodes.items }
     ensures taken { OnOk result (IsUnfinished unfinished.now.phase header.now.shape unfinished.now
         (sight_at sight ports.old.log.logs.items (home_of header.now.shape lane)) (sight_at sight ports.old.shards.nodes.items)
@@ -94,7 +94,7 @@ pub(crate) fn drive_resume<W: Wait, D: Disk, G: Gate>(
     ensures left { IfErr result (IsResumeStopped header.now.shape true unfinished.now
         (sight_at sight ports.old.log.logs.items (home_of header.now.shape lane)) (sight_at sight ports.old.shards.nodes.items)
         (sight_at sight ports.new.log.logs.items (home_of header.now.shape lane)) (sight_at sight ports.new.shards.nodes.items)) }
-    ensures idle { OnOk result (phase_at header.now.shape (journals_of header.now.shape ports.new.log.logs.items ports.new.shards.nodes.items) lane ≡ Idle) }
+    ensures idle { OnOk result (lane_phase header.now.shape (node_journals header.now.shape ports.new.log.logs.items ports.new.shards.nodes.items) lane ≡ Idle) }
 {
     ports.log.at = home(&header.shape, lane);
     ports.shards.lane = lane;

@@ -4,7 +4,7 @@ ghost use Rattle.cbdc_model.specs.Ranges.{home_of};
 ghost use Rattle.node_journal.specs.Nodes.{sight};
 ghost use Rattle.coord_log.specs.OpenLanes.{open_lane};
 ghost use Rattle.node_ports.specs.Nodes.{sight_at};
-ghost use Rattle.file_runs.specs.Ledgers.{journals_of, flights_of, faults_of, opened_of, capacity_of, AreChecked, AreStored, AreQuiet};
+ghost use Rattle.file_runs.specs.Ledgers.{node_journals, flights_of, faults_of, opened_of, capacity_of, HaveCheckedJournals, AreStored, AreQuiet};
 
 use crate::driving::{drive_resume, home};
 use crate::ledger::Ledger;
@@ -78,7 +78,7 @@ impl<'r, W: Wait, D: Disk> LentLedger<'r, W, D> {
 impl<'r, W: Wait, D: Disk> Turns for LentLedger<'r, W, D> {
     ghost shape = { λ l. l.header.shape };
 
-    ghost journals = { λ l. journals_of l.header.shape l.logs l.shards };
+    ghost journals = { λ l. node_journals l.header.shape l.logs l.shards };
 
     ghost flights = { λ l. flights_of l.header.shape l.logs l.shards };
 
@@ -88,7 +88,7 @@ impl<'r, W: Wait, D: Disk> Turns for LentLedger<'r, W, D> {
 
     ghost capacity = { λ l. capacity_of l.header.shape l.logs l.shards };
 
-    ghost checked = { λ l. AreChecked l.header.shape l.logs l.shards };
+    ghost checked = { λ l. HaveCheckedJournals l.header.shape l.logs l.shards };
 
     ghost quiet = { λ l. AreQuiet l.logs l.shards };
 

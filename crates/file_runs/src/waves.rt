@@ -3,11 +3,11 @@ ghost use Rattle.std.specs.Prelude.{◌≡◌, ◌≤◌, All, IfOk, [], length,
 ghost use Rattle.std.specs.Vec.{vec_capacity};
 ghost use Rattle.cbdc_model.specs.World.{AreIdle};
 ghost use Rattle.input_files.specs.Limits.{IsShort};
-ghost use Rattle.file_runs.specs.Ledgers.{journals, IsChecked};
+ghost use Rattle.file_runs.specs.Ledgers.{ledger_journals, IsChecked};
 ghost use Rattle.file_runs.specs.FileRuns.{RanFile};
 ghost use Rattle.ledger_runs.specs.Lanes.{came_of};
 ghost use Rattle.submissions.specs.Checks.{AreChecked};
-ghost use Rattle.lane_sources.specs.Sources.{lanes_of};
+ghost use Rattle.lane_sources.specs.Sources.{count_of_lanes};
 ghost use Rattle.file_runs.specs.Runs.{AreLanesOf};
 
 use crate::Ledger;
@@ -51,8 +51,8 @@ fn wave_room<'a, W: Wait, V: Verifier, F: Deals>(
     alloc: Global,
     file: &FileOf<'a, V, F>,
 ) -> Result<WaveRoom<'a, W, V, F>, AllocError>
-    ensures sources { IfOk result (λ r. (r.sources.items ≡ []) × (lanes_of F.shape ≤ vec_capacity r.sources)) }
-    ensures lanes { IfOk result (λ r. (r.lanes.items ≡ []) × (lanes_of F.shape ≤ vec_capacity r.lanes)) }
+    ensures sources { IfOk result (λ r. (r.sources.items ≡ []) × (count_of_lanes F.shape ≤ vec_capacity r.sources)) }
+    ensures lanes { IfOk result (λ r. (r.lanes.items ≡ []) × (count_of_lanes F.shape ≤ vec_capacity r.lanes)) }
     ensures checked { IfOk result (λ r. (r.checked.items ≡ []) × (length F.file ≤ vec_capacity r.checked)) }
 {
     Ok(WaveRoom {
@@ -89,9 +89,9 @@ fn wave_of<'a, W: Wait, V: Verifier, F: Deals>(
     works: Vec<Work<LaneSource<'a, W, V, F>>>,
     room: WaveRoom<'a, W, V, F>,
 ) -> Wave
-    requires many { length works.items ≡ lanes_of F.shape }
-    requires sources { (room.sources.items ≡ []) × (lanes_of F.shape ≤ vec_capacity room.sources) }
-    requires lanes { (room.lanes.items ≡ []) × (lanes_of F.shape ≤ vec_capacity room.lanes) }
+    requires many { length works.items ≡ count_of_lanes F.shape }
+    requires sources { (room.sources.items ≡ []) × (count_of_lanes F.shape ≤ vec_capacity room.sources) }
+    requires lanes { (room.lanes.items ≡ []) × (count_of_lanes F.shape ≤ vec_capacity room.lanes) }
     requires checked { (room.checked.items ≡ []) × (length F.file ≤ vec_capacity room.checked) }
     ensures lanes { result.lanes.items ≡ map came_of works.entry.items }
     ensures checked { AreChecked F.shape F.verdicts F.file result.checked.items }
@@ -131,7 +131,7 @@ fn run_dealt<
     gate: &G,
 ) -> FileRun<D>
     requires shape { F.shape ≡ ledger.header.shape }
-    requires idle { AreIdle ledger.header.shape (journals ledger) }
+    requires idle { AreIdle ledger.header.shape (ledger_journals ledger) }
     requires short { All IsShort F.file }
     requires checked { IsChecked ledger }
     ensures { RanFile D.Disk F.verdicts F.file ledger result.ledger result.came }
@@ -184,7 +184,7 @@ fn run_picked<
     requires shape { F.shape ≡ ledger.header.shape }
     requires file { F.file ≡ txs.now }
     requires verdicts { F.verdicts ≡ V.verdict_of verifier.now }
-    requires idle { AreIdle ledger.header.shape (journals ledger) }
+    requires idle { AreIdle ledger.header.shape (ledger_journals ledger) }
     requires short { All IsShort txs.now }
     requires checked { IsChecked ledger }
     ensures { RanFile D.Disk F.verdicts F.file ledger result.ledger result.came }
@@ -204,7 +204,7 @@ pub fn run_file<W: Wait + Threads + Sync, D: Disk + Send, V: Verifier + Sync, G:
     options: RunOptions,
     gate: &G,
 ) -> FileRun<D>
-    requires idle { AreIdle ledger.header.shape (journals ledger) }
+    requires idle { AreIdle ledger.header.shape (ledger_journals ledger) }
     requires short { All IsShort txs.now }
     requires checked { IsChecked ledger }
     ensures { RanFile D.Disk (V.verdict_of verifier.now) txs.now ledger result.ledger result.came }

@@ -2,7 +2,7 @@
 ghost use Rattle.std.specs.Prelude.{◌≡◌, ◌*◌, length};
 ghost use Rattle.cbdc_model.specs.World.{AreIdle};
 ghost use Rattle.ledger_runs.specs.Waving.{AreWithin};
-ghost use Rattle.file_runs.specs.Ledgers.{journals, IsChecked};
+ghost use Rattle.file_runs.specs.Ledgers.{ledger_journals, IsChecked};
 ghost use Rattle.file_runs.specs.Waving.{IsWave};
 
 use crate::driving::{see_logs, see_shards};
@@ -43,7 +43,7 @@ pub fn run_wave<W: Threads + Wait + Sync, D: Disk + Send, X: Source + Send, G: G
     gate: &G,
 ) -> Ledger<D>
     requires count { length lanes.old.items ≡ ledger.header.shape.coordinators * ledger.header.shape.lanes }
-    requires idle { AreIdle ledger.header.shape (journals ledger) }
+    requires idle { AreIdle ledger.header.shape (ledger_journals ledger) }
     requires limits { AreWithin lanes.old.items }
     requires checked { IsChecked ledger }
     ensures header { result.header ≡ ledger.header }

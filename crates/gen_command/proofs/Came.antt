@@ -20,7 +20,7 @@ use Rattle.mem_devices.specs.declared.plain_rack.PlainRack.{PlainRack}
 use Rattle.mem_devices.specs.Places.{faults_at}
 use Rattle.mem_devices.specs.PlainRacks.{AllIn, disk_at, plain}
 use Rattle.ledger_laws.proofs.Recovery.{idle_law}
-use Rattle.ledger_init.specs.Made.{HoldsFirst, first_of}
+use Rattle.ledger_init.specs.Made.{HoldsFirst, first_record_of}
 use Rattle.rack_ledgers.proofs.Once.{opens_once_law}
 use Rattle.submissions.specs.SoundTest.{sound_by}
 use Rattle.submissions.proofs.Telling.{is_sound_law}
@@ -45,11 +45,11 @@ use Rattle.printed_lines.specs.Runs.{is_confirmed, is_rejected, is_refused, coun
 use Rattle.printed_lines.specs.Unspent.{IsUnspentCount}
 use Rattle.workload.specs.Generator.{mint_of, minted_of, joined_of, split_of, join_of}
 use Rattle.audit_command.specs.Audits.{IsUnsoundBy}
-use Rattle.command_answers.specs.Causes.{IsDone}
+use Rattle.command_answers.specs.Causes.{IsAnswerToRequest}
 use Rattle.run_command.specs.Told.{IsCountable, numbers_of}
-use Rattle.gen_command.specs.Generated.{all_good, files_of, all_of, made_for, IsWorkloadRun, HasVerdictOf, EndsWorkload, batches_for, IsWorkloadText, IsUnsoundWorkload, WhyNoWorkload}
-use Rattle.submission_laws.specs.Files.{first_journals}
-use Rattle.gen_command.specs.InMemory.{AreReady, HaveRoom, TellsRunOf, CameTo, IsCheckedSound, IsUnchecked}
+use Rattle.gen_command.specs.Generated.{all_good, files_of, all_submissions, made_for, IsWorkloadRun, HasVerdictOf, EndsWorkload, batches_for, IsWorkloadText, IsUnsoundWorkload, WhyNoWorkload}
+use Rattle.submission_laws.specs.Files.{mint_journals}
+use Rattle.gen_command.specs.InMemory.{AreDisksReady, HaveRoomForFiles, TellsRunOf, CameTo, IsCheckedSound, IsUnchecked}
 use Rattle.gen_command.proofs.FirstShown.{kept_journal, kept_beyond, first_kept, first_shown}
 use Rattle.gen_command.proofs.Memory.{none_rose, there}
 use Rattle.rack_laws.specs.Ready.{NoneRises, ShowsKept, limit_at}
@@ -138,8 +138,8 @@ module _ (K : Shape) (mint : List Output) (few_coins : length mint ≤ 1000000) 
       (d.0, d.1, (d.0.bytes.items, refl, refl))
 
   -- the ledger that was made
-  pub made_shown : (old mid : PlainRack) → AreReady K mint old → AllIn mid → ((n : ℕ) → n < node_count K → HoldsFirst plain (first_of K mint n) (disk_at old n) (disk_at mid n))
-      → Shows plain (disk_at mid) K (genesis_id mint) (first_journals K mint)
+  pub made_shown : (old mid : PlainRack) → AreDisksReady K mint old → AllIn mid → ((n : ℕ) → n < node_count K → HoldsFirst plain (first_record_of K mint n) (disk_at old n) (disk_at mid n))
+      → Shows plain (disk_at mid) K (genesis_id mint) (mint_journals K mint)
   made_shown old mid ready all holds =
       first_shown K mint limits few_coins plain (disk_at old) (disk_at mid) (λ n inside. (let e = ready.empty n inside in (e.0, e.1, refl))) (λ n inside. (let d = told_there mid all n inside in (d.0, d.1))) holds
 
@@ -148,13 +148,13 @@ module _ (K : Shape) (mint : List Output) (few_coins : length mint ≤ 1000000) 
   none_rises old new n inside = none_rose old.misses new.misses n (omega (arith, inside, limits.coordinators, limits.shards))
 
   -- the disks of a ledger that was made have as much room as before
-  pub room_still : (files : List (List FullTx)) (old mid : PlainRack) → AreReady K mint old → AllIn mid → ((n : ℕ) → n < node_count K → SameRoom plain (disk_at old n) (disk_at mid n)) → HaveRoom K mint files old → HaveRoom K mint files mid
+  pub room_still : (files : List (List FullTx)) (old mid : PlainRack) → AreDisksReady K mint old → AllIn mid → ((n : ℕ) → n < node_count K → SameRoom plain (disk_at old n) (disk_at mid n)) → HaveRoomForFiles K mint files old → HaveRoomForFiles K mint files mid
   room_still files old mid ready all rooms ample =
-      more_room K (sound_by all_good) (λ n. limit_at plain (disk_at old n)) (λ n. limit_at plain (disk_at mid n)) files (first_journals K mint)
+      more_room K (sound_by all_good) (λ n. limit_at plain (disk_at old n)) (λ n. limit_at plain (disk_at mid n)) files (mint_journals K mint)
       (λ n inside. (let was = ready.empty n inside in let is = told_there mid all n inside in omega (arith, ap (limit_at plain) was.1, ap (limit_at plain) is.1, rooms n inside was.0 was.1 is.0 is.1))) ample
 
-  module _ (files : List (List FullTx)) (mid new : PlainRack) (shows : Shows plain (disk_at mid) K (genesis_id mint) (first_journals K mint)) (ample : HaveRoom K mint files mid) where
-    ready : ShowsKept plain (disk_at mid) K mint [] (first_journals K mint)
+  module _ (files : List (List FullTx)) (mid new : PlainRack) (shows : Shows plain (disk_at mid) K (genesis_id mint) (mint_journals K mint)) (ample : HaveRoomForFiles K mint files mid) where
+    ready : ShowsKept plain (disk_at mid) K mint [] (mint_journals K mint)
     ready = record { limits = limits; shown = shows; kept = first_kept K mint limits few_coins }
 
     -- its files are run, unless memory runs out
@@ -163,12 +163,12 @@ module _ (K : Shape) (mint : List Output) (few_coins : length mint ≤ 1000000) 
         ⊎ IsLaneFault plain (disk_at mid) (disk_at new) (faults_at mid.misses) (faults_at new.misses) (PieceNext all_good files) (EndsRun all_good files) (PiecesPrepared all_good files) files a
         → a ≡ answers.Memory
     unrun a (inl (inl unopened, back)) =
-        unopened_none plain (disk_at mid) (faults_at mid.misses) (faults_at new.misses) K mint [] (first_journals K mint) ready
-        (ample_rooms K mint [] (first_journals K mint) (λ n. limit_at plain (disk_at mid n)) limits (first_kept K mint limits few_coins) (sound_by all_good) files ample) (none_rises mid new) None a tt unopened
-    unrun a (inl (inr (inl unsound), back)) = absurd (unsound_none plain (disk_at mid) K mint [] (first_journals K mint) ready a unsound)
+        unopened_none plain (disk_at mid) (faults_at mid.misses) (faults_at new.misses) K mint [] (mint_journals K mint) ready
+        (ample_rooms K mint [] (mint_journals K mint) (λ n. limit_at plain (disk_at mid n)) limits (first_kept K mint limits few_coins) (sound_by all_good) files ample) (none_rises mid new) None a tt unopened
+    unrun a (inl (inr (inl unsound), back)) = absurd (unsound_none plain (disk_at mid) K mint [] (mint_journals K mint) ready a unsound)
     unrun a (inl (inr (inr memory), back)) = memory
     unrun a (inr fault) =
-        run_none plain (disk_at mid) (disk_at new) (faults_at mid.misses) (faults_at new.misses) K mint [] (first_journals K mint) ready (none_rises mid new) all_good files ample a fault
+        run_none plain (disk_at mid) (disk_at new) (faults_at mid.misses) (faults_at new.misses) K mint [] (mint_journals K mint) ready (none_rises mid new) all_good files ample a fault
 
 -- ---- a workload's run and audit
 
@@ -181,11 +181,11 @@ module _ (K : Shape) (seed n : ℕ) where
     is_run = record { kept = told.run.grown.kept; waves = told.run.waves }
 
     shows : Shows plain (disk_at rack) K (genesis_id (mint_of seed n)) told.run.exit
-    shows = shown plain (disk_at rack) K (mint_of seed n) (all_of seed n) told.run.exit limits (few seed n small) told.run.grown.kept told.run.disks (told_there K (mint_of seed n) (few seed n small) limits rack all)
+    shows = shown plain (disk_at rack) K (mint_of seed n) (all_submissions seed n) told.run.exit limits (few seed n small) told.run.grown.kept told.run.disks (told_there K (mint_of seed n) (few seed n small) limits rack all)
 
-    has_verdict : (verdict : Verdict) → IsAudited plain (disk_at rack) (mint_of seed n) (all_of seed n) verdict → HasVerdictOf K (mint_of seed n) (all_of seed n) told.run.exit verdict
+    has_verdict : (verdict : Verdict) → IsAudited plain (disk_at rack) (mint_of seed n) (all_submissions seed n) verdict → HasVerdictOf K (mint_of seed n) (all_submissions seed n) told.run.exit verdict
     has_verdict verdict audited =
-        verdict_of plain (disk_at rack) K (mint_of seed n) (all_of seed n) told.run.exit limits (few seed n small) told.run.grown.kept shows (all_of seed n) verdict audited
+        verdict_of plain (disk_at rack) K (mint_of seed n) (all_submissions seed n) told.run.exit limits (few seed n small) told.run.grown.kept shows (all_submissions seed n) verdict audited
 
     idle : AreIdle K told.run.exit
     idle lane low =
@@ -204,7 +204,7 @@ module _ (K : Shape) (seed n : ℕ) where
         bytes_in None = []
         bytes_in (Some c) = c
 
-    pub came_to : (totals : Totals) → IsCheckedSound rack (mint_of seed n) (all_of seed n) totals → CameTo K seed n ran totals
+    pub came_to : (totals : Totals) → IsCheckedSound rack (mint_of seed n) (all_submissions seed n) totals → CameTo K seed n ran totals
     came_to totals audited = record {
       limits = limits;
       exit = told.run.exit;
@@ -214,7 +214,7 @@ module _ (K : Shape) (seed n : ℕ) where
       audited = has_verdict (Sound totals) audited;
     }
 
-    unsound_why : (place : ℕ) (kind : UnsoundKind) → IsAudited plain (disk_at rack) (mint_of seed n) (all_of seed n) (Unsound place kind) → IsUnsoundWorkload K seed n place kind
+    unsound_why : (place : ℕ) (kind : UnsoundKind) → IsAudited plain (disk_at rack) (mint_of seed n) (all_submissions seed n) (Unsound place kind) → IsUnsoundWorkload K seed n place kind
     unsound_why place kind audited =
         let v = has_verdict (Unsound place kind) audited in
         record {
@@ -222,11 +222,11 @@ module _ (K : Shape) (seed n : ℕ) where
           run = is_run;
           audited = v;
           unclean = λ clean.
-              never_unsound K (mint_of seed n) (all_of seed n) told.run.exit limits (kept_journal K (mint_of seed n) limits (few seed n small) (all_of seed n) told.run.exit told.run.grown.kept) told.run.grown.kept v.rows v.journals_are v.ordered idle
-              (idle_law K (mint_of seed n) (all_of seed n) told.run.exit (omega (arith, limits.some_shard)) (omega (arith, limits.some_lane)) clean told.run.grown.kept idle) place kind v.is;
+              never_unsound K (mint_of seed n) (all_submissions seed n) told.run.exit limits (kept_journal K (mint_of seed n) limits (few seed n small) (all_submissions seed n) told.run.exit told.run.grown.kept) told.run.grown.kept v.rows v.journals_are v.ordered idle
+              (idle_law K (mint_of seed n) (all_submissions seed n) told.run.exit (omega (arith, limits.some_shard)) (omega (arith, limits.some_lane)) clean told.run.grown.kept idle) place kind v.is;
         }
 
-    wrong_why : (a : Answer) → IsUnsoundBy (IsAudited plain (disk_at rack) (mint_of seed n) (all_of seed n)) a → WhyNoWorkload K seed n a
+    wrong_why : (a : Answer) → IsUnsoundBy (IsAudited plain (disk_at rack) (mint_of seed n) (all_submissions seed n)) a → WhyNoWorkload K seed n a
     wrong_why answers.Ok is = absurd is
     wrong_why answers.BadWords is = absurd is
     wrong_why (answers.BadInput file at what) is = absurd is
@@ -243,16 +243,16 @@ module _ (K : Shape) (seed n : ℕ) where
     wrong_why (answers.DiskFault k) is = absurd is
     wrong_why answers.Memory is = tt
 
-    pub unchecked_why : (new : PlainRack) (a : Answer) → IsUnchecked rack new (mint_of seed n) (all_of seed n) a → WhyNoWorkload K seed n a
+    pub unchecked_why : (new : PlainRack) (a : Answer) → IsUnchecked rack new (mint_of seed n) (all_submissions seed n) a → WhyNoWorkload K seed n a
     unchecked_why new a (inl wrong) = wrong_why a wrong
     unchecked_why new a (inr (inl unopened)) =
-        memory_why a (unopened_none plain (disk_at rack) (faults_at rack.misses) (faults_at new.misses) K (mint_of seed n) (all_of seed n) told.run.exit
-        (record { limits = limits; shown = shows; kept = told.run.grown.kept }) (idle_rooms K (mint_of seed n) (all_of seed n) told.run.exit (λ k. limit_at plain (disk_at rack k)) limits told.run.grown.kept idle fits)
+        memory_why a (unopened_none plain (disk_at rack) (faults_at rack.misses) (faults_at new.misses) K (mint_of seed n) (all_submissions seed n) told.run.exit
+        (record { limits = limits; shown = shows; kept = told.run.grown.kept }) (idle_rooms K (mint_of seed n) (all_submissions seed n) told.run.exit (λ k. limit_at plain (disk_at rack k)) limits told.run.grown.kept idle fits)
         (none_rises K (mint_of seed n) (few seed n small) limits rack new) (Some (genesis_id (mint_of seed n))) a refl unopened)
     unchecked_why new a (inr (inr memory)) = memory_why a memory
 
   -- what was done is told
-  pub why_done : (written : Type 0) (a : Answer) → WhyNoWorkload K seed n a → IsDone (λ file. ⊥) (λ file. ⊥) written a
+  pub why_done : (written : Type 0) (a : Answer) → WhyNoWorkload K seed n a → IsAnswerToRequest (λ file. ⊥) (λ file. ⊥) written a
   why_done written answers.Ok is = absurd is
   why_done written answers.BadWords is = absurd is
   why_done written (answers.BadInput file at what) is = absurd is

@@ -18,9 +18,9 @@ use Rattle.ledger_laws.proofs.FirstJournals.{first_is, never_empty}
 use Rattle.ledger_laws.proofs.Ledger.{steady}
 use Rattle.run_laws.proofs.Rests.{none_beyond}
 use Rattle.record_log.specs.Held.{OpensTo}
-use Rattle.ledger_init.specs.Made.{HoldsFirst, first_of}
+use Rattle.ledger_init.specs.Made.{HoldsFirst, first_record_of}
 use Rattle.rack_laws.specs.Shown.{Shows, node_count}
-use Rattle.submission_laws.specs.Files.{first_journals}
+use Rattle.submission_laws.specs.Files.{mint_journals}
 
 -- ---- first records are of the grammar
 
@@ -120,17 +120,17 @@ module _ (K : Shape) (mint : List Output) (within : IsWithinLimits K) (few : len
 
   -- ---- a ledger that was just made
 
-  pub first_kept : KeptJournals K mint [] (first_journals K mint)
+  pub first_kept : KeptJournals K mint [] (mint_journals K mint)
   first_kept = record { later = []; history = record { ordered = tt; journals_are = λ n. refl }; kept = tt }
 
   pub first_shown : {D : Type 0} (device : Ghosts D) (before now : ℕ → Option D)
       → ((n : ℕ) → n < node_count K → (d : D) × (before n ≡ Some d) × IsSome (device.content d)) → ((n : ℕ) → n < node_count K → (d : D) × (now n ≡ Some d))
-      → ((n : ℕ) → n < node_count K → HoldsFirst device (first_of K mint n) (before n) (now n)) → Shows device now K (genesis_id mint) (first_journals K mint)
+      → ((n : ℕ) → n < node_count K → HoldsFirst device (first_record_of K mint n) (before n) (now n)) → Shows device now K (genesis_id mint) (mint_journals K mint)
   first_shown device before now was is holds n inside =
       let (old, told, some) = was n inside in
       let (d, here) = is n inside in
       let h = holds n inside old told d here some in
-      let own : first_journals K mint n ≡ first_record K (minted mint) n ∷ [] = first_is K (minted mint) n inside in
-      let opens : OpensTo (reverse (first_journals K mint n)) h.bytes = subst (λ J. OpensTo (reverse J) h.bytes) (sym own) h.opens in
-      let journal_is : IsJournal (header_of K (genesis_id mint) n) (first_journals K mint n) = kept_journal [] (first_journals K mint) first_kept n inside in
+      let own : mint_journals K mint n ≡ first_record K (minted mint) n ∷ [] = first_is K (minted mint) n inside in
+      let opens : OpensTo (reverse (mint_journals K mint n)) h.bytes = subst (λ J. OpensTo (reverse J) h.bytes) (sym own) h.opens in
+      let journal_is : IsJournal (header_of K (genesis_id mint) n) (mint_journals K mint n) = kept_journal [] (mint_journals K mint) first_kept n inside in
       (d, here, (h.bytes, h.told, record { opens = opens; limits = within; journal = journal_is; kind = tt }))

@@ -29,9 +29,9 @@ use Rattle.mem_devices.specs.PlainRacks.{AllIn, IsEmptyAt, disk_at, plain}
 use Rattle.record_log.specs.Bodies.{body_of}
 use Rattle.gate_journal.specs.Rows.{row}
 use Rattle.rack_ledgers.specs.Blank.{IsInUse}
-use Rattle.ledger_init.specs.Made.{node_count, first_of, IsUnmade}
+use Rattle.ledger_init.specs.Made.{node_count, first_record_of, IsUnmade}
 use Rattle.workload.specs.Generator.{coin, coin_value, mint_of, minted_of, joined_of, split_of, join_of}
-use Rattle.gen_command.specs.InMemory.{AreReady, HaveRoom}
+use Rattle.gen_command.specs.InMemory.{AreDisksReady, HaveRoomForFiles}
 use Rattle.gen_command.proofs.FirstShown.{on_length, made_length}
 
 -- ---- the rack
@@ -68,7 +68,7 @@ nothing_there (suc n) has = no_row (body_of has.first) has.rest has.parts
     no_row : (body more : List ℕ) → [] ≡ row body ++ more → ⊥
     no_row body more e = cc
 
-module _ (K : Shape) (mint : List Output) (rack : PlainRack) (ready : AreReady K mint rack) (now : ℕ) where
+module _ (K : Shape) (mint : List Output) (rack : PlainRack) (ready : AreDisksReady K mint rack) (now : ℕ) where
   few_nodes : (n : ℕ) → n < node_count K → n < 80
   few_nodes n inside = omega (arith, inside, ready.limits.coordinators, ready.limits.shards)
 
@@ -113,7 +113,7 @@ module _ (K : Shape) (seed n : ℕ) (small : n ≤ 10000) where
       let few = minted_few in
       omega (arith, sum, few, small)
 
-  first_fits : (node : ℕ) → size_of (first_of K (mint_of seed n) node) + 1 ≤ 4096 + 400 * n
+  first_fits : (node : ℕ) → size_of (first_record_of K (mint_of seed n) node) + 1 ≤ 4096 + 400 * n
   first_fits node = go (nat_lt node K.coordinators)
     where
       go : (b : Bool) → size_of (if b then Start (header_of K (genesis_id (mint_of seed n)) node) else Genesis (header_of K (genesis_id (mint_of seed n)) node) (on_shard K.shards (node - K.coordinators) (genesis_hashes (mint_of seed n)))) + 1 ≤ 4096 + 400 * n
@@ -124,7 +124,7 @@ module _ (K : Shape) (seed n : ℕ) (small : n ≤ 10000) where
           let few = minted_few in
           omega (arith, here, all, few)
 
-  pub are_ready : (rack : PlainRack) → IsWithinLimits K → ((node : ℕ) → node < node_count K → IsEmptyAt rack (4096 + 400 * n) node) → AreReady K (mint_of seed n) rack
+  pub are_ready : (rack : PlainRack) → IsWithinLimits K → ((node : ℕ) → node < node_count K → IsEmptyAt rack (4096 + 400 * n) node) → AreDisksReady K (mint_of seed n) rack
   are_ready rack limits empty = record {
     limits = limits;
     fits = total_fits;
@@ -155,7 +155,7 @@ module _ (K : Shape) (seed n : ℕ) (small : n ≤ 10000) where
       each_small f each k zero = tt
       each_small f each k (suc m) = (each k, each_small f each (k + 1) m)
 
-  pub workload_fits : (rack : PlainRack) → IsWithinLimits K → ((node : ℕ) → node < node_count K → IsEmptyAt rack (4096 + 400 * n) node) → HaveRoom K (mint_of seed n) (files_of seed n) rack
+  pub workload_fits : (rack : PlainRack) → IsWithinLimits K → ((node : ℕ) → node < node_count K → IsEmptyAt rack (4096 + 400 * n) node) → HaveRoomForFiles K (mint_of seed n) (files_of seed n) rack
   workload_fits rack limits empty =
       new_room K (minted (mint_of seed n)) (sound_by all_good) (λ node. limit_at plain (disk_at rack node)) (files_of seed n) limits small_files (omega (arith, all_many, small)) (
         (λ node low. (let e = empty node (omega (arith, low)) in omega (arith, all_many, ap (limit_at plain) e.1, e.3))),

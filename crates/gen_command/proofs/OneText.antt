@@ -18,16 +18,16 @@ use Rattle.printed_lines.specs.declared.report.Report.{Report}
 use Rattle.printed_lines.specs.Reports.{audit_lines}
 use Rattle.printed_lines.specs.Runs.{AreReports, AreAllReports, is_confirmed, is_rejected, count_in}
 use Rattle.submission_laws.specs.Sent.{IsSent}
-use Rattle.submission_laws.specs.Free.{IsConfirmed}
+use Rattle.submission_laws.specs.Free.{IsSubmissionConfirmed}
 use Rattle.workload.specs.Generator.{mint_of, splits_of, joins_of}
-use Rattle.submission_laws.specs.Whole.{left_of, totals_of, IsWhole}
+use Rattle.submission_laws.specs.Whole.{left_of, totals_of, IsWorkloadWhole}
 use Rattle.submission_laws.proofs.Sound.{IsGood, two_sum, splits_sound, joins_sound}
 use Rattle.submission_laws.proofs.Whole.{whole_law}
-use Rattle.gen_command.specs.Generated.{all_good, files_of, all_of, made_for, HasVerdictOf, EndsWorkload, batches_for, clean_text}
+use Rattle.gen_command.specs.Generated.{all_good, files_of, all_submissions, made_for, HasVerdictOf, EndsWorkload, batches_for, clean_text}
 use Rattle.run_command.proofs.Numbers.{lanes_there}
 use Rattle.gen_command.proofs.Refused.{none_in}
 
-module _ (K : Shape) (seed n : ℕ) (X : ℕ → List Record) (all_won : (k j : ℕ) (t : FullTx) (it : IsSent all_good (files_of seed n) k j t) → IsConfirmed K all_good (files_of seed n) (made_for K seed n) X k it.file j t) where
+module _ (K : Shape) (seed n : ℕ) (X : ℕ → List Record) (all_won : (k j : ℕ) (t : FullTx) (it : IsSent all_good (files_of seed n) k j t) → IsSubmissionConfirmed K all_good (files_of seed n) (made_for K seed n) X k it.file j t) where
   abbrev E : ℕ → List Record
   E = made_for K seed n
 
@@ -55,12 +55,12 @@ module _ (K : Shape) (seed n : ℕ) (X : ℕ → List Record) (all_won : (k j : 
       omega (arith, a, b, sum)
   rejected_none (one ∷ two ∷ (three ∷ more)) are = absurd (let c = are.count in omega (arith, c))
 
-module _ (K : Shape) (seed n : ℕ) (limits : IsWithinLimits K) (clean : Clean (mint_of seed n) (all_of seed n)) (X : ℕ → List Record)
-    (kept : KeptJournals K (mint_of seed n) (all_of seed n) X) (waves : Waves K (sound_by all_good) (files_of seed n) (made_for K seed n) X) where
-  whole : IsWhole K seed n X
+module _ (K : Shape) (seed n : ℕ) (limits : IsWithinLimits K) (clean : Clean (mint_of seed n) (all_submissions seed n)) (X : ℕ → List Record)
+    (kept : KeptJournals K (mint_of seed n) (all_submissions seed n) X) (waves : Waves K (sound_by all_good) (files_of seed n) (made_for K seed n) X) where
+  whole : IsWorkloadWhole K seed n X
   whole = whole_law K seed n X limits.some_shard limits.some_lane (lanes_there K limits) clean kept waves
 
-  pub one_text : (summary : Text) → EndsWorkload K seed n X summary → (totals : Totals) → HasVerdictOf K (mint_of seed n) (all_of seed n) X (Sound totals) → summary ++ audit_lines totals ≡ clean_text K seed n
+  pub one_text : (summary : Text) → EndsWorkload K seed n X summary → (totals : Totals) → HasVerdictOf K (mint_of seed n) (all_submissions seed n) X (Sound totals) → summary ++ audit_lines totals ≡ clean_text K seed n
   one_text summary ends totals audited =
       let none : count_in is_rejected ends.all ≡ 0 = rejected_none K seed n X whole.confirmed ends.all ends.are in
       let all : count_in is_confirmed ends.all ≡ n = (let d = ends.decided in omega (arith, d, none)) in

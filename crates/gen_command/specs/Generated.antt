@@ -22,11 +22,11 @@ use Rattle.printed_lines.specs.Runs.{AreAllReports, is_confirmed, is_rejected, c
 use Rattle.printed_lines.specs.Unspent.{IsUnspentCount}
 use Rattle.workload.specs.Generator.{mint_of, minted_of, joined_of}
 use Rattle.submission_laws.specs.Whole.{left_of, totals_of}
-pub use Rattle.submission_laws.specs.Files.{all_good, files_of, all_of, first_journals, made_for}
+pub use Rattle.submission_laws.specs.Files.{all_good, files_of, all_submissions, mint_journals, made_for}
 
 -- these journals are kept, of the workload's mint and transactions, and from `made_for` on they have the waves of its files
 pub record IsWorkloadRun (K : Shape) (seed n : ℕ) (X : ℕ → List Record) : Type 0 where
-  pub kept : KeptJournals K (mint_of seed n) (all_of seed n) X
+  pub kept : KeptJournals K (mint_of seed n) (all_submissions seed n) X
   pub waves : Waves K (sound_by all_good) (files_of seed n) (made_for K seed n) X
 
 -- of the history of journals X an audit with a mint and these transactions has this verdict
@@ -77,9 +77,9 @@ pub record IsWorkloadText (K : Shape) (seed n : ℕ) (text : Text) : Type 0 wher
   pub summary : Text
   pub ends : EndsWorkload K seed n exit summary
   pub totals : Totals
-  pub audited : HasVerdictOf K (mint_of seed n) (all_of seed n) exit (Sound totals)
+  pub audited : HasVerdictOf K (mint_of seed n) (all_submissions seed n) exit (Sound totals)
   pub text_is : text ≡ summary ++ audit_lines totals
-  pub clean : Clean (mint_of seed n) (all_of seed n) → text ≡ clean_text K seed n
+  pub clean : Clean (mint_of seed n) (all_submissions seed n) → text ≡ clean_text K seed n
 
 -- the text of a workload was printed
 abbrev pub PrintsWorkload : (Text → Type 0) → Shape → ℕ → ℕ → Type 0
@@ -91,8 +91,8 @@ PrintsWorkload printed K seed n = (text : Text) × IsWorkloadText K seed n text 
 pub record IsUnsoundWorkload (K : Shape) (seed n place : ℕ) (kind : UnsoundKind) : Type 0 where
   pub exit : ℕ → List Record
   pub run : IsWorkloadRun K seed n exit
-  pub audited : HasVerdictOf K (mint_of seed n) (all_of seed n) exit (Unsound place kind)
-  pub unclean : Clean (mint_of seed n) (all_of seed n) → ⊥
+  pub audited : HasVerdictOf K (mint_of seed n) (all_submissions seed n) exit (Unsound place kind)
+  pub unclean : Clean (mint_of seed n) (all_submissions seed n) → ⊥
 
 -- why a workload was not done: its audit found something wrong, or memory ran out
 abbrev pub WhyNoWorkload : Shape → ℕ → ℕ → Answer → Type 0

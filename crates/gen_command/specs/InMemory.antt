@@ -13,31 +13,31 @@ use Rattle.mem_devices.specs.PlainRacks.{disk_at, plain}
 use Rattle.run_laws.specs.Ample.{Ample}
 use Rattle.submissions.specs.SoundTest.{sound_by}
 use Rattle.rack_laws.specs.Ready.{limit_at}
-use Rattle.ledger_init.specs.Made.{node_count, first_of}
+use Rattle.ledger_init.specs.Made.{node_count, first_record_of}
 use Rattle.audit.specs.declared.verdict.Totals.{Totals}
 use Rattle.audit.specs.declared.verdict.Verdict.TheVariants.{Sound}
 use Rattle.rack_ledgers.specs.Audited.{IsAudited}
-use Rattle.rack_runs.specs.Telling.{IsTold}
+use Rattle.rack_runs.specs.Telling.{IsRunTold}
 use Rattle.file_runs.specs.declared.ran.Ran.{Ran}
 use Rattle.workload.specs.Generator.{mint_of}
 use Rattle.audit_command.specs.Audits.{IsUnsoundBy, WhyUnopened}
 use Rattle.run_command.specs.Told.{IsCountable, numbers_of}
-use Rattle.gen_command.specs.Generated.{all_good, all_of, IsWorkloadRun, HasVerdictOf, EndsWorkload}
-use Rattle.submission_laws.specs.Files.{first_journals}
+use Rattle.gen_command.specs.Generated.{all_good, all_submissions, IsWorkloadRun, HasVerdictOf, EndsWorkload}
+use Rattle.submission_laws.specs.Files.{mint_journals}
 
 -- empty disks, each with room for the first record of its node
-pub record AreReady (K : Shape) (mint : List Output) (rack : PlainRack) : Type 0 where
+pub record AreDisksReady (K : Shape) (mint : List Output) (rack : PlainRack) : Type 0 where
   pub limits : IsWithinLimits K
   pub fits : value_out mint < 2 ^ 64
-  pub empty : (node : ℕ) → node < node_count K → (d : PlainDisk) × (disk_at rack node ≡ Some d) × (d.bytes.items ≡ []) × (size_of (first_of K mint node) + 1 ≤ d.capacity)
+  pub empty : (node : ℕ) → node < node_count K → (d : PlainDisk) × (disk_at rack node ≡ Some d) × (d.bytes.items ≡ []) × (size_of (first_record_of K mint node) + 1 ≤ d.capacity)
 
 -- they have room and stamps for every record that is to come of files
-abbrev pub HaveRoom : Shape → List Output → List (List FullTx) → PlainRack → Type 0
-HaveRoom K mint files rack = Ample K (sound_by all_good) (λ n. limit_at plain (disk_at rack n)) files (first_journals K mint)
+abbrev pub HaveRoomForFiles : Shape → List Output → List (List FullTx) → PlainRack → Type 0
+HaveRoomForFiles K mint files rack = Ample K (sound_by all_good) (λ n. limit_at plain (disk_at rack n)) files (mint_journals K mint)
 
 -- files were run over the ledger that a mint began in memory, and the run tells what it did
 abbrev pub TellsRunOf : Shape → List Output → List (List FullTx) → PlainRack → Ran → Type 0
-TellsRunOf K mint files rack ran = IsTold plain (disk_at rack) all_good files ran K mint [] (first_journals K mint)
+TellsRunOf K mint files rack ran = IsRunTold plain (disk_at rack) all_good files ran K mint [] (mint_journals K mint)
 
 -- what a workload's run and audit tell is so
 pub record CameTo (K : Shape) (seed n : ℕ) (ran : Ran) (totals : Totals) : Type 0 where
@@ -46,7 +46,7 @@ pub record CameTo (K : Shape) (seed n : ℕ) (ran : Ran) (totals : Totals) : Typ
   pub run : IsWorkloadRun K seed n exit
   pub countable : IsCountable ran
   pub ends : EndsWorkload K seed n exit (numbers_of ran)
-  pub audited : HasVerdictOf K (mint_of seed n) (all_of seed n) exit (Sound totals)
+  pub audited : HasVerdictOf K (mint_of seed n) (all_submissions seed n) exit (Sound totals)
 
 -- the ledger of a mint was audited with the transactions that were handed in, and is sound with these totals
 abbrev pub IsCheckedSound : PlainRack → List Output → List FullTx → Totals → Type 0

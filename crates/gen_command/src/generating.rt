@@ -2,9 +2,9 @@
 ghost use Rattle.std.specs.Prelude.{◌≡◌, ◌≤◌, ◌+◌, ◌*◌, ◌<◌, ℕ, length, All, IfOk, IfErr};
 ghost use Rattle.outside.specs.Counts.{Rose};
 ghost use Rattle.cbdc_types.specs.Limits.{IsWithinLimits};
-ghost use Rattle.command_answers.specs.Causes.{IsDone, IsTold, IsWell};
+ghost use Rattle.command_answers.specs.Causes.{IsAnswerToRequest, HasToldCause, IsWell};
 ghost use Rattle.gen_command.specs.Generated.{files_of as files_from, PrintsWorkload, WhyNoWorkload};
-ghost use Rattle.gen_command.specs.InMemory.{AreReady, HaveRoom, TellsRunOf, IsCheckedSound, IsUnchecked, CameTo};
+ghost use Rattle.gen_command.specs.InMemory.{AreDisksReady, HaveRoomForFiles, TellsRunOf, IsCheckedSound, IsUnchecked, CameTo};
 ghost use Rattle.command_answers.specs.Texts.{IsPrinted, IsSilent};
 ghost use Rattle.file_runs.specs.Runs.{joined as all_joined};
 ghost use Rattle.input_files.specs.Limits.{IsShort};
@@ -86,8 +86,8 @@ fn run_files<W: Wait + Threads + Sync, G: Gate + Sync>(
     requires all { AllIn rack.old }
     requires few { length mint ≤ 1000000 }
     requires short { All (λ txs. All IsShort txs) clients.now }
-    requires ready { AreReady shape.now mint rack.old }
-    requires room { HaveRoom shape.now mint clients.now rack.old }
+    requires ready { AreDisksReady shape.now mint rack.old }
+    requires room { HaveRoomForFiles shape.now mint clients.now rack.old }
     ensures did { IfOk result (TellsRunOf shape.now mint clients.now rack.new) }
     ensures why { IfErr result (λ e. e ≡ Answer.Memory) }
     ensures back { AllIn rack.new }
@@ -188,9 +188,9 @@ pub fn generated<W: Wait + Threads + Sync, O: Sink, G: Gate + Sync>(
     gate: &G,
 ) -> Answer
     requires { count ≤ 10000 }
-    ensures cause { IsDone (λ file. ⊥) (λ file. ⊥) (Rose (O.count out.old) (O.count out.new)) result }
+    ensures cause { IsAnswerToRequest (λ file. ⊥) (λ file. ⊥) (Rose (O.count out.old) (O.count out.new)) result }
     ensures did { IsWell result → PrintsWorkload (IsPrinted (O.taken out.old) (O.taken out.new) result) shape.now seed count }
-    ensures why { IsTold (WhyNoWorkload shape.now seed count) result }
+    ensures why { HasToldCause (WhyNoWorkload shape.now seed count) result }
     ensures silent { IsSilent (O.taken out.old) (O.taken out.new) result }
     ensures written_later { O.count out.old ≤ O.count out.new }
 {

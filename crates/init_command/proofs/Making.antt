@@ -8,7 +8,7 @@ use Rattle.cbdc_model.specs.Coins.{Output, genesis_id}
 use Rattle.cbdc_model.specs.Clean.{value_out}
 use Rattle.requests.specs.declared.FileWord.{FileWord}
 use Rattle.input_files.specs.Contents.{mint_of_file}
-use Rattle.ledger_init.specs.Made.{MayBeMade, HasPlaceFor, HoldsFirst, first_of, node_count}
+use Rattle.ledger_init.specs.Made.{MayBeMade, HasPlaceFor, HoldsFirst, first_record_of, node_count}
 use Rattle.ledger_init.specs.declared.making.Made.{Made}
 use Rattle.line_text.specs.Lines.{Text, init_text}
 use Rattle.cbdc_model.specs.History.{minted}
@@ -16,13 +16,13 @@ use Rattle.record_log.specs.Held.{OpensTo}
 use Rattle.rack_ledgers.specs.Racked.{SameRoom}
 use Rattle.ledger_laws.proofs.FirstJournals.{first_is}
 use Rattle.init_command.specs.Outcomes.{DidInit}
-use Rattle.submission_laws.specs.Files.{first_journals}
+use Rattle.submission_laws.specs.Files.{mint_journals}
 
 module _ {D : Type 0} (files : Text → Option (List ℕ)) (device : Ghosts D) (before now : ℕ → Option D) (shape : Shape) (file : FileWord) (mint : List Output)
     (read : Tells (files file.name.now) (λ c. mint_of_file c ≡ Ok mint)) where
   pub made_did : {E : Type 0} (r : Result Made E) → IfOk r (λ m. (m.coins ≡ length mint) × (m.total ≡ value_out mint) × (m.genesis ≡ genesis_id mint)) → OnOk r (MayBeMade shape mint device before)
       → OnOk r ((n : ℕ) → n < node_count shape → HasPlaceFor shape mint device before n)
-      → OnOk r ((n : ℕ) → n < node_count shape → HoldsFirst device (first_of shape mint n) (before n) (now n))
+      → OnOk r ((n : ℕ) → n < node_count shape → HoldsFirst device (first_record_of shape mint n) (before n) (now n))
       → OnOk r ((n : ℕ) → n < node_count shape → SameRoom device (before n) (now n)) → ((n : ℕ) → node_count shape ≤ n → now n ≡ before n)
       → IfOk r (λ m. DidInit files device before now (λ text. init_text m.coins m.total m.genesis ≡ text) shape file)
   made_did (Ok m) made was places holds rooms outside = record {
@@ -33,7 +33,7 @@ module _ {D : Type 0} (files : Text → Option (List ℕ)) (device : Ghosts D) (
     holds = holds;
     opens = λ n lt was told d held some c left.
         let h = holds n lt was told d held some in
-        subst (λ bytes. OpensTo (reverse (first_journals shape mint n)) bytes) (sym (h.durable c left))
+        subst (λ bytes. OpensTo (reverse (mint_journals shape mint n)) bytes) (sym (h.durable c left))
         (subst (λ J. OpensTo (reverse J) h.bytes) (sym (first_is shape (minted mint) n lt)) h.opens);
     rooms = rooms;
     outside = outside;

@@ -10,7 +10,7 @@ use Rattle.cbdc_model.specs.Records.{Shape}
 use Rattle.cbdc_model.specs.Coins.{Output}
 use Rattle.requests.specs.declared.FileWord.{FileWord}
 use Rattle.input_files.specs.Contents.{mint_of_file}
-use Rattle.ledger_init.specs.Made.{IsUnmade, IsLeft}
+use Rattle.ledger_init.specs.Made.{IsUnmade, AreDisksLeft}
 use Rattle.command_answers.specs.Left.{IsBeforeDisks}
 use Rattle.init_command.specs.Outcomes.{InitLeaves}
 
@@ -39,6 +39,6 @@ unmade_same K mint device held before now P (Ok made) un same = tt
 unmade_same K mint device held before now P (Err e) un same = too_much_alone K mint device held before now P e un same
 
 pub unmade_left : {D T : Type 0} (files : Text → Option (List ℕ)) (device : Ghosts D) (before now : ℕ → Option D) (disks_before disks_now : ℕ → ℕ) (shape : Shape) (file : FileWord) (mint : List Output) (P : Type 0) (r : Result T Answer)
-    → Tells (files file.name.now) (λ c. mint_of_file c ≡ Ok mint) → IfErr r (IsLeft shape mint device before now disks_before disks_now) → IfErr r (λ e. P ⊎ InitLeaves files device before now disks_before disks_now shape file e)
+    → Tells (files file.name.now) (λ c. mint_of_file c ≡ Ok mint) → IfErr r (AreDisksLeft shape mint device before now disks_before disks_now) → IfErr r (λ e. P ⊎ InitLeaves files device before now disks_before disks_now shape file e)
 unmade_left files device before now disks_before disks_now shape file mint P (Ok made) read left = tt
 unmade_left files device before now disks_before disks_now shape file mint P (Err e) read left = inr (mint, read, left)

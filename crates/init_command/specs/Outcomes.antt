@@ -10,10 +10,10 @@ use Rattle.cbdc_model.specs.World.{KeptJournals}
 use Rattle.record_log.specs.Held.{OpensTo}
 use Rattle.requests.specs.declared.FileWord.{FileWord}
 use Rattle.input_files.specs.Contents.{mint_of_file, IsNotRead}
-use Rattle.ledger_init.specs.Made.{MayBeMade, HasPlaceFor, HoldsFirst, first_of, node_count, IsUnmade, IsLeft}
+use Rattle.ledger_init.specs.Made.{MayBeMade, HasPlaceFor, HoldsFirst, first_record_of, node_count, IsUnmade, AreDisksLeft}
 use Rattle.printed_lines.specs.Reports.{init_lines}
 use Rattle.rack_ledgers.specs.Racked.{OfTold, SameRoom}
-use Rattle.submission_laws.specs.Files.{first_journals}
+use Rattle.submission_laws.specs.Files.{mint_journals}
 
 -- the file held a mint, no node was in use, each node's disk had the place for its first record and holds it alone, and so does whatever a crash leaves
 -- of one that told its content, and each has as much room as the disk that was in its place, while all other disks are as before; the first records are
@@ -23,12 +23,12 @@ pub record DidInit {D : Type 0} (files : Text → Option (List ℕ)) (device : G
   pub read : Tells (files file.name.now) (λ c. mint_of_file c ≡ Ok mint)
   pub was : MayBeMade shape mint device before
   pub places : (n : ℕ) → n < node_count shape → HasPlaceFor shape mint device before n
-  pub holds : (n : ℕ) → n < node_count shape → HoldsFirst device (first_of shape mint n) (before n) (now n)
+  pub holds : (n : ℕ) → n < node_count shape → HoldsFirst device (first_record_of shape mint n) (before n) (now n)
   pub opens : (n : ℕ) → n < node_count shape
-      → OfTold (before n) (λ was. OfTold (now n) (λ d. IsSome (device.content was) → (c : List ℕ) → device.images d c → OpensTo (reverse (first_journals shape mint n)) c))
+      → OfTold (before n) (λ was. OfTold (now n) (λ d. IsSome (device.content was) → (c : List ℕ) → device.images d c → OpensTo (reverse (mint_journals shape mint n)) c))
   pub rooms : (n : ℕ) → n < node_count shape → SameRoom device (before n) (now n)
   pub outside : (n : ℕ) → node_count shape ≤ n → now n ≡ before n
-  pub kept : KeptJournals shape mint [] (first_journals shape mint)
+  pub kept : KeptJournals shape mint [] (mint_journals shape mint)
   pub prints : printed (init_lines mint)
 
 -- the file holds no mint, or the ledger could not be made of the one that it holds
@@ -40,4 +40,4 @@ WhyNoInit files files_before files_now device disks disks_before disks_now shape
 -- the file holds a mint, whose ledger was not made: all disks are as they were read, or the writing of first records stopped at a node
 abbrev pub InitLeaves : {D : Type 0} → (Text → Option (List ℕ)) → Ghosts D → (ℕ → Option D) → (ℕ → Option D) → (ℕ → ℕ) → (ℕ → ℕ) → Shape → FileWord → Answer → Type 0
 InitLeaves files device before now disks_before disks_now shape file answer =
-    (mint : List Output) × Tells (files file.name.now) (λ c. mint_of_file c ≡ Ok mint) × IsLeft shape mint device before now disks_before disks_now answer
+    (mint : List Output) × Tells (files file.name.now) (λ c. mint_of_file c ≡ Ok mint) × AreDisksLeft shape mint device before now disks_before disks_now answer

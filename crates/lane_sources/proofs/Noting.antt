@@ -15,7 +15,7 @@ use Rattle.submissions.specs.declared.Ruling.{Ruling}
 use Rattle.submissions.specs.declared.Ruling.TheVariants as ruling
 use Rattle.submissions.specs.declared.Checked.{Checked}
 use Rattle.submissions.specs.declared.Judgement.TheVariants.{Refused, Sound}
-use Rattle.lane_sources.specs.Sources.{lanes_of, all_of, left_at, HasComeTo, LeavesBehind, SubmissionAt}
+use Rattle.lane_sources.specs.Sources.{count_of_lanes, all_for_lane, left_at, HasComeTo, LeavesBehind, SubmissionAt}
 use Rattle.lane_sources.proofs.Saying.{come_refused, come_sound, sound_left, refused_left, all_few}
 
 lt_or : (a b : ℕ) → (a < b) ⊎ ((r : ℕ) × (a ≡ b + r))
@@ -43,19 +43,19 @@ there_at (x ∷ xs) (suc at) inside = there_at xs at (omega (arith, inside))
 
 module _ (K : Shape) (verdicts : VerdictsOf) (file : List FullTx) (lane at sent : ℕ) (checked : List Checked) (come : HasComeTo K verdicts file lane at sent checked) (inside : at < length file) where
   pub noted_sound : (id : List ℕ) → SubmissionAt file at (λ t. (id ≡ tx_id t) × IsSound t (verdicts (tx_id t)))
-      → HasComeTo K verdicts file lane (at + lanes_of K) (sent + 1) (checked ++ record { id = id; judgement = Sound lane sent } ∷ [])
+      → HasComeTo K verdicts file lane (at + count_of_lanes K) (sent + 1) (checked ++ record { id = id; judgement = Sound lane sent } ∷ [])
   noted_sound id said = let (t, there) = there_at file at inside in let k = said t there in come_sound K verdicts file lane at sent checked t come there id k.0 k.1
 
   pub noted_refused : (id : List ℕ) (r : Refusal) → SubmissionAt file at (λ t. (id ≡ tx_id t) × IsFirstRefusal t (verdicts (tx_id t)) r)
-      → HasComeTo K verdicts file lane (at + lanes_of K) sent (checked ++ record { id = id; judgement = Refused r } ∷ [])
+      → HasComeTo K verdicts file lane (at + count_of_lanes K) sent (checked ++ record { id = id; judgement = Refused r } ∷ [])
   noted_refused id r said = let (t, there) = there_at file at inside in let k = said t there in come_refused K verdicts file lane at sent checked t come there id r k.0 k.1
 
   -- no more go to the lane than there are
   pub sent_fits : (id : List ℕ) → SubmissionAt file at (λ t. (id ≡ tx_id t) × IsSound t (verdicts (tx_id t))) → sent + 1 ≤ length file
   sent_fits id said =
       let (t, there) = there_at file at inside in
-      let e : length (left_at K verdicts file lane at) ≡ suc (length (left_at K verdicts file lane (at + lanes_of K))) = ap (λ xs. length xs) (sound_left K verdicts file lane at sent checked t come there (said t there).1) in
-      let few : length (all_of K verdicts file lane) ≤ length file = all_few K verdicts file lane (length file) come.within (one_more (lanes_of K) (length file) lane (omega (arith, come.within))) in
+      let e : length (left_at K verdicts file lane at) ≡ suc (length (left_at K verdicts file lane (at + count_of_lanes K))) = ap (λ xs. length xs) (sound_left K verdicts file lane at sent checked t come there (said t there).1) in
+      let few : length (all_for_lane K verdicts file lane) ≤ length file = all_few K verdicts file lane (length file) come.within (one_more (count_of_lanes K) (length file) lane (omega (arith, come.within))) in
       let is = come.sent_is in
       omega (arith, e, few, is)
     where
@@ -79,14 +79,14 @@ ruled_refused verdicts t r why (id, is) e = (id, subst (λ x. IsRuling verdicts 
 
 module _ (K : Shape) (verdicts : VerdictsOf) (file : List FullTx) (lane at sent : ℕ) (checked : List Checked) (t : FullTx) (come : HasComeTo K verdicts file lane at sent checked) (there : slice_get file at ≡ Some t) where
   pub left_some : IsSound t (verdicts (tx_id t)) → 0 < length (left_at K verdicts file lane at)
-  left_some s = let e : length (left_at K verdicts file lane at) ≡ suc (length (left_at K verdicts file lane (at + lanes_of K))) = ap (λ xs. length xs) (sound_left K verdicts file lane at sent checked t come there s) in omega (arith, e)
+  left_some s = let e : length (left_at K verdicts file lane at) ≡ suc (length (left_at K verdicts file lane (at + count_of_lanes K))) = ap (λ xs. length xs) (sound_left K verdicts file lane at sent checked t come there s) in omega (arith, e)
 
   pub leaves : (r : Ruled) → IsRuled verdicts t r → LeavesBehind K verdicts file lane at r.ruling
   leaves r ruled = go r.ruling ruled.1
     where
       go : (x : Ruling) → IsRuling verdicts t x → LeavesBehind K verdicts file lane at x
       go (ruling.Refused why) is = refused_left K verdicts file lane at sent checked t come there why is
-      go (ruling.Sound own) is = sound_left K verdicts file lane at sent checked t come there is.0 ∙ ap (λ k. k ∷ left_at K verdicts file lane (at + lanes_of K)) (sym is.1)
+      go (ruling.Sound own) is = sound_left K verdicts file lane at sent checked t come there is.0 ∙ ap (λ k. k ∷ left_at K verdicts file lane (at + count_of_lanes K)) (sym is.1)
 
 -- the same by what is said of the submission at the place, which there is
 module _ (K : Shape) (verdicts : VerdictsOf) (file : List FullTx) (lane at sent : ℕ) (checked : List Checked) (come : HasComeTo K verdicts file lane at sent checked) (inside : at < length file) where

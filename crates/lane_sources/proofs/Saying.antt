@@ -13,7 +13,7 @@ use Rattle.submissions.specs.Checks.{VerdictsOf, TellsSound, IsSaid}
 use Rattle.submissions.specs.declared.Checked.{Checked}
 use Rattle.submissions.specs.declared.Judgement.TheVariants.{Refused, Sound}
 use Rattle.submissions.proofs.Placing.{snoc_get}
-use Rattle.lane_sources.specs.Sources.{lanes_of, all_of, left_at, AreSaid, HasComeTo}
+use Rattle.lane_sources.specs.Sources.{count_of_lanes, all_for_lane, left_at, AreSaid, HasComeTo}
 use Rattle.lane_sources.proofs.Leaving.{left_begin, left_sound, left_refused, left_split, left_few, mod_of, zero_add}
 
 some_same : {A : Type 0} (x y : A) → Some x ≡ Some y → x ≡ y
@@ -30,7 +30,7 @@ module _ (K : Shape) (verdicts : VerdictsOf) (file : List FullTx) where
       go false e = e
       go true e = absurd ((is_sound_law verdicts t).0 e r f.applies)
 
-  pub come_begin : (lane : ℕ) → lane < lanes_of K → HasComeTo K verdicts file lane lane 0 []
+  pub come_begin : (lane : ℕ) → lane < count_of_lanes K → HasComeTo K verdicts file lane lane 0 []
   come_begin lane within = record {
     within = within;
     at_is = omega arith;
@@ -42,11 +42,11 @@ module _ (K : Shape) (verdicts : VerdictsOf) (file : List FullTx) where
     abbrev q : ℕ
     q = length checked
 
-    here : slice_get file (lane + lanes_of K * q) ≡ Some t
+    here : slice_get file (lane + count_of_lanes K * q) ≡ Some t
     here = subst (λ j. slice_get file j ≡ Some t) come.at_is there
 
-    next_at : (c : Checked) → at + lanes_of K ≡ lane + lanes_of K * length (checked ++ c ∷ [])
-    next_at c = ap (λ j. j + lanes_of K) come.at_is ∙ more (lanes_of K) q ∙ ap (λ m. lane + lanes_of K * m) (sym (length-append checked (c ∷ [])))
+    next_at : (c : Checked) → at + count_of_lanes K ≡ lane + count_of_lanes K * length (checked ++ c ∷ [])
+    next_at c = ap (λ j. j + count_of_lanes K) come.at_is ∙ more (count_of_lanes K) q ∙ ap (λ m. lane + count_of_lanes K * m) (sym (length-append checked (c ∷ [])))
       where
         more : (n m : ℕ) → lane + n * m + n ≡ lane + n * (m + 1)
         more n m = omega arith
@@ -56,20 +56,20 @@ module _ (K : Shape) (verdicts : VerdictsOf) (file : List FullTx) where
     said_more c one i d u has at_i = elim (snoc_get checked c d i has) [
       | inl h ↦ come.said i d u h at_i
       | inr (i_is, d_is) ↦
-          let place : lane + lanes_of K * i ≡ at = ap (λ m. lane + lanes_of K * m) i_is ∙ sym come.at_is in
+          let place : lane + count_of_lanes K * i ≡ at = ap (λ m. lane + count_of_lanes K * m) i_is ∙ sym come.at_is in
           let same : u ≡ t = some_same u t (sym at_i ∙ (ap (λ j. slice_get file j) place ∙ there)) in
           let a = subst (λ m. (c.id ≡ tx_id t) × IsSaid K verdicts file m t c.judgement) (sym place) one in
-          let b = subst (λ v. (c.id ≡ tx_id v) × IsSaid K verdicts file (lane + lanes_of K * i) v c.judgement) (sym same) a in
-          subst (λ e. (e.id ≡ tx_id u) × IsSaid K verdicts file (lane + lanes_of K * i) u e.judgement) (sym d_is) b
+          let b = subst (λ v. (c.id ≡ tx_id v) × IsSaid K verdicts file (lane + count_of_lanes K * i) v c.judgement) (sym same) a in
+          subst (λ e. (e.id ≡ tx_id u) × IsSaid K verdicts file (lane + count_of_lanes K * i) u e.judgement) (sym d_is) b
     ]
 
-    pub refused_left : (r : Refusal) → IsFirstRefusal t (verdicts (tx_id t)) r → left_at K verdicts file lane at ≡ left_at K verdicts file lane (at + lanes_of K)
-    refused_left r f = subst (λ j. left_at K verdicts file lane j ≡ left_at K verdicts file lane (j + lanes_of K)) (sym come.at_is) (left_refused K (sound_by verdicts) file lane come.within q t here (is_refused t r f))
+    pub refused_left : (r : Refusal) → IsFirstRefusal t (verdicts (tx_id t)) r → left_at K verdicts file lane at ≡ left_at K verdicts file lane (at + count_of_lanes K)
+    refused_left r f = subst (λ j. left_at K verdicts file lane j ≡ left_at K verdicts file lane (j + count_of_lanes K)) (sym come.at_is) (left_refused K (sound_by verdicts) file lane come.within q t here (is_refused t r f))
 
-    pub sound_left : IsSound t (verdicts (tx_id t)) → left_at K verdicts file lane at ≡ compact t ∷ left_at K verdicts file lane (at + lanes_of K)
-    sound_left s = subst (λ j. left_at K verdicts file lane j ≡ compact t ∷ left_at K verdicts file lane (j + lanes_of K)) (sym come.at_is) (left_sound K (sound_by verdicts) file lane come.within q t here (is_sound t s))
+    pub sound_left : IsSound t (verdicts (tx_id t)) → left_at K verdicts file lane at ≡ compact t ∷ left_at K verdicts file lane (at + count_of_lanes K)
+    sound_left s = subst (λ j. left_at K verdicts file lane j ≡ compact t ∷ left_at K verdicts file lane (j + count_of_lanes K)) (sym come.at_is) (left_sound K (sound_by verdicts) file lane come.within q t here (is_sound t s))
 
-    pub come_refused : (id : List ℕ) (r : Refusal) → id ≡ tx_id t → IsFirstRefusal t (verdicts (tx_id t)) r → HasComeTo K verdicts file lane (at + lanes_of K) sent (checked ++ record { id = id; judgement = Refused r } ∷ [])
+    pub come_refused : (id : List ℕ) (r : Refusal) → id ≡ tx_id t → IsFirstRefusal t (verdicts (tx_id t)) r → HasComeTo K verdicts file lane (at + count_of_lanes K) sent (checked ++ record { id = id; judgement = Refused r } ∷ [])
     come_refused id r is f = record {
       within = come.within;
       at_is = next_at (record { id = id; judgement = Refused r });
@@ -84,22 +84,22 @@ module _ (K : Shape) (verdicts : VerdictsOf) (file : List FullTx) where
         by : sent ≡ length (sent_to K (sound_by verdicts) (take at file) lane)
         by =
             let inside : at ≤ length file = (let lt = slice_get_within file at t there in omega (arith, lt)) in
-            let both : length (all_of K verdicts file lane) ≡ length (sent_to K (sound_by verdicts) (take at file) lane) + length (left_at K verdicts file lane at) =
+            let both : length (all_for_lane K verdicts file lane) ≡ length (sent_to K (sound_by verdicts) (take at file) lane) + length (left_at K verdicts file lane at) =
             ap (λ xs. length xs) (left_split K (sound_by verdicts) file lane come.within at inside) ∙ length-append (sent_to K (sound_by verdicts) (take at file) lane) (left_at K verdicts file lane at) in
             let is = come.sent_is in omega (arith, both, is)
 
-    at_lane : lane ≡ at % lanes_of K
-    at_lane = sym (ap (λ j. j % lanes_of K) come.at_is ∙ mod_of (lanes_of K) q lane come.within)
+    at_lane : lane ≡ at % count_of_lanes K
+    at_lane = sym (ap (λ j. j % count_of_lanes K) come.at_is ∙ mod_of (count_of_lanes K) q lane come.within)
 
-    pub come_sound : (id : List ℕ) → id ≡ tx_id t → IsSound t (verdicts (tx_id t)) → HasComeTo K verdicts file lane (at + lanes_of K) (sent + 1) (checked ++ record { id = id; judgement = Sound lane sent } ∷ [])
+    pub come_sound : (id : List ℕ) → id ≡ tx_id t → IsSound t (verdicts (tx_id t)) → HasComeTo K verdicts file lane (at + count_of_lanes K) (sent + 1) (checked ++ record { id = id; judgement = Sound lane sent } ∷ [])
     come_sound id is s = record {
       within = come.within;
       at_is = next_at (record { id = id; judgement = Sound lane sent });
-      sent_is = (let e : length (left_at K verdicts file lane at) ≡ suc (length (left_at K verdicts file lane (at + lanes_of K))) = ap (λ xs. length xs) (sound_left s) in let all = come.sent_is in omega (arith, e, all));
+      sent_is = (let e : length (left_at K verdicts file lane at) ≡ suc (length (left_at K verdicts file lane (at + count_of_lanes K))) = ap (λ xs. length xs) (sound_left s) in let all = come.sent_is in omega (arith, e, all));
       said = said_more (record { id = id; judgement = Sound lane sent }) (is, (s, at_lane, sent_before));
     }
 
   -- all that goes to a lane is few
-  pub all_few : (lane m : ℕ) → lane < lanes_of K → length file ≤ lane + lanes_of K * m → length (all_of K verdicts file lane) ≤ m
+  pub all_few : (lane m : ℕ) → lane < count_of_lanes K → length file ≤ lane + count_of_lanes K * m → length (all_for_lane K verdicts file lane) ≤ m
   all_few lane m within few = subst (λ xs. length xs ≤ m) (sym (left_begin K (sound_by verdicts) file lane within))
       (subst (λ j. length (left_at K verdicts file lane j) ≤ m) (omega arith) (left_few K (sound_by verdicts) file lane within m 0 (omega (arith, few))))

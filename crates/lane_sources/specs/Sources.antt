@@ -21,43 +21,43 @@ pub record SourceOf : Type 0 where
   pub checked : List Checked
 
 -- how many lanes there are
-abbrev pub lanes_of : Shape → ℕ
-lanes_of K = K.coordinators * K.lanes
+abbrev pub count_of_lanes : Shape → ℕ
+count_of_lanes K = K.coordinators * K.lanes
 
 -- what a file sends to a lane, and what of it comes from the submissions from this place on
-abbrev pub all_of : Shape → VerdictsOf → List FullTx → ℕ → List Compact
-all_of K verdicts file lane = sent_to K (sound_by verdicts) file lane
+abbrev pub all_for_lane : Shape → VerdictsOf → List FullTx → ℕ → List Compact
+all_for_lane K verdicts file lane = sent_to K (sound_by verdicts) file lane
 
 abbrev pub left_at : Shape → VerdictsOf → List FullTx → ℕ → ℕ → List Compact
-left_at K verdicts file lane at = map compact (filter (sound_by verdicts) (share (lanes_of K) lane at (drop at file)))
+left_at K verdicts file lane at = map compact (filter (sound_by verdicts) (share (count_of_lanes K) lane at (drop at file)))
 
 -- what was said of the first submissions of a lane, in order: the i-th stands at place lane + i * lanes
 abbrev pub AreSaid : Shape → VerdictsOf → List FullTx → ℕ → List Checked → Type 0
-AreSaid K verdicts file lane checked = (i : ℕ) (c : Checked) (t : FullTx) → slice_get checked i ≡ Some c → slice_get file (lane + lanes_of K * i) ≡ Some t
-    → (c.id ≡ tx_id t) × IsSaid K verdicts file (lane + lanes_of K * i) t c.judgement
+AreSaid K verdicts file lane checked = (i : ℕ) (c : Checked) (t : FullTx) → slice_get checked i ≡ Some c → slice_get file (lane + count_of_lanes K * i) ≡ Some t
+    → (c.id ≡ tx_id t) × IsSaid K verdicts file (lane + count_of_lanes K * i) t c.judgement
 
 -- it has come to this place: it said so much of the submissions before it, `sent` of which are sound
 pub record HasComeTo (K : Shape) (verdicts : VerdictsOf) (file : List FullTx) (lane at sent : ℕ) (checked : List Checked) : Type 0 where
-  pub within : lane < lanes_of K
-  pub at_is : at ≡ lane + lanes_of K * length checked
-  pub sent_is : sent + length (left_at K verdicts file lane at) ≡ length (all_of K verdicts file lane)
+  pub within : lane < count_of_lanes K
+  pub at_is : at ≡ lane + count_of_lanes K * length checked
+  pub sent_is : sent + length (left_at K verdicts file lane at) ≡ length (all_for_lane K verdicts file lane)
   pub said : AreSaid K verdicts file lane checked
 
 -- and there is room for what it says of the others
 pub record IsSource (K : Shape) (verdicts : VerdictsOf) (file : List FullTx) (lane at sent : ℕ) (checked : Vec Checked) : Type 0 where
   pub come : HasComeTo K verdicts file lane at sent checked.items
-  pub room : length file ≤ lanes_of K * vec_capacity checked
+  pub room : length file ≤ count_of_lanes K * vec_capacity checked
 
 -- so it is of the submission at a place, where there is one
 abbrev pub SubmissionAt : List FullTx → ℕ → (FullTx → Type 0) → Type 0
 SubmissionAt file at P = (t : FullTx) → slice_get file at ≡ Some t → P t
 
 -- each source is its lane's, by its place, and has come to the end
-abbrev pub IsFinished : List FullTx → ℕ → SourceOf → Type 0
-IsFinished file lane s = (s.lane ≡ lane) × (length file ≤ s.at)
+abbrev pub IsSourceFinished : List FullTx → ℕ → SourceOf → Type 0
+IsSourceFinished file lane s = (s.lane ≡ lane) × (length file ≤ s.at)
 
 abbrev pub AreFinished : List FullTx → List SourceOf → Type 0
-AreFinished file sources = (lane : ℕ) (s : SourceOf) → slice_get sources lane ≡ Some s → IsFinished file lane s
+AreFinished file sources = (lane : ℕ) (s : SourceOf) → slice_get sources lane ≡ Some s → IsSourceFinished file lane s
 
 -- what contracts see of a ruling: the place of the submission, and what is made of it
 pub record RuledOf : Type 0 where
@@ -70,5 +70,5 @@ IsRuledAt verdicts file place ruled = SubmissionAt file place (λ t. IsRuled ver
 
 -- what is left from a place on, by what is made of the submission there: its compact form, where it is sound, and what is left behind it
 abbrev pub LeavesBehind : Shape → VerdictsOf → List FullTx → ℕ → ℕ → Ruling → Type 0
-LeavesBehind K verdicts file lane at (Refused why) = left_at K verdicts file lane at ≡ left_at K verdicts file lane (at + lanes_of K)
-LeavesBehind K verdicts file lane at (Sound own) = left_at K verdicts file lane at ≡ own ∷ left_at K verdicts file lane (at + lanes_of K)
+LeavesBehind K verdicts file lane at (Refused why) = left_at K verdicts file lane at ≡ left_at K verdicts file lane (at + count_of_lanes K)
+LeavesBehind K verdicts file lane at (Sound own) = left_at K verdicts file lane at ≡ own ∷ left_at K verdicts file lane (at + count_of_lanes K)

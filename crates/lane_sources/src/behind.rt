@@ -2,7 +2,7 @@
 ghost use Rattle.std.specs.Prelude.{◌≡◌, ◌≤◌, [], length};
 ghost use Rattle.std.specs.Vec.{vec_capacity};
 ghost use Rattle.submissions.specs.Checks.{AreChecked};
-ghost use Rattle.lane_sources.specs.Sources.{lanes_of, AreFinished};
+ghost use Rattle.lane_sources.specs.Sources.{count_of_lanes, AreFinished};
 
 use crate::file::{Deals, FileOf};
 use crate::source::LaneSource;
@@ -12,7 +12,7 @@ use submissions::Checked;
 
 // Each source comes to the end of the file, the one at each place for the lane of that number.
 fn finish_all<'a, W: Wait, V: Verifier, F: Deals>(sources: &mut [LaneSource<'a, W, V, F>])
-    requires { length sources.old ≡ lanes_of F.shape }
+    requires { length sources.old ≡ count_of_lanes F.shape }
     ensures count { length sources.new ≡ length sources.old }
     ensures end { AreFinished F.file sources.new }
 {
@@ -28,7 +28,7 @@ pub fn checks_of<'a, W: Wait, V: Verifier, F: Deals>(
     sources: &mut [LaneSource<'a, W, V, F>],
     checked: &mut Vec<Checked>,
 )
-    requires lanes { length sources.old ≡ lanes_of F.shape }
+    requires lanes { length sources.old ≡ count_of_lanes F.shape }
     requires empty { checked.old.items ≡ [] }
     requires room { length F.file ≤ vec_capacity checked.old }
     ensures { AreChecked F.shape F.verdicts F.file checked.new.items }

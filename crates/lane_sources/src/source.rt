@@ -3,7 +3,7 @@ ghost use Rattle.std.specs.Prelude.{◌≡◌, ◌+◌, ◌*◌, ◌<◌, ◌≤
 ghost use Rattle.cbdc_model.specs.Coins.{FullTx as Full, tx_id as spec_id};
 ghost use Rattle.sentinel.specs.FirstRefusal.{IsSound, IsFirstRefusal};
 ghost use Rattle.submissions.specs.Checks.{IsSaid, IsRuled};
-ghost use Rattle.lane_sources.specs.Sources.{lanes_of, all_of, left_at, LeavesBehind, SubmissionAt};
+ghost use Rattle.lane_sources.specs.Sources.{count_of_lanes, all_for_lane, left_at, LeavesBehind, SubmissionAt};
 
 use crate::ahead::Ahead;
 use crate::file::{Deals, FileOf};
@@ -71,7 +71,7 @@ impl<'a, W: Wait, V: Verifier, F: Deals> LaneSource<'a, W, V, F> {
         requires inside { self.old.at < length F.file }
         requires sound { SubmissionAt F.file self.old.at (λ t. (id ≡ spec_id t) × IsSound t (F.verdicts (spec_id t))) }
         ensures lane { self.new.lane ≡ self.old.lane }
-        ensures at { self.new.at ≡ self.old.at + lanes_of F.shape }
+        ensures at { self.new.at ≡ self.old.at + count_of_lanes F.shape }
         ensures given { self.new.given ≡ self.old.given }
     {
         let file = self.file;
@@ -90,7 +90,7 @@ impl<'a, W: Wait, V: Verifier, F: Deals> LaneSource<'a, W, V, F> {
         requires inside { self.old.at < length F.file }
         requires refused { SubmissionAt F.file self.old.at (λ t. (id ≡ spec_id t) × IsFirstRefusal t (F.verdicts (spec_id t)) refusal) }
         ensures lane { self.new.lane ≡ self.old.lane }
-        ensures at { self.new.at ≡ self.old.at + lanes_of F.shape }
+        ensures at { self.new.at ≡ self.old.at + count_of_lanes F.shape }
         ensures given { self.new.given ≡ self.old.given }
     {
         let file = self.file;
@@ -117,7 +117,7 @@ impl<'a, W: Wait, V: Verifier, F: Deals> LaneSource<'a, W, V, F> {
     fn take_next(&mut self, alloc: Global) -> Result<(), AllocError>
         requires { self.old.at < length F.file }
         ensures lane { self.new.lane ≡ self.old.lane }
-        ensures at { OnOk result (self.new.at ≡ self.old.at + lanes_of F.shape) }
+        ensures at { OnOk result (self.new.at ≡ self.old.at + count_of_lanes F.shape) }
         ensures given { OnOk result (self.new.given ++ left_at F.shape F.verdicts F.file self.old.lane self.new.at ≡ self.old.given ++ left_at F.shape F.verdicts F.file self.old.lane self.old.at) }
         ensures one { OnOk result (length self.new.given ≤ length self.old.given + 1) }
         ensures left { IfErr result (λ _. 0 < length (left_at F.shape F.verdicts F.file self.old.lane self.old.at)) }
@@ -137,7 +137,7 @@ impl<'a, W: Wait, V: Verifier, F: Deals> LaneSource<'a, W, V, F> {
     fn judge_next(&mut self)
         requires { self.old.at < length F.file }
         ensures lane { self.new.lane ≡ self.old.lane }
-        ensures at { self.new.at ≡ self.old.at + lanes_of F.shape }
+        ensures at { self.new.at ≡ self.old.at + count_of_lanes F.shape }
     {
         let file = self.file;
         let Judged { id, refusal } = judge(&file.txs()[self.at], file.verifier());
@@ -149,7 +149,7 @@ impl<'a, W: Wait, V: Verifier, F: Deals> LaneSource<'a, W, V, F> {
 
     // Begins anew, for this lane.
     fn start(&mut self, lane: usize)
-        requires { lane < lanes_of F.shape }
+        requires { lane < count_of_lanes F.shape }
         ensures lane { self.new.lane ≡ lane }
         ensures at { self.new.at ≡ lane }
     {
@@ -162,7 +162,7 @@ impl<'a, W: Wait, V: Verifier, F: Deals> LaneSource<'a, W, V, F> {
 
     // How many submissions go to a lane at most.
     fn few(&self) -> usize
-        ensures { length (all_of F.shape F.verdicts F.file self.now.lane) ≤ result }
+        ensures { length (all_for_lane F.shape F.verdicts F.file self.now.lane) ≤ result }
     {
         let file = self.file;
         let from_its_first = file.txs().len().saturating_sub(self.lane);
@@ -171,7 +171,7 @@ impl<'a, W: Wait, V: Verifier, F: Deals> LaneSource<'a, W, V, F> {
 
     /// Comes to the end of the file, as the source of this lane: what is left to be said is said. It takes no memory.
     pub fn finish(&mut self, lane: usize)
-        requires { lane < lanes_of F.shape }
+        requires { lane < count_of_lanes F.shape }
         ensures lane { self.new.lane ≡ lane }
         ensures end { length F.file ≤ self.new.at }
     {
@@ -187,15 +187,15 @@ impl<'a, W: Wait, V: Verifier, F: Deals> LaneSource<'a, W, V, F> {
 
     /// What was said of the lane's submission of this number, from 0.
     pub fn said(&self, index: usize) -> Checked
-        requires { self.now.lane + lanes_of F.shape * index < self.now.at }
-        ensures { SubmissionAt F.file (self.now.lane + lanes_of F.shape * index) (λ t. (result.id ≡ spec_id t) × IsSaid F.shape F.verdicts F.file (self.now.lane + lanes_of F.shape * index) t result.judgement) }
+        requires { self.now.lane + count_of_lanes F.shape * index < self.now.at }
+        ensures { SubmissionAt F.file (self.now.lane + count_of_lanes F.shape * index) (λ t. (result.id ≡ spec_id t) × IsSaid F.shape F.verdicts F.file (self.now.lane + count_of_lanes F.shape * index) t result.judgement) }
     {
         self.checked[index]
     }
 }
 
 impl<'a, W: Wait, V: Verifier, F: Deals> Source for LaneSource<'a, W, V, F> {
-    ghost all = { λ s. all_of F.shape F.verdicts F.file s.lane };
+    ghost all = { λ s. all_for_lane F.shape F.verdicts F.file s.lane };
 
     ghost rest = { λ s. left_at F.shape F.verdicts F.file s.lane s.at };
 

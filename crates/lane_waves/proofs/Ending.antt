@@ -30,17 +30,17 @@ use Rattle.port_sets.specs.declared.tables.Locks.{Ghosts}
 use Rattle.port_sets.proofs.Seating.{seen_here}
 use Rattle.thread_laws.specs.Closing.{IsHand}
 use Rattle.thread_laws.specs.Running.{LaneRan}
-use Rattle.thread_laws.specs.Whole.{HasEnded}
-use Rattle.lane_waves.specs.Held.{AreOfLane, Begins, Ends, HasRun, log_of, logs_of, shards_of}
+use Rattle.thread_laws.specs.Whole.{LaneHasEnded}
+use Rattle.lane_waves.specs.Held.{TakeCallsOf, RunBegins, RunEnds, HasRun, log_of, logs_of, shards_of}
 use Rattle.lane_waves.specs.Ports.{seats_of}
 use Rattle.lane_waves.specs.declared.runs.LaneRun.{LaneRun}
 use Rattle.lane_waves.proofs.Returning.{all_home}
 use Rattle.lane_waves.specs.Among.{hands_at}
-use Rattle.lane_waves.specs.Lanes.{IsReady}
+use Rattle.lane_waves.specs.Lanes.{IsLaneReady}
 use Rattle.lane_waves.specs.Places.{BothFrom}
-use Rattle.lane_waves.specs.Deals.{AreOpen, log_at, shard_at, IsSetUp, HaveSeats}
+use Rattle.lane_waves.specs.Deals.{AreLocksOpen, log_at, shard_at, IsSetUp, HaveSeats}
 use Rattle.lane_waves.specs.declared.dealing.Table.{Table}
-use Rattle.lane_waves.specs.Gathers.{AreSeats, AllOver, AllOf, AllGave, IsEnd, MayKeep, shard_seats, home_seat}
+use Rattle.lane_waves.specs.Gathers.{AreSeats, AllOver, AllOf, AllGave, IsLaneEnd, MayKeep, shard_seats, home_seat}
 use Rattle.lane_waves.proofs.Places.{Down, down, up}
 use Rattle.lane_waves.proofs.Keeping.{reported_many}
 use Rattle.lane_waves.proofs.Homes.{hand_among, down_at, HomesHold, SeatsAt}
@@ -59,7 +59,7 @@ past_end sight (x ∷ xs) (suc n) le = past_end sight xs n (omega (arith, le))
 
 module _ {W S B : Type 0} {G : Ghosts B} (sight : S → Sight) where
   -- the seat of a lane's port to a shard
-  port_sits : (lane : ℕ) (ps : List (ShardSeat W S B G)) (rows : List (Vec (Seat (SharedShard S)))) → AreSeats (seats_of ps) rows → AreOfLane sight lane ps → (s : ℕ) → s < length ps
+  port_sits : (lane : ℕ) (ps : List (ShardSeat W S B G)) (rows : List (Vec (Seat (SharedShard S)))) → AreSeats (seats_of ps) rows → TakeCallsOf sight lane ps → (s : ℕ) → s < length ps
       → (h : Hand) × IsHand h (hands_at rows s) × (h.lane ≡ lane) × ((f : Sight) → (v : Sight) × (sight_at (λ p. seat_sight (shard_sight sight) p.seat) ps s ≡ viewed v h))
   port_sits lane [] rows a l s lt = absurd (let z : s < 0 = lt in omega (arith, z))
   port_sits lane (p ∷ ps) [] a l s lt = absurd a
@@ -67,13 +67,13 @@ module _ {W S B : Type 0} {G : Ghosts B} (sight : S → Sight) where
   port_sits lane (p ∷ ps) (row ∷ rows) a l (suc s) lt = port_sits lane ps rows a.1 (All-tail (λ q. Serves (shard_sight sight) q.guarded.now q.seat lane) p ps l) s (omega (arith, lt))
 
 module _ {W D S B X : Type 0} {G : Ghosts B} (sight : S → Sight) (tables : ℕ → TableId) (K : Shape) where
-  pub ends_zip : (rs qs : List (LaneRun W D S B X G)) → length qs ≡ length rs → ((i : ℕ) (d : LaneRun W D S B X G) → i < length rs → Ends sight tables K (slice_index_or rs i d) (slice_index_or qs i d)) → AllZip (Ends sight tables K) rs qs
+  pub ends_zip : (rs qs : List (LaneRun W D S B X G)) → length qs ≡ length rs → ((i : ℕ) (d : LaneRun W D S B X G) → i < length rs → RunEnds sight tables K (slice_index_or rs i d) (slice_index_or qs i d)) → AllZip (RunEnds sight tables K) rs qs
   ends_zip [] [] e f = tt
   ends_zip [] (q ∷ qs) e f = absurd (let z = e in omega (arith, z))
   ends_zip (r ∷ rs) [] e f = absurd (let z = e in omega (arith, z))
   ends_zip (r ∷ rs) (q ∷ qs) e f = (f 0 r (omega arith), ends_zip rs qs (let z = e in omega (arith, z)) (λ i d lt. f (suc i) d (omega (arith, lt))))
 
-  pub zip_many : (rs qs : List (LaneRun W D S B X G)) → AllZip (Ends sight tables K) rs qs → length rs ≡ length qs
+  pub zip_many : (rs qs : List (LaneRun W D S B X G)) → AllZip (RunEnds sight tables K) rs qs → length rs ≡ length qs
   zip_many [] [] z = refl
   zip_many [] (q ∷ qs) z = absurd z
   zip_many (r ∷ rs) [] z = absurd z
@@ -91,8 +91,8 @@ module _ {W D S B X : Type 0} {G : Ghosts B} (sight : S → Sight) (tables : ℕ
 
   -- how a lane ended
   ended_of : (lane : ℕ) (x y : LaneOf) (r q : LaneRun W D S B X G) → r.lane ≡ lane → IsSettled K r.lane (log_of sight tables K r) (shards_of sight tables K r) → q.work ≡ r.work
-      → (o : Option (Result LaneReport LaneFault)) → HasRun sight tables K r q o → IsEnd q.work o y
-      → (y.txs ≡ q.work.txs) × HasEnded K lane (log_of sight tables K r) (shards_of sight tables K r) (log_of sight tables K q) (shards_of sight tables K q) x y
+      → (o : Option (Result LaneReport LaneFault)) → HasRun sight tables K r q o → IsLaneEnd q.work o y
+      → (y.txs ≡ q.work.txs) × LaneHasEnded K lane (log_of sight tables K r) (shards_of sight tables K r) (log_of sight tables K q) (shards_of sight tables K q) x y
   ended_of lane x y r q l settled w None k e = absurd k
   ended_of lane x y r q l settled w (Some (Ok report)) k e =
       let txs : r.work.txs ≡ y.txs = sym (e.txs ∙ ap (λ (z : LaneOf). z.txs) w) in
@@ -130,7 +130,7 @@ module _ {W D S B X : Type 0} {G : Ghosts B} (sight : S → Sight) (tables : ℕ
   -- a lane's run from its first call to its last
   pub record IsRun (lane : ℕ) (x : LaneOf) (r q : LaneRun W D S B X G) : Type 0 where
     pub set_up : IsSetUp sight tables K gs hs lane x r
-    pub ends : Ends sight tables K r q
+    pub ends : RunEnds sight tables K r q
 
   -- of all lanes, the last one first
   abbrev pub Runs : List LaneOf → List (LaneRun W D S B X G) → List (LaneRun W D S B X G) → Type 0
@@ -138,7 +138,7 @@ module _ {W D S B X : Type 0} {G : Ghosts B} (sight : S → Sight) (tables : ℕ
   Runs (x ∷ xs) (r ∷ rs) (q ∷ qs) = IsRun (length qs) x r q × Runs xs rs qs
   Runs xs rs qs = ⊥
 
-  runs_down : (xs : List LaneOf) (rs qs : List (LaneRun W D S B X G)) → Down (IsSetUp sight tables K gs hs) xs rs → AllZip (Ends sight tables K) rs qs → Runs xs rs qs
+  runs_down : (xs : List LaneOf) (rs qs : List (LaneRun W D S B X G)) → Down (IsSetUp sight tables K gs hs) xs rs → AllZip (RunEnds sight tables K) rs qs → Runs xs rs qs
   runs_down [] [] [] d z = tt
   runs_down [] [] (q ∷ qs) d z = absurd z
   runs_down [] (r ∷ rs) qs d z = absurd d
@@ -146,7 +146,7 @@ module _ {W D S B X : Type 0} {G : Ghosts B} (sight : S → Sight) (tables : ℕ
   runs_down (x ∷ xs) (r ∷ rs) [] d z = absurd z
   runs_down (x ∷ xs) (r ∷ rs) (q ∷ qs) d z = (record { set_up = subst (λ n. IsSetUp sight tables K gs hs n x r) (zip_many sight tables K rs qs z.1) d.0; ends = z.0 }, runs_down xs rs qs d.1 z.1)
 
-  pub runs_of : (lanes : List LaneOf) (rs qs : List (LaneRun W D S B X G)) → BothFrom (IsSetUp sight tables K gs hs) 0 lanes (reverse rs) → AllZip (Ends sight tables K) rs qs → Runs (reverse lanes) rs qs
+  pub runs_of : (lanes : List LaneOf) (rs qs : List (LaneRun W D S B X G)) → BothFrom (IsSetUp sight tables K gs hs) 0 lanes (reverse rs) → AllZip (RunEnds sight tables K) rs qs → Runs (reverse lanes) rs qs
   runs_of lanes rs qs b z = runs_down (reverse lanes) rs qs (down (IsSetUp sight tables K gs hs) (reverse lanes) rs (subst (λ xs. BothFrom (IsSetUp sight tables K gs hs) 0 xs (reverse rs)) (sym (reverse-reverse lanes)) b)) z
 
   pub all_over : (xs : List LaneOf) (rs qs : List (LaneRun W D S B X G)) → Runs xs rs qs → AllOver K.shards qs
@@ -158,13 +158,13 @@ module _ {W D S B X : Type 0} {G : Ghosts B} (sight : S → Sight) (tables : ℕ
   all_over (x ∷ xs) (r ∷ rs) (q ∷ qs) k = (
     record {
       many = k.0.ends.count_is ∙ k.0.set_up.begins.count_is;
-      ready = subst IsReady (sym (k.0.ends.work ∙ k.0.set_up.work)) k.0.set_up.ready;
+      ready = subst IsLaneReady (sym (k.0.ends.work ∙ k.0.set_up.work)) k.0.set_up.ready;
       came = may_keep r q k.0.ends.work q.came k.0.ends.has_run;
     },
     all_over xs rs qs k.1,
   )
 
-  module _ (open_ : AreOpen sight tables K gs hs) where
+  module _ (open_ : AreLocksOpen sight tables K gs hs) where
     pub all_of : (xs : List LaneOf) (rs qs : List (LaneRun W D S B X G)) → Runs xs rs qs → AllOf hs qs
     all_of [] [] [] k = tt
     all_of [] [] (q ∷ qs) k = absurd k
@@ -187,7 +187,7 @@ module _ {W D S B X : Type 0} {G : Ghosts B} (sight : S → Sight) (tables : ℕ
         (q.ports.log.own.0 ∙ (k.0.ends.seated.log ∙ ap tables (k.0.ends.at ∙ (k.0.set_up.begins.at ∙ ap (home_of K) k.0.set_up.lane_is))), seats_at xs rs qs some k.1)
 
     -- a lane of the wave
-    lane_ran : (lane : ℕ) (x y : LaneOf) (r q : LaneRun W D S B X G) (homes : List (Vec (Seat (SharedLog D)))) (rows : List (Vec (Seat (SharedShard S)))) → IsRun lane x r q → IsEnd q.work q.came y
+    lane_ran : (lane : ℕ) (x y : LaneOf) (r q : LaneRun W D S B X G) (homes : List (Vec (Seat (SharedLog D)))) (rows : List (Vec (Seat (SharedShard S)))) → IsRun lane x r q → IsLaneEnd q.work q.came y
         → IsHand (knows (home_seat q)) (hands_at homes (home_of K lane)) → AreSeats (shard_seats q) rows → LaneRan K (log_at gs) (shard_at sight hs) (hands_at homes) (hands_at rows) lane x y
     lane_ran lane x y r q homes rows k e home seats =
         let begins = k.set_up.begins in
@@ -201,7 +201,7 @@ module _ {W D S B X : Type 0} {G : Ghosts B} (sight : S → Sight) (tables : ℕ
         let still : IsStillNode log log' = subst (λ n. IsStillNode log (logs_of sight tables K q n)) (sym k.ends.at) (k.ends.log_nodes r.ports.log.node) in
         let came = ended_of lane x y r q k.set_up.lane_is begins.settled k.ends.work q.came k.ends.has_run e in
         let many : length q.ports.shards.each.ports.items ≡ K.shards = k.ends.count_is ∙ begins.count_is in
-        let ours : AreOfLane sight lane q.ports.shards.each.ports.items = k.ends.of_lane lane (subst (λ l. AreOfLane sight l r.ports.shards.each.ports.items) k.set_up.lane_is begins.ours) in
+        let ours : TakeCallsOf sight lane q.ports.shards.each.ports.items = k.ends.of_lane lane (subst (λ l. TakeCallsOf sight l r.ports.shards.each.ports.items) k.set_up.lane_is begins.ours) in
         record {
           log = log;
           seen = shards;
@@ -240,7 +240,7 @@ module _ {W D S B X : Type 0} {G : Ghosts B} (sight : S → Sight) (tables : ℕ
 
     -- all lanes, the last one first
     lanes_down : (xs : List LaneOf) (rs qs : List (LaneRun W D S B X G)) (ys : List LaneOf) (owns : List (Vec (Seat (SharedLog D)))) (homes : List (Vec (Seat (SharedLog D)))) (rows : List (Vec (Seat (SharedShard S)))) → (some : 0 < K.lanes)
-        → ((c : ℕ) → hands_at homes c ≡ all_known (down_at owns c)) → Runs xs rs qs → AllZip (λ r y. IsEnd r.work r.came y) qs ys → HomesHold K.lanes some owns qs → AllGave qs rows
+        → ((c : ℕ) → hands_at homes c ≡ all_known (down_at owns c)) → Runs xs rs qs → AllZip (λ r y. IsLaneEnd r.work r.came y) qs ys → HomesHold K.lanes some owns qs → AllGave qs rows
         → Down (LaneRan K (log_at gs) (shard_at sight hs) (hands_at homes) (hands_at rows)) xs ys
     lanes_down [] [] [] [] owns homes rows some f k z h a = tt
     lanes_down [] [] [] (y ∷ ys) owns homes rows some f k z h a = absurd z
@@ -256,14 +256,14 @@ module _ {W D S B X : Type 0} {G : Ghosts B} (sight : S → Sight) (tables : ℕ
           lanes_down xs rs qs ys owns homes rows some f k.1 z.1 h.1 a.1,
         )
       where
-        ends_many : (us : List (LaneRun W D S B X G)) (vs : List LaneOf) → AllZip (λ r y. IsEnd r.work r.came y) us vs → length us ≡ length vs
+        ends_many : (us : List (LaneRun W D S B X G)) (vs : List LaneOf) → AllZip (λ r y. IsLaneEnd r.work r.came y) us vs → length us ≡ length vs
         ends_many [] [] z = refl
         ends_many [] (v ∷ vs) z = absurd z
         ends_many (u ∷ us) [] z = absurd z
         ends_many (u ∷ us) (v ∷ vs) z = let e = ends_many us vs z.1 in omega (arith, e)
 
     pub lanes_ran : (lanes lanes' : List LaneOf) (rs qs : List (LaneRun W D S B X G)) (owns : List (Vec (Seat (SharedLog D)))) (homes : List (Vec (Seat (SharedLog D)))) (rows : List (Vec (Seat (SharedShard S)))) → (some : 0 < K.lanes)
-        → ((c : ℕ) → hands_at homes c ≡ all_known (down_at owns c)) → Runs (reverse lanes) rs qs → AllZip (λ r y. IsEnd r.work r.came y) qs (reverse lanes') → HomesHold K.lanes some owns qs → AllGave qs rows
+        → ((c : ℕ) → hands_at homes c ≡ all_known (down_at owns c)) → Runs (reverse lanes) rs qs → AllZip (λ r y. IsLaneEnd r.work r.came y) qs (reverse lanes') → HomesHold K.lanes some owns qs → AllGave qs rows
         → BothFrom (LaneRan K (log_at gs) (shard_at sight hs) (hands_at homes) (hands_at rows)) 0 lanes lanes'
     lanes_ran lanes lanes' rs qs owns homes rows some f k z h a =
         let P = LaneRan K (log_at gs) (shard_at sight hs) (hands_at homes) (hands_at rows) in
@@ -278,18 +278,18 @@ module _ {W D S B X : Type 0} {G : Ghosts B} (sight : S → Sight) (tables : ℕ
   pub all_seated : (lanes : List LaneOf) (t : Table W D S B X G) → t.lanes.items ≡ [] → HaveSeats sight tables K gs hs 0 lanes t → BothFrom (IsSetUp sight tables K gs hs) 0 lanes (reverse t.runs.items)
   all_seated lanes t e k = subst (λ xs. BothFrom (IsSetUp sight tables K gs hs) 0 xs (reverse t.runs.items)) (sym (k.all_are ∙ ap (λ xs. xs ++ k.done) e)) k.set_up
 
-  down_begin : (xs : List LaneOf) (rs : List (LaneRun W D S B X G)) → Down (IsSetUp sight tables K gs hs) xs rs → All (Begins sight tables K) rs
-  down_begin [] [] d = All-nil (Begins sight tables K)
+  down_begin : (xs : List LaneOf) (rs : List (LaneRun W D S B X G)) → Down (IsSetUp sight tables K gs hs) xs rs → All (RunBegins sight tables K) rs
+  down_begin [] [] d = All-nil (RunBegins sight tables K)
   down_begin [] (r ∷ rs) d = absurd d
   down_begin (x ∷ xs) [] d = absurd d
-  down_begin (x ∷ xs) (r ∷ rs) d = All-cons (Begins sight tables K) r rs d.0.begins (down_begin xs rs d.1)
+  down_begin (x ∷ xs) (r ∷ rs) d = All-cons (RunBegins sight tables K) r rs d.0.begins (down_begin xs rs d.1)
 
-  pub all_begin : (lanes : List LaneOf) (rs : List (LaneRun W D S B X G)) → BothFrom (IsSetUp sight tables K gs hs) 0 lanes (reverse rs) → All (Begins sight tables K) rs
+  pub all_begin : (lanes : List LaneOf) (rs : List (LaneRun W D S B X G)) → BothFrom (IsSetUp sight tables K gs hs) 0 lanes (reverse rs) → All (RunBegins sight tables K) rs
   all_begin lanes rs b = down_begin (reverse lanes) rs (down (IsSetUp sight tables K gs hs) (reverse lanes) rs (subst (λ xs. BothFrom (IsSetUp sight tables K gs hs) 0 xs (reverse rs)) (sym (reverse-reverse lanes)) b))
 
 module _ {W D S B X : Type 0} {G : Ghosts B} where
-  pub no_ends : (rs : List (LaneRun W D S B X G)) (xs : List LaneOf) → xs ≡ [] → AllZip (λ (r : LaneRun W D S B X G) (x : LaneOf). IsEnd r.work r.came x) [] (reverse xs)
-  no_ends rs xs e = subst (λ ys. AllZip (λ (r : LaneRun W D S B X G) (x : LaneOf). IsEnd r.work r.came x) [] (reverse ys)) (sym e) tt
+  pub no_ends : (rs : List (LaneRun W D S B X G)) (xs : List LaneOf) → xs ≡ [] → AllZip (λ (r : LaneRun W D S B X G) (x : LaneOf). IsLaneEnd r.work r.came x) [] (reverse xs)
+  no_ends rs xs e = subst (λ ys. AllZip (λ (r : LaneRun W D S B X G) (x : LaneOf). IsLaneEnd r.work r.came x) [] (reverse ys)) (sym e) tt
 
-  pub ends_are : (news gone : List (LaneRun W D S B X G)) (xs : List LaneOf) → news ≡ gone → AllZip (λ (r : LaneRun W D S B X G) (x : LaneOf). IsEnd r.work r.came x) gone xs → AllZip (λ (r : LaneRun W D S B X G) (x : LaneOf). IsEnd r.work r.came x) news xs
-  ends_are news gone xs e z = subst (λ rs. AllZip (λ (r : LaneRun W D S B X G) (x : LaneOf). IsEnd r.work r.came x) rs xs) (sym e) z
+  pub ends_are : (news gone : List (LaneRun W D S B X G)) (xs : List LaneOf) → news ≡ gone → AllZip (λ (r : LaneRun W D S B X G) (x : LaneOf). IsLaneEnd r.work r.came x) gone xs → AllZip (λ (r : LaneRun W D S B X G) (x : LaneOf). IsLaneEnd r.work r.came x) news xs
+  ends_are news gone xs e z = subst (λ rs. AllZip (λ (r : LaneRun W D S B X G) (x : LaneOf). IsLaneEnd r.work r.came x) rs xs) (sym e) z

@@ -11,18 +11,18 @@ use Rattle.port_sets.specs.declared.coordinators.SharedLog.{SharedLog}
 use Rattle.port_sets.specs.declared.locking.SharedShard.{SharedShard}
 use Rattle.port_sets.specs.declared.seated.ShardSeat.{ShardSeat}
 use Rattle.port_sets.specs.declared.tables.Locks.{Ghosts}
-use Rattle.lane_waves.specs.Dealing.{PopsEach, HaveRoom}
-use Rattle.lane_waves.specs.NodeRows.{AreLeft, AreBack, AreOf}
+use Rattle.lane_waves.specs.Dealing.{PopsEach, HaveRoomForOne}
+use Rattle.lane_waves.specs.NodeRows.{AreLeft, AreSeatsBack, AreOf}
 use Rattle.lane_waves.proofs.Passing.{gathers}
 use Rattle.lane_waves.proofs.Closing.{last_first}
 use Rattle.lane_waves.specs.Ports.{seats_of}
 use Rattle.lane_waves.specs.declared.runs.LaneRun.{LaneRun}
 use Rattle.lane_waves.specs.Deals.{EachHolds}
-use Rattle.lane_waves.specs.Gathers.{IsSeat, AreSeats, EachTakes, IsOver, AllOver, IsEnd, IsBack, AreHome, AllGave, AllOf, Gathered, Chunks, shard_seats, home_seat}
+use Rattle.lane_waves.specs.Gathers.{IsSeat, AreSeats, EachTakes, IsOver, AllOver, IsLaneEnd, IsRunBack, AreHome, AllGave, AllOf, RunsGathered, Chunks, shard_seats, home_seat}
 use Rattle.lane_waves.specs.declared.dealing.Table.{Table}
 
 module _ {T : Type 0} where
-  pub takes_room : (n : ℕ) (rs : List (Vec T)) → 0 < n → EachTakes n rs → HaveRoom rs
+  pub takes_room : (n : ℕ) (rs : List (Vec T)) → 0 < n → EachTakes n rs → HaveRoomForOne rs
   takes_room n [] some k = tt
   takes_room n (r ∷ rs) some k = ((let e = k.0 in omega (arith, e, some)), takes_room n rs some k.1)
 
@@ -79,7 +79,7 @@ module _ {N : Type 0} where
   new_seats (q ∷ qs) (r ∷ rs) (t ∷ ts) p = (subst (λ xs. IsSeat t xs) (sym p.0.items) (last_seat r.items t), new_seats qs rs ts p.1)
 
   -- behind the dealing all lists are empty
-  pub none_back : (sight : N → Sight) (gs : List (Guarded N)) (rs : List (Vec (Seat N))) → AreLeft sight [] gs rs → AreBack 0 gs rs × EachNone rs
+  pub none_back : (sight : N → Sight) (gs : List (Guarded N)) (rs : List (Vec (Seat N))) → AreLeft sight [] gs rs → AreSeatsBack 0 gs rs × EachNone rs
   none_back sight [] [] k = (tt, tt)
   none_back sight [] (r ∷ rs) k = absurd k
   none_back sight (g ∷ gs) [] k = absurd k
@@ -111,23 +111,23 @@ module _ {W D S B X : Type 0} {G : Ghosts B} where
   keep_gave (r ∷ gone) qs rs ts p k = (keep_seats (shard_seats r) qs rs ts p k.0, keep_gave gone qs rs ts p k.1)
 
   -- a lane more is back
-  pub gathered_more : (locks : List (Guarded (SharedShard S))) (all : List (LaneRun W D S B X G)) (t : Table W D S B X G) (home : Seat (SharedLog D)) (u : Table W D S B X G) → IsBack t home u → Gathered locks all t → Gathered locks all u
+  pub gathered_more : (locks : List (Guarded (SharedShard S))) (all : List (LaneRun W D S B X G)) (t : Table W D S B X G) (home : Seat (SharedLog D)) (u : Table W D S B X G) → IsRunBack t home u → RunsGathered locks all t → RunsGathered locks all u
   gathered_more locks all t home u b k =
       let are : all ≡ u.runs.items ++ b.run ∷ k.gone = k.all_are ∙ (ap (λ xs. xs ++ k.gone) b.runs ∙ append_assoc u.runs.items (b.run ∷ []) k.gone) in
       let one : length k.gone + 1 ≡ length (b.run ∷ k.gone) = omega arith in record {
         gone = b.run ∷ k.gone;
         all_are = are;
         of = k.of;
-        back = subst (λ n. AreBack n locks u.rows.items) one (gathers (length k.gone) locks t.rows.items u.rows.items (shard_seats b.run) k.back b.rows (of_at locks u.runs.items b.run k.gone (subst (AllOf locks) are k.of)));
+        back = subst (λ n. AreSeatsBack n locks u.rows.items) one (gathers (length k.gone) locks t.rows.items u.rows.items (shard_seats b.run) k.back b.rows (of_at locks u.runs.items b.run k.gone (subst (AllOf locks) are k.of)));
         gave = (new_seats u.rows.items t.rows.items (shard_seats b.run) b.rows, keep_gave k.gone u.rows.items t.rows.items (shard_seats b.run) b.rows k.gave);
-        lanes = subst (λ xs. AllZip (λ r x. IsEnd r.work r.came x) (b.run ∷ k.gone) xs) (sym (last_first t.lanes.items u.lanes.items b.lane b.lanes)) (b.came, k.lanes);
+        lanes = subst (λ xs. AllZip (λ r x. IsLaneEnd r.work r.came x) (b.run ∷ k.gone) xs) (sym (last_first t.lanes.items u.lanes.items b.lane b.lanes)) (b.came, k.lanes);
       }
 
   -- and its seat of its coordinator
   pub home_none : (t : Table W D S B X G) (own : List (Seat (SharedLog D))) → own ≡ [] → AreHome 0 t own t
   home_none t own e = record { gone = []; runs = sym (append-nil t.runs.items); many = refl; seats = ap reverse e }
 
-  pub home_more : (n : ℕ) (t : Table W D S B X G) (own own' : List (Seat (SharedLog D))) (u v : Table W D S B X G) (home : Seat (SharedLog D)) → AreHome n t own u → IsBack u home v → own' ≡ own ++ home ∷ [] → AreHome (n + 1) t own' v
+  pub home_more : (n : ℕ) (t : Table W D S B X G) (own own' : List (Seat (SharedLog D))) (u v : Table W D S B X G) (home : Seat (SharedLog D)) → AreHome n t own u → IsRunBack u home v → own' ≡ own ++ home ∷ [] → AreHome (n + 1) t own' v
   home_more n t own own' u v home k b e = record {
     gone = b.run ∷ k.gone;
     runs = k.runs ∙ (ap (λ xs. xs ++ k.gone) b.runs ∙ append_assoc v.runs.items (b.run ∷ []) k.gone);

@@ -13,7 +13,7 @@ use Rattle.lane_driver.specs.declared.fault.LaneReport.{LaneReport}
 use Rattle.node_lock.specs.Seats.{TableId, knows}
 use Rattle.port_sets.specs.declared.tables.Locks.{Ghosts}
 use Rattle.port_sets.specs.Nodes.{log_sight}
-use Rattle.port_sets.specs.Seated.{seat_sight, phase_at}
+use Rattle.port_sets.specs.Seated.{seat_sight, seat_phase}
 use Rattle.lane_waves.specs.declared.runs.LaneRun.{LaneRun}
 use Rattle.lane_waves.specs.Held.{log_of, logs_of, shards_of, HasRun}
 
@@ -32,7 +32,7 @@ module _ {W D S B X : Type 0} {G : Ghosts B} (sight : S → Sight) (tables : ℕ
 
   pub has_run : (came : Result LaneReport LaneFault)
       → OnOk came ((k : ℕ) → Settled K r.lane k lr sr → LaneSo K false r.lane xs [] lr sr lq sq)
-      → OnOk came (phase_at (knows q.ports.log.seat).lane (seat_sight (log_sight {D = D}) q.ports.log.seat) r.lane ≡ Idle)
+      → OnOk came (seat_phase (knows q.ports.log.seat).lane (seat_sight (log_sight {D = D}) q.ports.log.seat) r.lane ≡ Idle)
       → IfOk came (λ o. IsReported r.lane K.batch xs [] o.batches)
       → IfOk came (λ o. (k : ℕ) → Settled K r.lane k lr sr → AreDone K false r.lane xs lr sr (reverse o.batches) [] lq sq)
       → IfErr came (IsLaneStopped K false r.lane xs lr sr lq sq)

@@ -10,7 +10,7 @@ use Rattle.node_lock.specs.Seats.{TableId, AllAt, all_known, knows, table_of, la
 use Rattle.port_sets.specs.declared.coordinators.SharedLog.{SharedLog}
 use Rattle.port_sets.specs.declared.tables.Locks.{Ghosts}
 use Rattle.thread_laws.specs.Closing.{IsHand}
-use Rattle.lane_waves.specs.NodeRows.{AreReady}
+use Rattle.lane_waves.specs.NodeRows.{HaveAllSeats}
 use Rattle.lane_waves.proofs.Closing.{first_last}
 use Rattle.lane_waves.specs.declared.runs.LaneRun.{LaneRun}
 use Rattle.lane_waves.specs.Among.{hands_at}
@@ -74,7 +74,7 @@ module _ {D : Type 0} (n : ℕ) (tables : ℕ → TableId) where
   homes_up (own ∷ owns) k = subst (AllFrom HomeAt 0) (sym (first_last own owns)) (all_more HomeAt 0 (reverse owns) own (homes_up owns k.1) (subst (λ c. HomeAt c own) (sym (turned_many owns)) k.0))
 
   pub homes_ready : (some : 0 < n) (lanes : ℕ → List ℕ) (k : ℕ) (gs : List (Guarded (SharedLog D))) (homes : List (Vec (Seat (SharedLog D)))) → length homes ≡ length gs → ((c : ℕ) → length (lanes c) ≡ n) → AllFrom HomeAt k homes
-      → AllFrom (λ c g. tables c ≡ table_of g) k gs → AllFrom (λ c g. lanes_of g ≡ lanes c) k gs → AreReady gs homes
+      → AllFrom (λ c g. tables c ≡ table_of g) k gs → AllFrom (λ c g. lanes_of g ≡ lanes c) k gs → HaveAllSeats gs homes
   homes_ready some lanes k [] [] e m h t l = tt
   homes_ready some lanes k [] (own ∷ homes) e m h t l = absurd (let z = e in omega (arith, z))
   homes_ready some lanes k (g ∷ gs) [] e m h t l = absurd (let z = e in omega (arith, z))

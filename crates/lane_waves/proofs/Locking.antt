@@ -10,7 +10,7 @@ use Rattle.node_lock.specs.declared.seat.Seat.{Seat}
 use Rattle.node_lock.specs.Moving.{of_lane, Lives, Same}
 use Rattle.node_lock.specs.Seats.{AreFresh, AllAt, all_known, table_of, opening_of, lanes_of}
 use Rattle.node_lock.specs.Tickets.{times, is_at, one_if, total, fresh, HandOk, AllHands, AllDrawn, HasLeft, Done}
-use Rattle.lane_waves.specs.NodeRows.{IsRow, AreRows, IsLocked, AreLocked, IsReady, AreReady, IsClosed, AreClosed, IsStill, AreStill}
+use Rattle.lane_waves.specs.NodeRows.{IsRow, AreRows, IsLocked, AreLocked, HasAllSeats, HaveAllSeats, IsClosed, AreClosed, IsStill, AreStill}
 use Rattle.lane_waves.proofs.Closing.{last_first}
 
 pub rows_last : (rs : List (Vec ℕ)) (r : Vec ℕ) → AreRows (rs ++ r ∷ []) → AreRows rs × IsRow r.items
@@ -94,7 +94,7 @@ module _ {N : Type 0} (sight : N → Sight) (goes : N → N → Type 0) where
     same_before (f ∷ fs) ns ms k = (untouched f, same_before fs ns ms k)
 
 module _ {N : Type 0} (sight : N → Sight) where
-  pub locked_ready : (ns : List N) (rs : List (Vec ℕ)) (gs : List (Guarded N)) (ss : List (Vec (Seat N))) → AreLocked sight ns rs gs ss → AreReady gs ss
+  pub locked_ready : (ns : List N) (rs : List (Vec ℕ)) (gs : List (Guarded N)) (ss : List (Vec (Seat N))) → AreLocked sight ns rs gs ss → HaveAllSeats gs ss
   locked_ready [] [] [] [] k = tt
   locked_ready [] [] [] (s ∷ ss) k = absurd k
   locked_ready [] [] (g ∷ gs) ss k = absurd k

@@ -22,7 +22,7 @@ use Rattle.lane_waves.proofs.Locking.{fresh_at}
 use Rattle.lane_waves.specs.Ports.{AtTables}
 use Rattle.lane_waves.specs.Places.{AllFrom, BothFrom}
 use Rattle.lane_waves.specs.Rows.{lanes_from, home_lanes, all_lanes}
-use Rattle.lane_waves.specs.Deals.{IsOpenAt, AreOpen, log_at, shard_at, IsHomeFresh}
+use Rattle.lane_waves.specs.Deals.{IsOpenNodeAt, AreLocksOpen, log_at, shard_at, IsHomeFresh}
 use Rattle.lane_waves.specs.Waves.{AreNodesOf}
 use Rattle.lane_waves.proofs.Places.{all_from, both_at, get_within, get_there}
 use Rattle.lane_waves.proofs.Numbers.{many_lanes}
@@ -148,7 +148,7 @@ module _ {D S : Type 0} (sight : S → Sight) (K : Shape) (gs : List (Guarded (S
     pub are_open : IsWithinLimits K → length ns ≡ K.coordinators → length ms ≡ K.shards → AreNodesOf K (sight_at log_sight ns) (sight_at (shard_sight sight) ms)
         → All (λ l. (log_sight l).opened ≤ (log_sight l).faults) ns → All (λ s. (shard_sight sight s).opened ≤ (shard_sight sight s).faults) ms
         → ((lane : ℕ) → lane < K.coordinators * K.lanes → IsSettled K lane (sight_at log_sight ns (home_of K lane)) (sight_at (shard_sight sight) ms))
-        → AllFrom (λ n g. lanes_of g ≡ home_lanes K n) 0 gs → AllFrom (λ s h. lanes_of h ≡ all_lanes K) 0 hs → AreOpen sight (tables_of K.coordinators gs hs) K gs hs
+        → AllFrom (λ n g. lanes_of g ≡ home_lanes K n) 0 gs → AllFrom (λ s h. lanes_of h ≡ all_lanes K) 0 hs → AreLocksOpen sight (tables_of K.coordinators gs hs) K gs hs
     are_open limits logs_many shards_many ledger logs_since shards_since settled log_lanes shard_lanes =
         let gs_many : length gs ≡ length ns = sym (map_many opening_of gs) ∙ ap (λ (xs : List (SharedLog D)). length xs) logs_are in
         let hs_many : length hs ≡ length ms = sym (map_many opening_of hs) ∙ ap (λ (xs : List (SharedShard S)). length xs) shards_are in
@@ -156,7 +156,7 @@ module _ {D S : Type 0} (sight : S → Sight) (K : Shape) (gs : List (Guarded (S
           limits = limits;
           logs_many = gs_many ∙ logs_many;
           shards_many = hs_many ∙ shards_many;
-          logs = all_from (λ n g. IsOpenAt K n (log_sight (opening_of g))) 0 gs (λ i g e.
+          logs = all_from (λ n g. IsOpenNodeAt K n (log_sight (opening_of g))) 0 gs (λ i g e.
               let m = seen_get (λ x. log_sight (opening_of x)) gs i g e in
               let is : sight_at log_sight ns i ≡ log_sight (opening_of g) = sym (ap (λ f. f i) logs_at) ∙ m.0 in
               let lt = m.1 in
@@ -164,8 +164,8 @@ module _ {D S : Type 0} (sight : S → Sight) (K : Shape) (gs : List (Guarded (S
               let within : i < length ns = omega (arith, lt, gs_many) in
               let zero_more : i ≡ 0 + i = omega arith in
               let at = ledger.logs_are i low in
-              subst (λ s. IsOpenAt K (0 + i) s) is (record { shape = at.0; node = at.1 ∙ zero_more; since = since_at log_sight ns i logs_since within }));
-          shards = all_from (λ s h. IsOpenAt K (shard_node K s) (shard_sight sight (opening_of h))) 0 hs (λ i h e.
+              subst (λ s. IsOpenNodeAt K (0 + i) s) is (record { shape = at.0; node = at.1 ∙ zero_more; since = since_at log_sight ns i logs_since within }));
+          shards = all_from (λ s h. IsOpenNodeAt K (shard_node K s) (shard_sight sight (opening_of h))) 0 hs (λ i h e.
               let m = seen_get (λ x. shard_sight sight (opening_of x)) hs i h e in
               let is : sight_at (shard_sight sight) ms i ≡ shard_sight sight (opening_of h) = sym (ap (λ f. f i) shards_at) ∙ m.0 in
               let lt = m.1 in
@@ -173,7 +173,7 @@ module _ {D S : Type 0} (sight : S → Sight) (K : Shape) (gs : List (Guarded (S
               let within : i < length ms = omega (arith, lt, hs_many) in
               let zero_more : i ≡ 0 + i = omega arith in
               let at = ledger.shards_are i low in
-              subst (λ s. IsOpenAt K (shard_node K (0 + i)) s) is (record { shape = at.0; node = at.1 ∙ ap (λ (j : ℕ). shard_node K j) zero_more; since = since_at (shard_sight sight) ms i shards_since within }));
+              subst (λ s. IsOpenNodeAt K (shard_node K (0 + i)) s) is (record { shape = at.0; node = at.1 ∙ ap (λ (j : ℕ). shard_node K j) zero_more; since = since_at (shard_sight sight) ms i shards_since within }));
           settled = λ lane lt. subst (λ f. IsSettled K lane (f (home_of K lane)) (shard_at sight hs)) (sym logs_at) (subst (λ f. IsSettled K lane (sight_at log_sight ns (home_of K lane)) f) (sym shards_at) (settled lane lt));
           log_lanes = log_lanes;
           shard_lanes = shard_lanes;

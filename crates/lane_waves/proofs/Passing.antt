@@ -7,7 +7,7 @@ use Rattle.node_lock.specs.declared.lock.Guarded.{Guarded}
 use Rattle.node_lock.specs.declared.seat.Seat.{Seat}
 use Rattle.node_lock.specs.Seats.{TableId, AreFresh, AllAt, knows, first_of, table_of, opening_of, lanes_of}
 use Rattle.node_lock.specs.Tickets.{fresh}
-use Rattle.lane_waves.specs.NodeRows.{IsRow, IsLocked, AreLocked, IsReady, AreReady, IsFresh, AreLeft, AreDealt, AreBack, AreOf}
+use Rattle.lane_waves.specs.NodeRows.{IsRow, IsLocked, AreLocked, HasAllSeats, HaveAllSeats, IsFreshSeat, AreLeft, AreDealt, AreSeatsBack, AreOf}
 use Rattle.lane_waves.specs.Dealing.{Pops, PopsEach}
 
 module _ {N : Type 0} where
@@ -58,7 +58,7 @@ module _ {N : Type 0} where
         (subst (λ xs. AreFresh (sight (opening_of g)) (opening_of g) (table_of g) xs s.items) a.0 (subst (λ o. AreFresh (sight o) o (table_of g) r.items s.items) (sym k.0.node) k.0.seats), all_left lanes ns rs gs ss a.1 k.1)
 
   -- a round of gathering brings one seat of each lock back
-  pub gathers : (n : ℕ) (gs : List (Guarded N)) (rs qs : List (Vec (Seat N))) (ts : List (Seat N)) → AreBack n gs rs → PopsEach qs rs ts → AreOf gs ts → AreBack (n + 1) gs qs
+  pub gathers : (n : ℕ) (gs : List (Guarded N)) (rs qs : List (Vec (Seat N))) (ts : List (Seat N)) → AreSeatsBack n gs rs → PopsEach qs rs ts → AreOf gs ts → AreSeatsBack (n + 1) gs qs
   gathers n [] [] [] [] k p o = tt
   gathers n [] [] [] (t ∷ ts) k p o = absurd p
   gathers n [] [] (q ∷ qs) ts k p o = absurd p
@@ -74,7 +74,7 @@ module _ {N : Type 0} where
   HaveLanes n [] = Unit {0}
   HaveLanes n (g ∷ gs) = (length (lanes_of g) ≡ n) × HaveLanes n gs
 
-  pub all_back : (n : ℕ) (gs : List (Guarded N)) (rs : List (Vec (Seat N))) → 0 < n → HaveLanes n gs → AreBack n gs rs → AreReady gs rs
+  pub all_back : (n : ℕ) (gs : List (Guarded N)) (rs : List (Vec (Seat N))) → 0 < n → HaveLanes n gs → AreSeatsBack n gs rs → HaveAllSeats gs rs
   all_back n [] [] some h k = tt
   all_back n [] (r ∷ rs) some h k = absurd k
   all_back n (g ∷ gs) [] some h k = absurd k

@@ -2,7 +2,7 @@
 use Rattle.std.proofs.Common.{◌≡◌, ℕ, ◌<◌, List, [], ◌∷◌, ◌++◌, length, reverse, append_assoc, append-nil, refl, sym, ap, ◌∙◌, subst, arith}
 use Rattle.std.specs.Vec.{vec_capacity}
 use Rattle.std.specs.Global.{Vec}
-use Rattle.lane_waves.specs.Dealing.{Pops, PopsEach, HaveOne, HaveRoom}
+use Rattle.lane_waves.specs.Dealing.{Pops, PopsEach, HaveOne, HaveRoomForOne}
 use Rattle.lane_waves.proofs.Closing.{last_first}
 
 module _ {T : Type 0} where
@@ -10,15 +10,15 @@ module _ {T : Type 0} where
   one_last [] r k = (tt, k.0)
   one_last (x ∷ rs) r k = let m = one_last rs r k.1 in ((k.0, m.0), m.1)
 
-  pub room_last : (rs : List (Vec T)) (r : Vec T) → HaveRoom (rs ++ r ∷ []) → HaveRoom rs × (length r.items < vec_capacity r)
+  pub room_last : (rs : List (Vec T)) (r : Vec T) → HaveRoomForOne (rs ++ r ∷ []) → HaveRoomForOne rs × (length r.items < vec_capacity r)
   room_last [] r k = (tt, k.0)
   room_last (x ∷ rs) r k = let m = room_last rs r k.1 in ((k.0, m.0), m.1)
 
   pub one_left : (all rs : List (Vec T)) (r : Vec T) → HaveOne all → all ≡ rs ++ r ∷ [] → HaveOne rs × (0 < length r.items)
   one_left all rs r k e = one_last rs r (subst HaveOne e k)
 
-  pub room_left : (all rs : List (Vec T)) (r : Vec T) → HaveRoom all → all ≡ rs ++ r ∷ [] → HaveRoom rs × (length r.items < vec_capacity r)
-  room_left all rs r k e = room_last rs r (subst HaveRoom e k)
+  pub room_left : (all rs : List (Vec T)) (r : Vec T) → HaveRoomForOne all → all ≡ rs ++ r ∷ [] → HaveRoomForOne rs × (length r.items < vec_capacity r)
+  room_left all rs r k e = room_last rs r (subst HaveRoomForOne e k)
 
   -- rows were all0; those behind `rows` are done, in `spare`, with `items`
   pub record Dealing (all rows spare : List (Vec T)) (items : List T) : Type 0 where

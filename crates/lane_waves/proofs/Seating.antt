@@ -17,7 +17,7 @@ use Rattle.node_lock.specs.Seats.{TableId, knows, first_of, opening_of, table_of
 use Rattle.node_lock.specs.Tickets.{fresh}
 use Rattle.node_lock.specs.Viewing.{viewed}
 use Rattle.node_ports.specs.Nodes.{sight_at}
-use Rattle.port_sets.specs.Seated.{opening_sight, seat_sight, seen_at, phase_at, Serves}
+use Rattle.port_sets.specs.Seated.{opening_sight, seat_sight, seen_at, seat_phase, Serves}
 use Rattle.port_sets.specs.Nodes.{shard_sight, log_sight}
 use Rattle.port_sets.specs.declared.coordinators.SharedLog.{SharedLog}
 use Rattle.port_sets.specs.declared.locking.SharedShard.{SharedShard}
@@ -27,11 +27,11 @@ use Rattle.port_sets.specs.declared.tables.Locks.{Ghosts}
 use Rattle.port_sets.proofs.Seating.{seen_here}
 use Rattle.lane_waves.specs.NodeRows.{AreDealt}
 use Rattle.lane_waves.proofs.Closing.{last_first}
-use Rattle.lane_waves.specs.Held.{AreOfLane, log_of, shards_of}
+use Rattle.lane_waves.specs.Held.{TakeCallsOf, log_of, shards_of}
 use Rattle.lane_waves.specs.Ports.{ArePorts, AtTables}
 use Rattle.lane_waves.specs.declared.runs.LaneRun.{LaneRun}
 use Rattle.lane_waves.specs.Places.{AllFrom, BothFrom}
-use Rattle.lane_waves.specs.Deals.{MayRun, started, IsOpenAt, AreOpen, log_at, shard_at, IsSetUp, HaveSeats, IsNext}
+use Rattle.lane_waves.specs.Deals.{MayRun, started, IsOpenNodeAt, AreLocksOpen, log_at, shard_at, IsSetUp, HaveSeats, IsLaneSeated}
 use Rattle.lane_waves.specs.declared.dealing.Table.{Table}
 use Rattle.lane_waves.proofs.Places.{all_here, get_there}
 use Rattle.lane_waves.proofs.Opening.{seen_get}
@@ -59,7 +59,7 @@ settled_like K lane log log' I J eh es f k =
       },
     )
 
-phase_mine : (mine lane : ℕ) (s : Sight) → lane ≡ mine → phase_at mine s lane ≡ (slot s.seen lane).phase
+phase_mine : (mine lane : ℕ) (s : Sight) → lane ≡ mine → seat_phase mine s lane ≡ (slot s.seen lane).phase
 phase_mine mine lane s e = let t : (lane == mine) ≡ true = grind (arith, e) in ap (λ b. if b then (slot s.seen lane).phase else InLock) t
 
 pub lane_within : (home lane_count count j : ℕ) → home < count → j < lane_count → home * lane_count + j < count * lane_count
@@ -90,7 +90,7 @@ module _ {W S B : Type 0} {G : Ghosts B} (sight : S → Sight) where
 
   -- and take the lane's calls
   pub ports_ours : (K : Shape) (lane k : ℕ) (hs : List (Guarded (SharedShard S))) (ss : List (Seat (SharedShard S))) (ps : List (ShardSeat W S B G)) → AreDealt (shard_sight sight) lane hs ss → ArePorts hs ss ps
-      → AllFrom (λ s h. IsOpenAt K (shard_node K s) (shard_sight sight (opening_of h))) k hs → AreOfLane sight lane ps
+      → AllFrom (λ s h. IsOpenNodeAt K (shard_node K s) (shard_sight sight (opening_of h))) k hs → TakeCallsOf sight lane ps
   ports_ours K lane k [] [] [] d a o = All-nil (ServesLane lane)
   ports_ours K lane k [] [] (p ∷ ps) d a o = absurd a
   ports_ours K lane k [] (s ∷ ss) ps d a o = absurd d
@@ -107,7 +107,7 @@ module _ {W S B : Type 0} {G : Ghosts B} (sight : S → Sight) where
 
   -- they are of the locks that the wave picks
   ports_picked : (tables : ℕ → TableId) (K : Shape) (lane k : ℕ) (hs : List (Guarded (SharedShard S))) (ss : List (Seat (SharedShard S))) (ps : List (ShardSeat W S B G)) → AreDealt (shard_sight sight) lane hs ss → ArePorts hs ss ps
-      → AtTables tables K k hs → AllFrom (λ s h. IsOpenAt K (shard_node K s) (shard_sight sight (opening_of h))) k hs
+      → AtTables tables K k hs → AllFrom (λ s h. IsOpenNodeAt K (shard_node K s) (shard_sight sight (opening_of h))) k hs
       → All (λ p. table_of p.guarded.now ≡ tables (seat_sight (shard_sight sight) p.seat).header.node) ps
   ports_picked tables K lane k [] [] [] d a t o = All-nil (λ p. table_of p.guarded.now ≡ tables (seat_sight (shard_sight sight) p.seat).header.node)
   ports_picked tables K lane k [] [] (p ∷ ps) d a t o = absurd a
@@ -120,7 +120,7 @@ module _ {W S B : Type 0} {G : Ghosts B} (sight : S → Sight) where
       (ap table_of a.0.guarded ∙ (sym t.0 ∙ ap tables (sym (ap (λ (v : Sight). v.header.node) seen ∙ o.0.node))))
       (ports_picked tables K lane (suc k) hs ss ps d.1 a.1 t.1 o.1)
 
-module _ {W D S B X : Type 0} {G : Ghosts B} (sight : S → Sight) (tables : ℕ → TableId) (K : Shape) (gs : List (Guarded (SharedLog D))) (hs : List (Guarded (SharedShard S))) (open_ : AreOpen sight tables K gs hs) where
+module _ {W D S B X : Type 0} {G : Ghosts B} (sight : S → Sight) (tables : ℕ → TableId) (K : Shape) (gs : List (Guarded (SharedLog D))) (hs : List (Guarded (SharedShard S))) (open_ : AreLocksOpen sight tables K gs hs) where
   pub set_up : (home j : ℕ) (g : Guarded (SharedLog D)) (p : LogSeat W D B G) (r : LaneRun W D S B X G) (ss : List (Seat (SharedShard S))) → j < K.lanes → slice_get gs home ≡ Some g
       → p.guarded.now ≡ g → p.node ≡ home → knows p.seat ≡ fresh (log_sight (opening_of g)) (home * K.lanes + j) → r.lane ≡ home * K.lanes + j → r.ports.log ≡ p
       → AreDealt (shard_sight sight) (home * K.lanes + j) hs ss → ArePorts hs ss r.ports.shards.each.ports.items → MayRun r.work
@@ -131,7 +131,7 @@ module _ {W D S B X : Type 0} {G : Ghosts B} (sight : S → Sight) (tables : ℕ
       let within : home < K.coordinators = subst (λ n. home < n) open_.logs_many place.1 in
       let home_is : home_of K lane ≡ home = div-mul-add home K.lanes j low in
       let lane_low : lane < K.coordinators * K.lanes = lane_within home K.lanes K.coordinators j within low in
-      let opened : IsOpenAt K home (log_sight (opening_of g)) = all_here (λ n x. IsOpenAt K n (log_sight (opening_of x))) gs home g open_.logs there in
+      let opened : IsOpenNodeAt K home (log_sight (opening_of g)) = all_here (λ n x. IsOpenNodeAt K n (log_sight (opening_of x))) gs home g open_.logs there in
       let seat_seen : seat_sight log_sight p.seat ≡ started lane (log_sight (opening_of g)) = seat_started log_sight p.seat (opening_of g) lane (p.own.1 ∙ ap (λ x. Some (opening_of x)) guarded) knew in
       let at_home : log_at gs (home_of K lane) ≡ log_sight (opening_of g) = ap (log_at gs) home_is ∙ place.0 in
       let log_seen : log_of sight tables K r ≡ started lane (log_at gs (home_of K lane)) =
@@ -159,13 +159,13 @@ module _ {W D S B X : Type 0} {G : Ghosts B} (sight : S → Sight) (tables : ℕ
           count_is = ports_many sight hs ss r.ports.shards.each.ports.items ports ∙ open_.shards_many;
           ledger = λ s lt.
               let got = get_there hs s (subst (λ n. s < n) (sym open_.shards_many) lt) in
-              let at = all_here (λ n x. IsOpenAt K (shard_node K n) (shard_sight sight (opening_of x))) hs s got.0 open_.shards got.1 in
+              let at = all_here (λ n x. IsOpenNodeAt K (shard_node K n) (shard_sight sight (opening_of x))) hs s got.0 open_.shards got.1 in
               let is : shards_of sight tables K r s ≡ started lane (shard_sight sight (opening_of got.0)) = shards_seen s ∙ ap (started lane) (seen_get (λ x. shard_sight sight (opening_of x)) hs s got.0 got.1).0 in
               (ap (λ (v : Sight). v.header.shape) is ∙ at.shape, ap (λ (v : Sight). v.header.node) is ∙ at.node);
           settled = subst (λ l. IsSettled K l (log_of sight tables K r) (shards_of sight tables K r)) (sym lane_is)
               (settled_like K lane (log_at gs (home_of K lane)) (log_of sight tables K r) (shard_at sight hs) (shards_of sight tables K r)
               (ap (λ (v : Sight). v.header) log_seen) (ap (λ (v : Sight). v.seen) log_seen) (λ s. ap (λ (v : Sight). v.seen) (shards_seen s)) rest);
-          ours = subst (λ l. AreOfLane sight l r.ports.shards.each.ports.items) (sym lane_is) (ports_ours sight K lane 0 hs ss r.ports.shards.each.ports.items dealt ports open_.shards);
+          ours = subst (λ l. TakeCallsOf sight l r.ports.shards.each.ports.items) (sym lane_is) (ports_ours sight K lane 0 hs ss r.ports.shards.each.ports.items dealt ports open_.shards);
           limits = may.limits;
         };
         mine = sym my_lane ∙ lane_is;
@@ -174,7 +174,7 @@ module _ {W D S B X : Type 0} {G : Ghosts B} (sight : S → Sight) (tables : ℕ
       }
 
   -- one lane more has its seats
-  pub seats_more : (n : ℕ) (all : List LaneOf) (home : LogSeat W D B G) (t u : Table W D S B X G) (next : IsNext sight hs home t u) → IsSetUp sight tables K gs hs n next.run.work next.run
+  pub seats_more : (n : ℕ) (all : List LaneOf) (home : LogSeat W D B G) (t u : Table W D S B X G) (next : IsLaneSeated sight hs home t u) → IsSetUp sight tables K gs hs n next.run.work next.run
       → HaveSeats sight tables K gs hs (suc n) all t → HaveSeats sight tables K gs hs n all u
   seats_more n all home t u next up k = record {
     done = next.run.work ∷ k.done;

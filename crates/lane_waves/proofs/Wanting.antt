@@ -16,13 +16,13 @@ use Rattle.port_sets.specs.Nodes.{shard_sight, log_sight}
 use Rattle.port_sets.specs.declared.coordinators.SharedLog.{SharedLog}
 use Rattle.port_sets.specs.declared.locking.SharedShard.{SharedShard}
 use Rattle.thread_laws.specs.Closing.{IsHand}
-use Rattle.lane_waves.specs.NodeRows.{AreReady, AreLeft}
+use Rattle.lane_waves.specs.NodeRows.{HaveAllSeats, AreLeft}
 use Rattle.lane_waves.proofs.Locking.{fresh_at}
 use Rattle.lane_waves.specs.Among.{hands_at}
 use Rattle.lane_waves.specs.Places.{AllFrom}
 use Rattle.lane_waves.specs.Rows.{lanes_from, home_lanes, all_lanes}
-use Rattle.lane_waves.specs.Lanes.{HasNoMemory}
-use Rattle.lane_waves.specs.Deals.{AreOpen, log_at, shard_at, IsHomeFresh}
+use Rattle.lane_waves.specs.Lanes.{HasStoppedForMemory}
+use Rattle.lane_waves.specs.Deals.{AreLocksOpen, log_at, shard_at, IsHomeFresh}
 use Rattle.lane_waves.specs.Waves.{AreThrough}
 use Rattle.lane_waves.proofs.Places.{all_here, get_within, get_all}
 use Rattle.lane_waves.proofs.Numbers.{many_lanes}
@@ -32,7 +32,7 @@ use Rattle.lane_waves.proofs.Unrun.{unrun, fresh_hand, same_txs}
 
 module _ {N : Type 0} (sight : N → Sight) where
   -- each lock has all its seats
-  left_ready : (ls : List ℕ) (k : ℕ) (hs : List (Guarded N)) (rows : List (Vec (Seat N))) → 0 < length ls → AllFrom (λ s h. lanes_of h ≡ ls) k hs → AreLeft sight ls hs rows → AreReady hs rows
+  left_ready : (ls : List ℕ) (k : ℕ) (hs : List (Guarded N)) (rows : List (Vec (Seat N))) → 0 < length ls → AllFrom (λ s h. lanes_of h ≡ ls) k hs → AreLeft sight ls hs rows → HaveAllSeats hs rows
   left_ready ls k [] [] some a l = tt
   left_ready ls k [] (r ∷ rows) some a l = absurd l
   left_ready ls k (h ∷ hs) [] some a l = absurd l
@@ -53,7 +53,7 @@ module _ {N : Type 0} (sight : N → Sight) where
   Fresh lanes gs rows = (i : ℕ) (g : Guarded N) (r : Vec (Seat N)) → slice_get gs i ≡ Some g → slice_get rows i ≡ Some r → AreFresh (sight (opening_of g)) (opening_of g) (table_of g) (lanes i) r.items
 
   fresh_ready : (lanes : ℕ → List ℕ) (k : ℕ) (gs : List (Guarded N)) (rows : List (Vec (Seat N))) → length rows ≡ length gs → ((i : ℕ) → 0 < length (lanes i)) → AllFrom (λ i g. lanes_of g ≡ lanes i) k gs
-      → Fresh (λ i. lanes (k + i)) gs rows → AreReady gs rows
+      → Fresh (λ i. lanes (k + i)) gs rows → HaveAllSeats gs rows
   fresh_ready lanes k [] [] e some a f = tt
   fresh_ready lanes k [] (r ∷ rows) e some a f = absurd (let z = e in omega (arith, z))
   fresh_ready lanes k (g ∷ gs) [] e some a f = absurd (let z = e in omega (arith, z))
@@ -79,7 +79,7 @@ module _ {N : Type 0} (sight : N → Sight) where
       (fresh_hands lanes (suc k) gs rows i (let z = e in omega (arith, z)) (omega (arith, lt))
       (λ j h s at there. let next : k + suc j ≡ suc k + j = omega arith in subst (λ n. AreFresh (sight (opening_of h)) (opening_of h) (table_of h) (lanes n) s.items) next (f (suc j) h s at there)))
 
-module _ {D S : Type 0} (sight : S → Sight) (tables : ℕ → TableId) (K : Shape) (gs : List (Guarded (SharedLog D))) (hs : List (Guarded (SharedShard S))) (open_ : AreOpen sight tables K gs hs) where
+module _ {D S : Type 0} (sight : S → Sight) (tables : ℕ → TableId) (K : Shape) (gs : List (Guarded (SharedLog D))) (hs : List (Guarded (SharedShard S))) (open_ : AreLocksOpen sight tables K gs hs) where
   homes_so : (homes : List (Vec (Seat (SharedLog D)))) → AllFrom (IsHomeFresh K gs) 0 homes → Fresh log_sight (λ i. home_lanes K (0 + i)) gs homes
   homes_so homes a i g r at there =
       let m = all_here (IsHomeFresh K gs) homes i r a there in
@@ -111,7 +111,7 @@ module _ {D S : Type 0} (sight : S → Sight) (tables : ℕ → TableId) (K : Sh
   -- no lane ran, and all seats are as they were
   pub not_run : (homes : List (Vec (Seat (SharedLog D)))) (rows : List (Vec (Seat (SharedShard S)))) (lanes lanes' : List LaneOf)
       → AllFrom (IsHomeFresh K gs) 0 homes → length homes ≡ K.coordinators → AreLeft (shard_sight sight) (all_lanes K) hs rows → length lanes ≡ K.coordinators * K.lanes
-      → map (λ (x : LaneOf). x.txs) lanes' ≡ map (λ (x : LaneOf). x.txs) lanes → All HasNoMemory lanes' → AreThrough sight K gs hs homes rows lanes lanes'
+      → map (λ (x : LaneOf). x.txs) lanes' ≡ map (λ (x : LaneOf). x.txs) lanes → All HasStoppedForMemory lanes' → AreThrough sight K gs hs homes rows lanes lanes'
   not_run homes rows lanes lanes' a homes_many left lanes_many same stopped =
       let one = mul-le 1 1 K.coordinators K.lanes open_.limits.some_coordinator open_.limits.some_lane in
       let all = many_lanes 0 (K.coordinators * K.lanes) in
@@ -124,5 +124,5 @@ module _ {D S : Type 0} (sight : S → Sight) (tables : ℕ → TableId) (K : Sh
             let lt : lane < K.coordinators * K.lanes = subst (λ n. lane < n) lanes_many (get_within lanes lane x e) in
             unrun K (log_at gs) (shard_at sight hs) (hands_at homes) (hands_at rows) lane x y (open_.settled lane lt) (home_hand homes lane homes_many a lt)
             (λ s low. shard_hand rows lane s left lt low) (λ s le. past_end (λ h. shard_sight sight (opening_of h)) hs s (subst (λ n. n ≤ s) (sym open_.shards_many) le))
-            (same_txs lanes lanes' lane x y same e f) (get_all HasNoMemory lanes' lane y stopped f);
+            (same_txs lanes lanes' lane x y same e f) (get_all HasStoppedForMemory lanes' lane y stopped f);
       }

@@ -23,12 +23,12 @@ use Rattle.port_sets.specs.declared.coordinators.SharedLog.{SharedLog}
 use Rattle.port_sets.specs.declared.locking.SharedShard.{SharedShard}
 use Rattle.thread_laws.specs.Closing.{IsHand}
 use Rattle.thread_laws.specs.Running.{WaveRan, LaneRan, IsStillSight}
-use Rattle.thread_laws.specs.Whole.{EachPair, HasEnded}
+use Rattle.thread_laws.specs.Whole.{EachPair, LaneHasEnded}
 use Rattle.lane_waves.specs.NodeRows.{AreLocked, AreClosed, AreLeft}
-use Rattle.lane_waves.specs.Among.{row_at, hands_at}
+use Rattle.lane_waves.specs.Among.{lanes_of_lock, hands_at}
 use Rattle.lane_waves.specs.Laws.{WentOn}
 use Rattle.lane_waves.proofs.NodePlaces.{nodes_ran}
-use Rattle.lane_waves.specs.Lanes.{HasNoMemory, IsReady}
+use Rattle.lane_waves.specs.Lanes.{HasStoppedForMemory, IsLaneReady}
 use Rattle.lane_waves.specs.Places.{AllFrom, BothFrom}
 use Rattle.lane_waves.specs.Rows.{home_lanes, all_lanes, IsHomeRow, IsShardRow}
 use Rattle.lane_waves.specs.Deals.{MayRun, log_at}
@@ -61,12 +61,12 @@ few_lanes K limits =
     let high = mul-le K.coordinators K.lanes 16 16 limits.coordinators limits.lanes in
     (omega (arith, low), omega (arith, high))
 
-row_is : (lanes : ℕ → List ℕ) (k : ℕ) (rs : List (Vec ℕ)) (n : ℕ) → AllFrom (λ j r. r.items ≡ lanes j) k rs → n < length rs → row_at rs n ≡ lanes (k + n)
+row_is : (lanes : ℕ → List ℕ) (k : ℕ) (rs : List (Vec ℕ)) (n : ℕ) → AllFrom (λ j r. r.items ≡ lanes j) k rs → n < length rs → lanes_of_lock rs n ≡ lanes (k + n)
 row_is lanes k [] n a lt = absurd (let z : n < 0 = lt in omega (arith, z))
 row_is lanes k (r ∷ rs) zero a lt = let none : k ≡ k + 0 = omega arith in a.0 ∙ ap lanes none
 row_is lanes k (r ∷ rs) (suc n) a lt = let more : suc k + n ≡ k + suc n = omega arith in row_is lanes (suc k) rs n a.1 (omega (arith, lt)) ∙ ap lanes more
 
-row_here : (lanes : ℕ → List ℕ) (rs : List (Vec ℕ)) (n : ℕ) → AllFrom (λ j r. r.items ≡ lanes j) 0 rs → n < length rs → row_at rs n ≡ lanes n
+row_here : (lanes : ℕ → List ℕ) (rs : List (Vec ℕ)) (n : ℕ) → AllFrom (λ j r. r.items ≡ lanes j) 0 rs → n < length rs → lanes_of_lock rs n ≡ lanes n
 row_here lanes rs n a lt = let none : 0 + n ≡ n = omega arith in row_is lanes 0 rs n a lt ∙ ap lanes none
 
 -- the lanes of a coordinator's row are its own
@@ -113,7 +113,7 @@ at_shard K first lane lt = let is : 0 + lane ≡ lane = omega arith in subst (λ
 -- nodes that were asked nothing, and lanes that have stopped for want of memory
 pub unrun_wave : (K : Shape) (logs shards logs' shards' : ℕ → Sight) (old new : List LaneOf) → IsWithinLimits K → ((n : ℕ) → n < K.coordinators → IsStillSight (logs n) (logs' n)) → ((s : ℕ) → s < K.shards → IsStillSight (shards s) (shards' s))
     → ((s : ℕ) → K.shards ≤ s → shards s ≡ no_node) → ((lane : ℕ) → lane < K.coordinators * K.lanes → IsSettled K lane (logs (home_of K lane)) shards) → length old ≡ K.coordinators * K.lanes
-    → map (λ z. z.txs) new ≡ map (λ z. z.txs) old → All HasNoMemory new → WaveRan K logs shards logs' shards' old new
+    → map (λ z. z.txs) new ≡ map (λ z. z.txs) old → All HasStoppedForMemory new → WaveRan K logs shards logs' shards' old new
 unrun_wave K logs shards logs' shards' old new limits still_logs still_shards past settled many same stopped = record {
   log_lanes = home_lanes K;
   log_hands = λ n. map (fresh (logs n)) (home_lanes K n);
@@ -129,7 +129,7 @@ unrun_wave K logs shards logs' shards' old new limits still_logs still_shards pa
       let short = get_within old lane x e in
       let lt : lane < K.coordinators * K.lanes = omega (arith, short, many) in
       unrun K logs shards (λ n. map (fresh (logs n)) (home_lanes K n)) (λ s. map (fresh (shards s)) (all_lanes K)) lane x y (settled lane lt) (at_home K (logs (home_of K lane)) lane some)
-      (λ s le. at_shard K (shards s) lane lt) past (same_txs old new lane x y same e f) (get_all HasNoMemory new lane y stopped f);
+      (λ s le. at_shard K (shards s) lane lt) past (same_txs old new lane x y same e f) (get_all HasStoppedForMemory new lane y stopped f);
 }
 
 -- a list of nodes is still itself
@@ -148,9 +148,9 @@ module _ {D S : Type 0} (sight : S → Sight) (log_goes : SharedLog D → Shared
       let logs_are = seen_maps opening_of log_sight gs ns (openings log_sight ns home_rows gs homes logs_locked) in
       let shards_are = seen_maps opening_of (shard_sight sight) hs ms (openings (shard_sight sight) ms shard_rows hs rows shards_locked) in
       record {
-        log_lanes = row_at home_rows;
+        log_lanes = lanes_of_lock home_rows;
         log_hands = hands_at homes';
-        shard_lanes = row_at shard_rows;
+        shard_lanes = lanes_of_lock shard_rows;
         shard_hands = hands_at rows';
         log_ran = λ n lt. nodes_ran log_sight log_goes ns home_rows gs homes homes' ns' logs_locked logs_closed n (omega (arith, lt, logs_many));
         shard_ran = λ s lt. nodes_ran (shard_sight sight) shard_goes ms shard_rows hs rows rows' ms' shards_locked shards_closed s (omega (arith, lt, shards_many));
@@ -174,21 +174,21 @@ module _ {M N : Type 0} (f : M → N) where
   all_map P (x ∷ xs) a = All-cons (λ x. P (f x)) x xs (All-head P (f x) (map f xs) a) (all_map P xs (All-tail P (f x) (map f xs) a))
 
 -- lanes that were made ready may run
-pub may_run : (old new : List LaneOf) → map (λ z. z.txs) new ≡ map (λ z. z.txs) old → All (λ z. All IsCompact z.txs) old → All IsReady new → All MayRun new
+pub may_run : (old new : List LaneOf) → map (λ z. z.txs) new ≡ map (λ z. z.txs) old → All (λ z. All IsCompact z.txs) old → All IsLaneReady new → All MayRun new
 may_run old [] m a r = All-nil MayRun
 may_run [] (w ∷ new) m a r = absurd (let z : w.txs ∷ map (λ z. z.txs) new ≡ [] = m in cc)
 may_run (v ∷ old) (w ∷ new) m a r =
     let c : w.txs ≡ v.txs = let z : w.txs ∷ map (λ z. z.txs) new ≡ v.txs ∷ map (λ z. z.txs) old = m in cc in
     let more : map (λ z. z.txs) new ≡ map (λ z. z.txs) old = let z : w.txs ∷ map (λ z. z.txs) new ≡ v.txs ∷ map (λ z. z.txs) old = m in cc in
-    All-cons MayRun w new (record { ready = All-head IsReady w new r; limits = subst (λ t. All IsCompact t) (sym c) (All-head (λ z. All IsCompact z.txs) v old a) })
-    (may_run old new more (All-tail (λ z. All IsCompact z.txs) v old a) (All-tail IsReady w new r))
+    All-cons MayRun w new (record { ready = All-head IsLaneReady w new r; limits = subst (λ t. All IsCompact t) (sym c) (All-head (λ z. All IsCompact z.txs) v old a) })
+    (may_run old new more (All-tail (λ z. All IsCompact z.txs) v old a) (All-tail IsLaneReady w new r))
 
 -- a lane that was made ready first ended as the lane that it was before
-ended_anew : (K : Shape) (lane : ℕ) (log : Sight) (shards : ℕ → Sight) (log' : Sight) (shards' : ℕ → Sight) (old mid new : LaneOf) → IsReady mid → HasEnded K lane log shards log' shards' mid new → HasEnded K lane log shards log' shards' old new
+ended_anew : (K : Shape) (lane : ℕ) (log : Sight) (shards : ℕ → Sight) (log' : Sight) (shards' : ℕ → Sight) (old mid new : LaneOf) → IsLaneReady mid → LaneHasEnded K lane log shards log' shards' mid new → LaneHasEnded K lane log shards log' shards' old new
 ended_anew K lane log shards log' shards' old mid new ready (inl (d, (none, keeps))) = inl (d, (none, λ z b. keeps ready.decided ready.batches))
 ended_anew K lane log shards log' shards' old mid new ready (inr (e, stopped, (some, by))) = inr (e, stopped, (some, λ f. by ready.fault))
 
-lane_anew : (K : Shape) (logs shards : ℕ → Sight) (log_hands shard_hands : ℕ → List Hand) (lane : ℕ) (old mid new : LaneOf) → IsReady mid → mid.txs ≡ old.txs → LaneRan K logs shards log_hands shard_hands lane mid new → LaneRan K logs shards log_hands shard_hands lane old new
+lane_anew : (K : Shape) (logs shards : ℕ → Sight) (log_hands shard_hands : ℕ → List Hand) (lane : ℕ) (old mid new : LaneOf) → IsLaneReady mid → mid.txs ≡ old.txs → LaneRan K logs shards log_hands shard_hands lane mid new → LaneRan K logs shards log_hands shard_hands lane old new
 lane_anew K logs shards log_hands shard_hands lane old mid new ready txs r = record {
   log = r.log;
   seen = r.seen;
@@ -202,7 +202,7 @@ lane_anew K logs shards log_hands shard_hands lane old mid new ready txs r = rec
   ended = ended_anew K lane r.log r.seen r.log' r.seen' old mid new ready r.ended;
 }
 
-pub wave_anew : (K : Shape) (logs shards logs' shards' : ℕ → Sight) (old mid new : List LaneOf) → map (λ z. z.txs) mid ≡ map (λ z. z.txs) old → All IsReady mid → WaveRan K logs shards logs' shards' mid new → WaveRan K logs shards logs' shards' old new
+pub wave_anew : (K : Shape) (logs shards logs' shards' : ℕ → Sight) (old mid new : List LaneOf) → map (λ z. z.txs) mid ≡ map (λ z. z.txs) old → All IsLaneReady mid → WaveRan K logs shards logs' shards' mid new → WaveRan K logs shards logs' shards' old new
 wave_anew K logs shards logs' shards' old mid new same ready w = record {
   log_lanes = w.log_lanes;
   log_hands = w.log_hands;
@@ -217,5 +217,5 @@ wave_anew K logs shards logs' shards' old mid new same ready w = record {
       let lt = get_within old lane x e in
       let many = same_many old mid same in
       let m = get_there mid lane (omega (arith, lt, many)) in
-      lane_anew K logs shards w.log_hands w.shard_hands lane x m.0 y (get_all IsReady mid lane m.0 ready m.1) (same_txs old mid lane x m.0 same e m.1) (w.lanes lane m.0 y m.1 f);
+      lane_anew K logs shards w.log_hands w.shard_hands lane x m.0 y (get_all IsLaneReady mid lane m.0 ready m.1) (same_txs old mid lane x m.0 same e m.1) (w.lanes lane m.0 y m.1 f);
 }

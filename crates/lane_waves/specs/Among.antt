@@ -6,10 +6,10 @@ use Rattle.node_lock.specs.declared.seat.Seat.{Seat}
 use Rattle.node_lock.specs.Seats.{all_known}
 
 -- the lanes of the lock at a place
-abbrev pub row_at : List (Vec ℕ) → ℕ → List ℕ
-row_at [] n = []
-row_at (r ∷ rs) zero = r.items
-row_at (r ∷ rs) (suc n) = row_at rs n
+abbrev pub lanes_of_lock : List (Vec ℕ) → ℕ → List ℕ
+lanes_of_lock [] n = []
+lanes_of_lock (r ∷ rs) zero = r.items
+lanes_of_lock (r ∷ rs) (suc n) = lanes_of_lock rs n
 
 module _ {N : Type 0} where
   -- what its seats know

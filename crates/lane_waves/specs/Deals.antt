@@ -20,17 +20,17 @@ use Rattle.port_sets.specs.declared.locking.SharedShard.{SharedShard}
 use Rattle.port_sets.specs.declared.logged.LogSeat.{LogSeat}
 use Rattle.port_sets.specs.declared.tables.Locks.{Ghosts}
 use Rattle.lane_waves.specs.NodeRows.{AreLeft, AreDealt}
-use Rattle.lane_waves.specs.Held.{Begins, log_of, shards_of}
+use Rattle.lane_waves.specs.Held.{RunBegins, log_of, shards_of}
 use Rattle.lane_waves.specs.Ports.{ArePorts, AtTables}
 use Rattle.lane_waves.specs.declared.runs.LaneRun.{LaneRun}
-use Rattle.lane_waves.specs.Lanes.{IsReady}
+use Rattle.lane_waves.specs.Lanes.{IsLaneReady}
 use Rattle.lane_waves.specs.Places.{AllFrom, BothFrom}
 use Rattle.lane_waves.specs.Rows.{lanes_from, home_lanes, all_lanes}
 use Rattle.lane_waves.specs.declared.dealing.Table.{Table}
 
 -- a lane that is ready, and whose transactions are within the limits
 pub record MayRun (x : LaneOf) : Type 0 where
-  pub ready : IsReady x
+  pub ready : IsLaneReady x
   pub limits : All IsCompact x.txs
 
 -- each list has room for so many items in all
@@ -52,7 +52,7 @@ started lane first = viewed first (fresh first lane)
 
 module _ {W D S B X : Type 0} {G : Ghosts B} where
   -- so many lanes have no seats yet, and there is room for theirs
-  pub record HasRoom (shards n : ℕ) (t : Table W D S B X G) : Type 0 where
+  pub record HasRoomForSeats (shards n : ℕ) (t : Table W D S B X G) : Type 0 where
     pub rows : length t.rows.items ≡ shards
     pub rows_hold : EachHolds (length t.runs.items + n) t.rows.items
     pub seats : (t.seats.items ≡ []) × (shards ≤ vec_capacity t.seats)
@@ -65,12 +65,12 @@ module _ {W D S B X : Type 0} {G : Ghosts B} where
     pub runs_hold : length t.runs.items + n ≤ vec_capacity t.runs
 
   -- so many lanes wait for their seats: these are left of each lock, and there is room for them
-  pub record IsWaiting (sight : S → Sight) (hs : List (Guarded (SharedShard S))) (n : ℕ) (t : Table W D S B X G) : Type 0 where
-    pub room : HasRoom (length hs) n t
+  pub record AreLanesWaiting (sight : S → Sight) (hs : List (Guarded (SharedShard S))) (n : ℕ) (t : Table W D S B X G) : Type 0 where
+    pub room : HasRoomForSeats (length hs) n t
     pub left : AreLeft (shard_sight sight) (lanes_from 0 n) hs t.rows.items
 
   -- the last lane got its seats: that of its coordinator, and a fresh one of each shard
-  pub record IsNext (sight : S → Sight) (hs : List (Guarded (SharedShard S))) (home : LogSeat W D B G) (t u : Table W D S B X G) : Type 0 where
+  pub record IsLaneSeated (sight : S → Sight) (hs : List (Guarded (SharedShard S))) (home : LogSeat W D B G) (t u : Table W D S B X G) : Type 0 where
     pub run : LaneRun W D S B X G
     pub runs : u.runs.items ≡ t.runs.items ++ run ∷ []
     pub lanes : t.lanes.items ≡ u.lanes.items ++ run.work ∷ []
@@ -91,7 +91,7 @@ module _ {D : Type 0} where
   IsHomeFresh K gs home ss = (length ss.items ≡ K.lanes) × IsHomeLeft K home gs ss.items
 
 -- an open node of the ledger, at its place, whose disk has failed no less often than when it was opened
-pub record IsOpenAt (K : Shape) (n : ℕ) (s : Sight) : Type 0 where
+pub record IsOpenNodeAt (K : Shape) (n : ℕ) (s : Sight) : Type 0 where
   pub shape : s.header.shape ≡ K
   pub node : s.header.node ≡ n
   pub since : s.opened ≤ s.faults
@@ -106,12 +106,12 @@ shard_at sight hs = sight_at (λ h. shard_sight sight (opening_of h)) hs
 
 module _ {D S : Type 0} (sight : S → Sight) (tables : ℕ → TableId) (K : Shape) (gs : List (Guarded (SharedLog D))) (hs : List (Guarded (SharedShard S))) where
   -- the locks are of the ledger's nodes, each for the lanes that ask it; all lanes are settled there; and the wave's picks are these locks
-  pub record AreOpen : Type 0 where
+  pub record AreLocksOpen : Type 0 where
     pub limits : IsWithinLimits K
     pub logs_many : length gs ≡ K.coordinators
     pub shards_many : length hs ≡ K.shards
-    pub logs : AllFrom (λ n g. IsOpenAt K n (log_sight (opening_of g))) 0 gs
-    pub shards : AllFrom (λ s h. IsOpenAt K (shard_node K s) (shard_sight sight (opening_of h))) 0 hs
+    pub logs : AllFrom (λ n g. IsOpenNodeAt K n (log_sight (opening_of g))) 0 gs
+    pub shards : AllFrom (λ s h. IsOpenNodeAt K (shard_node K s) (shard_sight sight (opening_of h))) 0 hs
     pub settled : (lane : ℕ) → lane < K.coordinators * K.lanes → IsSettled K lane (log_at gs (home_of K lane)) (shard_at sight hs)
     pub log_lanes : AllFrom (λ n g. lanes_of g ≡ home_lanes K n) 0 gs
     pub shard_lanes : AllFrom (λ s h. lanes_of h ≡ all_lanes K) 0 hs
@@ -123,8 +123,8 @@ module _ {D S : Type 0} (sight : S → Sight) (tables : ℕ → TableId) (K : Sh
     pub record IsSetUp (lane : ℕ) (x : LaneOf) (r : LaneRun W D S B X G) : Type 0 where
       pub lane_is : r.lane ≡ lane
       pub work : r.work ≡ x
-      pub ready : IsReady x
-      pub begins : Begins sight tables K r
+      pub ready : IsLaneReady x
+      pub begins : RunBegins sight tables K r
       pub mine : (knows r.ports.log.seat).lane ≡ lane
       pub log : log_of sight tables K r ≡ started lane (log_at gs (home_of K lane))
       pub shards : (s : ℕ) → shards_of sight tables K r s ≡ started lane (shard_at sight hs s)

@@ -15,11 +15,11 @@ use Rattle.port_sets.specs.declared.locking.SharedShard.{SharedShard}
 use Rattle.port_sets.specs.declared.tables.Locks.{Ghosts}
 use Rattle.thread_laws.specs.Telling.{told_in}
 use Rattle.lane_waves.specs.Dealing.{PopsEach}
-use Rattle.lane_waves.specs.NodeRows.{AreBack, AreOf}
-use Rattle.lane_waves.specs.Held.{Ends}
+use Rattle.lane_waves.specs.NodeRows.{AreSeatsBack, AreOf}
+use Rattle.lane_waves.specs.Held.{RunEnds}
 use Rattle.lane_waves.specs.Ports.{seats_of}
 use Rattle.lane_waves.specs.declared.runs.LaneRun.{LaneRun}
-use Rattle.lane_waves.specs.Lanes.{IsReady, IsKept}
+use Rattle.lane_waves.specs.Lanes.{IsLaneReady, IsResultKept}
 use Rattle.lane_waves.specs.declared.dealing.Table.{Table}
 
 module _ {N : Type 0} where
@@ -45,9 +45,9 @@ MayKeep x None = ⊥
 MayKeep x (Some came) = IfOk came (λ report. length (told_in report.batches) ≤ length x.txs)
 
 -- the older list is what the newer one began as
-abbrev pub IsEnd : LaneOf → Option (Result LaneReport LaneFault) → LaneOf → Type 0
-IsEnd x None y = ⊥
-IsEnd x (Some came) y = IsKept x came y
+abbrev pub IsLaneEnd : LaneOf → Option (Result LaneReport LaneFault) → LaneOf → Type 0
+IsLaneEnd x None y = ⊥
+IsLaneEnd x (Some came) y = IsResultKept x came y
 
 module _ {W D S B X : Type 0} {G : Ghosts B} where
   -- its seats of the shards, and that of its coordinator
@@ -61,7 +61,7 @@ module _ {W D S B X : Type 0} {G : Ghosts B} where
   -- a run that has ended: its result is known
   pub record IsOver (shards : ℕ) (r : LaneRun W D S B X G) : Type 0 where
     pub many : length r.ports.shards.each.ports.items ≡ shards
-    pub ready : IsReady r.work
+    pub ready : IsLaneReady r.work
     pub came : MayKeep r.work r.came
 
   -- so have all
@@ -73,7 +73,7 @@ module _ {W D S B X : Type 0} {G : Ghosts B} where
   pub record AreRun (sight : S → Sight) (tables : ℕ → TableId) (K : Shape) (t u : Table W D S B X G) : Type 0 where
     pub runs : Vec (LaneRun W D S B X G)
     pub rest : u ≡ record t { runs = runs }
-    pub ends : AllZip (Ends sight tables K) t.runs.items runs.items
+    pub ends : AllZip (RunEnds sight tables K) t.runs.items runs.items
 
   -- there is room for all seats and lanes that are not back
   pub record MayGather (t : Table W D S B X G) : Type 0 where
@@ -84,14 +84,14 @@ module _ {W D S B X : Type 0} {G : Ghosts B} where
     pub over : AllOver (length t.rows.items) t.runs.items
 
   -- the last run was taken apart
-  pub record IsBack (t : Table W D S B X G) (home : Seat (SharedLog D)) (u : Table W D S B X G) : Type 0 where
+  pub record IsRunBack (t : Table W D S B X G) (home : Seat (SharedLog D)) (u : Table W D S B X G) : Type 0 where
     pub run : LaneRun W D S B X G
     pub runs : t.runs.items ≡ u.runs.items ++ run ∷ []
     pub home_is : home ≡ home_seat run
     pub rows : PopsEach u.rows.items t.rows.items (shard_seats run)
     pub lane : LaneOf
     pub lanes : u.lanes.items ≡ t.lanes.items ++ lane ∷ []
-    pub came : IsEnd run.work run.came lane
+    pub came : IsLaneEnd run.work run.came lane
 
   -- so many runs were, and these are their seats of their coordinator
   pub record AreHome (n : ℕ) (t : Table W D S B X G) (own : List (Seat (SharedLog D))) (u : Table W D S B X G) : Type 0 where
@@ -111,13 +111,13 @@ module _ {W D S B X : Type 0} {G : Ghosts B} where
   AllOf locks (r ∷ rs) = AreOf locks (shard_seats r) × AllOf locks rs
 
   -- of these runs, whose seats are of these locks, those that are not in the list any more are back, with their lanes
-  pub record Gathered (locks : List (Guarded (SharedShard S))) (all : List (LaneRun W D S B X G)) (t : Table W D S B X G) : Type 0 where
+  pub record RunsGathered (locks : List (Guarded (SharedShard S))) (all : List (LaneRun W D S B X G)) (t : Table W D S B X G) : Type 0 where
     pub gone : List (LaneRun W D S B X G)
     pub all_are : all ≡ t.runs.items ++ gone
     pub of : AllOf locks all
-    pub back : AreBack (length gone) locks t.rows.items
+    pub back : AreSeatsBack (length gone) locks t.rows.items
     pub gave : AllGave gone t.rows.items
-    pub lanes : AllZip (λ r x. IsEnd r.work r.came x) gone (reverse t.lanes.items)
+    pub lanes : AllZip (λ r x. IsLaneEnd r.work r.came x) gone (reverse t.lanes.items)
 
   -- so many runs for each list, which has their seats, the last list first
   abbrev pub Chunks : ℕ → List (Vec (Seat (SharedLog D))) → List (LaneRun W D S B X G) → Type 0

@@ -16,13 +16,13 @@ use Rattle.node_lock.specs.Seats.{TableId, knows, table_of}
 use Rattle.node_ports.specs.Nodes.{sight_at}
 use Rattle.port_sets.specs.declared.tables.Locks.{Ghosts}
 use Rattle.port_sets.specs.Nodes.{shard_sight, log_sight}
-use Rattle.port_sets.specs.Seated.{seat_sight, seen_at, phase_at, Serves}
+use Rattle.port_sets.specs.Seated.{seat_sight, seen_at, seat_phase, Serves}
 use Rattle.port_sets.specs.declared.seated.ShardSeat.{ShardSeat}
 use Rattle.lane_waves.specs.declared.runs.LaneRun.{LaneRun}
 
 -- each port takes the lane's calls
-abbrev pub AreOfLane : {W S B : Type 0} {G : Ghosts B} → (S → Sight) → ℕ → List (ShardSeat W S B G) → Type 0
-AreOfLane sight lane ports = All (λ p. Serves (shard_sight sight) p.guarded.now p.seat lane) ports
+abbrev pub TakeCallsOf : {W S B : Type 0} {G : Ghosts B} → (S → Sight) → ℕ → List (ShardSeat W S B G) → Type 0
+TakeCallsOf sight lane ports = All (λ p. Serves (shard_sight sight) p.guarded.now p.seat lane) ports
 
 module _ {W D S B X : Type 0} {G : Ghosts B} (sight : S → Sight) (tables : ℕ → TableId) (K : Shape) where
   -- its seats are those of the wave's locks: of a shard, by the number in its header
@@ -42,22 +42,22 @@ module _ {W D S B X : Type 0} {G : Ghosts B} (sight : S → Sight) (tables : ℕ
 
   -- a run before its first call: seats of the wave's locks, of its own lane, at the nodes of the ledger; an idle, settled lane; transactions within
   -- the limits
-  pub record Begins (r : LaneRun W D S B X G) : Type 0 where
+  pub record RunBegins (r : LaneRun W D S B X G) : Type 0 where
     pub seated : IsSeated r
     pub at : r.ports.log.node ≡ home_of K r.lane
     pub home : IsLane (seat_sight (log_sight {D = D}) r.ports.log.seat).header r.lane
     pub shape : (seat_sight (log_sight {D = D}) r.ports.log.seat).header.shape ≡ K
-    pub idle : phase_at (knows r.ports.log.seat).lane (seat_sight (log_sight {D = D}) r.ports.log.seat) r.lane ≡ Idle
+    pub idle : seat_phase (knows r.ports.log.seat).lane (seat_sight (log_sight {D = D}) r.ports.log.seat) r.lane ≡ Idle
     pub count_is : length r.ports.shards.each.ports.items ≡ K.shards
     pub ledger : AreShardsOf K (shards_of r)
     pub settled : IsSettled K r.lane (log_of r) (shards_of r)
-    pub ours : AreOfLane sight r.lane r.ports.shards.each.ports.items
+    pub ours : TakeCallsOf sight r.lane r.ports.shards.each.ports.items
     pub limits : All IsCompact r.work.txs
 
   -- where it came to its end it has done all, and else it tells at what it stopped
   pub record RanAll (r q : LaneRun W D S B X G) (report : LaneReport) : Type 0 where
     pub done : (k : ℕ) → Settled K r.lane k (log_of r) (shards_of r) → LaneSo K false r.lane r.work.txs [] (log_of r) (shards_of r) (log_of q) (shards_of q)
-    pub idle : phase_at (knows q.ports.log.seat).lane (seat_sight (log_sight {D = D}) q.ports.log.seat) r.lane ≡ Idle
+    pub idle : seat_phase (knows q.ports.log.seat).lane (seat_sight (log_sight {D = D}) q.ports.log.seat) r.lane ≡ Idle
     pub named : IsReported r.lane K.batch r.work.txs [] report.batches
     pub batches : (k : ℕ) → Settled K r.lane k (log_of r) (shards_of r) → AreDone K false r.lane r.work.txs (log_of r) (shards_of r) (reverse report.batches) [] (log_of q) (shards_of q)
 
@@ -74,13 +74,13 @@ module _ {W D S B X : Type 0} {G : Ghosts B} (sight : S → Sight) (tables : ℕ
   HasRun r q (Some (Err fault)) = RanUntil r q fault
 
   -- a run behind its last call: the same lane, transactions, locks and nodes, and `HasRun`
-  pub record Ends (r q : LaneRun W D S B X G) : Type 0 where
+  pub record RunEnds (r q : LaneRun W D S B X G) : Type 0 where
     pub seated : IsSeated q
     pub lane : q.lane ≡ r.lane
     pub work : q.work ≡ r.work
     pub at : q.ports.log.node ≡ r.ports.log.node
     pub count_is : length q.ports.shards.each.ports.items ≡ length r.ports.shards.each.ports.items
-    pub of_lane : (lane : ℕ) → AreOfLane sight lane r.ports.shards.each.ports.items → AreOfLane sight lane q.ports.shards.each.ports.items
+    pub of_lane : (lane : ℕ) → TakeCallsOf sight lane r.ports.shards.each.ports.items → TakeCallsOf sight lane q.ports.shards.each.ports.items
     pub own_lane : (knows q.ports.log.seat).lane ≡ (knows r.ports.log.seat).lane
     pub log_nodes : KeepNodes (logs_of r) (logs_of q)
     pub nodes : KeepNodes (shards_of r) (shards_of q)

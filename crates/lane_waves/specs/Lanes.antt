@@ -8,24 +8,24 @@ use Rattle.ledger_runs.specs.Telling.{kept_by}
 use Rattle.thread_laws.specs.Telling.{told_in}
 
 -- nothing is decided of the lane's transactions, there is room for an outcome of each, and it has not stopped
-pub record IsReady (x : LaneOf) : Type 0 where
+pub record IsLaneReady (x : LaneOf) : Type 0 where
   pub decided : x.decided.items ≡ []
   pub room : length x.txs ≤ vec_capacity x.decided
   pub batches : x.batches ≡ 0
   pub fault : x.fault ≡ None
 
 -- it stopped because memory ran out, before its first call
-abbrev pub HasNoMemory : LaneOf → Type 0
-HasNoMemory x = x.fault ≡ Some (record { node = 0; fault = Memory })
+abbrev pub HasStoppedForMemory : LaneOf → Type 0
+HasStoppedForMemory x = x.fault ≡ Some (record { node = 0; fault = Memory })
 
 -- it keeps what its batches came to, in order
-pub record Keeps (x : LaneOf) (report : LaneReport) (y : LaneOf) : Type 0 where
+pub record KeepsReport (x : LaneOf) (report : LaneReport) (y : LaneOf) : Type 0 where
   pub txs : y.txs ≡ x.txs
   pub fault : y.fault ≡ None
   pub kept : kept_by y.decided.items ≡ told_in report.batches
   pub count : y.batches ≡ min (length report.batches) 18446744073709551615
 
 -- the lane with the result of its run
-abbrev pub IsKept : LaneOf → Result LaneReport LaneFault → LaneOf → Type 0
-IsKept x (Ok report) y = Keeps x report y
-IsKept x (Err e) y = (y.txs ≡ x.txs) × (y.fault ≡ Some e)
+abbrev pub IsResultKept : LaneOf → Result LaneReport LaneFault → LaneOf → Type 0
+IsResultKept x (Ok report) y = KeepsReport x report y
+IsResultKept x (Err e) y = (y.txs ≡ x.txs) × (y.fault ≡ Some e)

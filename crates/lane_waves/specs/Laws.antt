@@ -7,14 +7,14 @@ use Rattle.node_lock.specs.declared.seat.Seat.{Seat}
 use Rattle.node_ports.specs.Nodes.{sight_at}
 use Rattle.thread_laws.specs.Running.{NodeRan, IsStillSight}
 use Rattle.lane_waves.specs.NodeRows.{AreLocked, AreClosed, AreStill}
-use Rattle.lane_waves.specs.Among.{row_at, hands_at}
+use Rattle.lane_waves.specs.Among.{lanes_of_lock, hands_at}
 
 module _ {N : Type 0} (sight : N → Sight) (goes : N → N → Type 0) where
   -- nodes that were locked and closed have run, each with the lanes of its row and the hands of its seats
   abbrev pub NodesRanLaw : Type 0
   NodesRanLaw = (nodes : List N) (rows : List (Vec ℕ)) (locks : List (Guarded N)) (first last : List (Vec (Seat N))) (closed : List N)
       → AreLocked sight nodes rows locks first → AreClosed sight goes locks last closed
-      → (n : ℕ) → n < length nodes → NodeRan (sight_at sight nodes n) (row_at rows n) (hands_at last n) (sight_at sight closed n)
+      → (n : ℕ) → n < length nodes → NodeRan (sight_at sight nodes n) (lanes_of_lock rows n) (hands_at last n) (sight_at sight closed n)
 
   -- nodes that were asked nothing are still
   abbrev pub NodesStillLaw : Type 0

@@ -3,7 +3,7 @@ use Rattle.std.specs.Prelude.{◌≡◌, ◌*◌, List, All, length}
 use Rattle.cbdc_model.specs.Records.{Shape}
 use Rattle.ledger_runs.specs.Lanes.{LaneOf}
 use Rattle.port_sets.specs.declared.tables.Locks.{Ghosts}
-use Rattle.lane_waves.specs.Lanes.{IsReady}
+use Rattle.lane_waves.specs.Lanes.{IsLaneReady}
 use Rattle.lane_waves.specs.Places.{AllFrom}
 use Rattle.lane_waves.specs.Rows.{IsHomeRow, IsShardRow}
 use Rattle.lane_waves.specs.Deals.{IsEmptyRoom}
@@ -18,7 +18,7 @@ pub record IsNodeRoom {D S : Type 0} (K : Shape) (r : NodeRoom D S) (lanes : Lis
   pub shard_rows_many : length r.shard_rows.items ≡ K.shards
   pub logs : IsEmptyRoom K.coordinators r.nodes.logs
   pub shards : IsEmptyRoom K.shards r.nodes.shards
-  pub ready : All IsReady lanes
+  pub ready : All IsLaneReady lanes
 
 -- empty lists with room for all lanes' seats, ports and runs
 pub record IsLaneRoom {W D S B X : Type 0} {G : Ghosts B} (K : Shape) (r : LaneRoom W D S B X G) : Type 0 where

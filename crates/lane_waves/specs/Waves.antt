@@ -13,7 +13,7 @@ use Rattle.port_sets.specs.declared.coordinators.SharedLog.{SharedLog}
 use Rattle.port_sets.specs.declared.locking.SharedShard.{SharedShard}
 use Rattle.thread_laws.specs.Running.{LaneRan}
 use Rattle.thread_laws.specs.Whole.{EachPair}
-use Rattle.lane_waves.specs.NodeRows.{AreReady}
+use Rattle.lane_waves.specs.NodeRows.{HaveAllSeats}
 use Rattle.lane_waves.specs.Among.{hands_at}
 use Rattle.lane_waves.specs.Deals.{log_at, shard_at}
 
@@ -34,7 +34,7 @@ shard_goes goes a b = goes a.node b.node
 -- all lanes have ended at seats of these locks, and all seats are back
 pub record AreThrough {D S : Type 0} (sight : S → Sight) (K : Shape) (gs : List (Guarded (SharedLog D))) (hs : List (Guarded (SharedShard S)))
     (homes : List (Vec (Seat (SharedLog D)))) (rows : List (Vec (Seat (SharedShard S)))) (lanes lanes' : List LaneOf) : Type 0 where
-  pub homes_ready : AreReady gs homes
-  pub rows_ready : AreReady hs rows
+  pub homes_ready : HaveAllSeats gs homes
+  pub rows_ready : HaveAllSeats hs rows
   pub many : length lanes' ≡ length lanes
   pub lanes_ran : EachPair (LaneRan K (log_at gs) (shard_at sight hs) (hands_at homes) (hands_at rows)) lanes lanes'

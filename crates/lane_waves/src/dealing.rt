@@ -3,7 +3,7 @@ ghost use Rattle.std.specs.Prelude.{◌≡◌, ◌≤◌, ◌<◌, ◌+◌, ◌*
 ghost use Rattle.node_lock.specs.Seats.{knows};
 ghost use Rattle.ledger_runs.specs.Lanes.{LaneOf};
 ghost use Rattle.lane_waves.specs.Places.{AllFrom};
-ghost use Rattle.lane_waves.specs.Deals.{IsWaiting, IsNext, AreOpen, HaveSeats, IsHomeLeft, IsHomeFresh, IsEmptyRoom, IsNone};
+ghost use Rattle.lane_waves.specs.Deals.{AreLanesWaiting, IsLaneSeated, AreLocksOpen, HaveSeats, IsHomeLeft, IsHomeFresh, IsEmptyRoom, IsNone};
 
 use crate::{Dealt, LaneRun, SeatSet, deal, ports_over};
 use cbdc_types::{NodeId, Shape};
@@ -66,9 +66,9 @@ fn deal_lane<'a, W: Wait, D: Disk, S: Shard, B: Locks, X: Source>(
     table: Table<'a, W, D, S, B, X>,
 ) -> Table<'a, W, D, S, B, X>
     requires small { first + length locks.now < 2 ^ 32 }
-    requires waiting { IsWaiting S.sight locks.now (suc (knows home.seat).lane) table }
-    ensures waiting { IsWaiting S.sight locks.now (knows home.entry.seat).lane result }
-    ensures next { IsNext S.sight locks.now home.entry table.entry result }
+    requires waiting { AreLanesWaiting S.sight locks.now (suc (knows home.seat).lane) table }
+    ensures waiting { AreLanesWaiting S.sight locks.now (knows home.entry.seat).lane result }
+    ensures next { IsLaneSeated S.sight locks.now home.entry table.entry result }
 {
     let Table {
         rows,
@@ -120,13 +120,13 @@ fn deal_home<'a, W: Wait, D: Disk, S: Shard, B: Locks, X: Source>(
     mut own: Vec<Seat<SharedLog<D>>>,
     mut table: Table<'a, W, D, S, B, X>,
 ) -> (Vec<Seat<SharedLog<D>>>, Table<'a, W, D, S, B, X>)
-    requires open { AreOpen S.sight B.tables shape.now log_locks.now shard_locks.now }
+    requires open { AreLocksOpen S.sight B.tables shape.now log_locks.now shard_locks.now }
     requires home { home < length log_locks.now }
     requires many { length own.items ≤ shape.now.lanes }
     requires own { IsHomeLeft shape.now home log_locks.now own.items }
-    requires waiting { IsWaiting S.sight shard_locks.now (home * shape.now.lanes + length own.items) table }
+    requires waiting { AreLanesWaiting S.sight shard_locks.now (home * shape.now.lanes + length own.items) table }
     ensures empty { (result.0.items ≡ []) × (vec_capacity result.0 ≡ vec_capacity own) }
-    ensures waiting { IsWaiting S.sight shard_locks.now (home * shape.now.lanes) result.1 }
+    ensures waiting { AreLanesWaiting S.sight shard_locks.now (home * shape.now.lanes) result.1 }
     ensures dealt { (lanes : List LaneOf) → HaveSeats S.sight B.tables shape.now log_locks.now shard_locks.now (home * shape.now.lanes + length own.items) lanes table.entry
         → HaveSeats S.sight B.tables shape.now log_locks.now shard_locks.now (home * shape.now.lanes) lanes result.1 }
 {
@@ -161,16 +161,16 @@ pub(crate) fn deal_all<'a, W: Wait, D: Disk, S: Shard, B: Locks, X: Source>(
     Vec<Vec<Seat<SharedLog<D>>>>,
     Table<'a, W, D, S, B, X>,
 )
-    requires open { AreOpen S.sight B.tables shape.now log_locks.now shard_locks.now }
+    requires open { AreLocksOpen S.sight B.tables shape.now log_locks.now shard_locks.now }
     requires many { length homes.items ≡ shape.now.coordinators }
     requires homes { AllFrom (IsHomeFresh shape.now log_locks.now) 0 homes.items }
     requires empty { emptied.items ≡ [] }
     requires place { shape.now.coordinators ≤ vec_capacity emptied }
-    requires waiting { IsWaiting S.sight shard_locks.now (shape.now.coordinators * shape.now.lanes) table }
+    requires waiting { AreLanesWaiting S.sight shard_locks.now (shape.now.coordinators * shape.now.lanes) table }
     requires none { table.runs.items ≡ [] }
     ensures empty { (result.0.items ≡ []) × (shape.now.coordinators ≤ vec_capacity result.0) }
     ensures emptied { (length result.1.items ≡ shape.now.coordinators) × All (IsEmptyRoom shape.now.lanes) result.1.items }
-    ensures waiting { IsWaiting S.sight shard_locks.now 0 result.2 }
+    ensures waiting { AreLanesWaiting S.sight shard_locks.now 0 result.2 }
     ensures dealt { HaveSeats S.sight B.tables shape.now log_locks.now shard_locks.now 0 table.entry.lanes.items result.2 }
 {
     while let Some(own) = homes.pop() {

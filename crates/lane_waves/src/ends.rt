@@ -1,6 +1,6 @@
 // Locks round all nodes of a list, and all of them back.
 ghost use Rattle.std.specs.Prelude.{◌≡◌, ◌≤◌, ◌+◌, ◌++◌, List, [], length, reverse, IfOk, IfErr, vec_len, vec_capacity};
-ghost use Rattle.lane_waves.specs.NodeRows.{AreRows, AreLocked, AreReady, AreClosed, AreStill};
+ghost use Rattle.lane_waves.specs.NodeRows.{AreRows, AreLocked, HaveAllSeats, AreClosed, AreStill};
 
 use cbdc_types::LaneId;
 use node_lock::{Guarded, Seat, Sighted};
@@ -67,7 +67,7 @@ fn close_onto<N: Sighted>(
     mut seats: Vec<Vec<Seat<N>>>,
     mut nodes: Vec<N>,
 ) -> Vec<N>
-    requires ready { AreReady (reverse locks.items) (reverse seats.items) }
+    requires ready { HaveAllSeats (reverse locks.items) (reverse seats.items) }
     requires room { length nodes.items + length locks.items ≤ vec_capacity nodes }
     ensures { (back : List N) × (result.items ≡ nodes.items ++ back) × AreClosed N.sight N.goes (reverse locks.items) (reverse seats.items) back }
 {
@@ -89,7 +89,7 @@ pub fn close_all<N: Sighted>(
     mut seats: Vec<Vec<Seat<N>>>,
     room: Vec<N>,
 ) -> Vec<N>
-    requires ready { AreReady locks.items seats.items }
+    requires ready { HaveAllSeats locks.items seats.items }
     requires empty { room.items ≡ [] }
     requires room { length locks.items ≤ vec_capacity room }
     ensures { AreClosed N.sight N.goes locks.items seats.items result.items }

@@ -3,7 +3,7 @@ ghost use Rattle.std.specs.Prelude.{◌≡◌, ◌≤◌, ◌<◌, ◌*◌, [], 
 ghost use Rattle.node_lock.specs.declared.lock.Guarded.{Guarded as GuardedOf};
 ghost use Rattle.port_sets.specs.declared.locking.SharedShard.{SharedShard as SharedShardOf};
 ghost use Rattle.lane_waves.specs.Deals.{IsEmptyRoom};
-ghost use Rattle.lane_waves.specs.Gathers.{MayGather, IsBack, Gathered, AreHome, HomesBack};
+ghost use Rattle.lane_waves.specs.Gathers.{MayGather, IsRunBack, RunsGathered, AreHome, HomesBack};
 
 use crate::dealing::Table;
 use crate::lanes::kept;
@@ -22,7 +22,7 @@ fn gather_lane<'a, W: Wait, D: Disk, S: Shard, B: Locks, X: Source>(
     requires room { MayGather table }
     ensures room { MayGather result.1 }
     ensures rooms { result.1.rooms ≡ table.entry.rooms }
-    ensures back { IsBack table.entry result.0 result.1 }
+    ensures back { IsRunBack table.entry result.0 result.1 }
 {
     let Table {
         rows,
@@ -81,7 +81,7 @@ fn gather_home<'a, W: Wait, D: Disk, S: Shard, B: Locks, X: Source>(
     ensures room { MayGather result.1 }
     ensures rooms { result.1.rooms ≡ table.entry.rooms }
     ensures home { AreHome count table.entry result.0.items result.1 }
-    ensures gathered { (locks : List (GuardedOf (SharedShardOf S))) (all : _) → Gathered locks all table.entry → Gathered locks all result.1 }
+    ensures gathered { (locks : List (GuardedOf (SharedShardOf S))) (all : _) → RunsGathered locks all table.entry → RunsGathered locks all result.1 }
 {
     for _place in 0..count {
         let (seat, rest) = gather_lane(table);
@@ -108,7 +108,7 @@ pub(crate) fn gather_all<'a, W: Wait, D: Disk, S: Shard, B: Locks, X: Source>(
     ensures rooms { result.1.rooms ≡ table.entry.rooms }
     ensures many { length result.0.items ≡ length emptied.items }
     ensures homes { HomesBack count table.entry.runs.items result.0.items }
-    ensures gathered { (locks : List (GuardedOf (SharedShardOf S))) (all : _) → Gathered locks all table.entry → Gathered locks all result.1 }
+    ensures gathered { (locks : List (GuardedOf (SharedShardOf S))) (all : _) → RunsGathered locks all table.entry → RunsGathered locks all result.1 }
 {
     while let Some(own) = emptied.pop() {
         let (own, rest) = gather_home(count, own, table);

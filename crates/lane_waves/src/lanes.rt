@@ -2,7 +2,7 @@
 ghost use Rattle.std.specs.Prelude.{◌≡◌, ◌≤◌, ◌+◌, ◌++◌, All, Some, map, min, length, OnOk, IfOk, vec_len, vec_capacity};
 ghost use Rattle.ledger_runs.specs.Telling.{kept_by, decided_in};
 ghost use Rattle.thread_laws.specs.Telling.{told_in};
-ghost use Rattle.lane_waves.specs.Lanes.{IsReady, HasNoMemory, IsKept};
+ghost use Rattle.lane_waves.specs.Lanes.{IsLaneReady, HasStoppedForMemory, IsResultKept};
 
 use cbdc_types::{BatchId, Outcome};
 use lane_driver::{BatchReport, LaneFault, LaneReport, Source, no_memory};
@@ -12,7 +12,7 @@ use std::alloc::AllocError;
 /// Makes the lanes ready for a wave: nothing is decided of their transactions, and there is room for an outcome of each.
 pub(crate) fn make_ready<X: Source>(lanes: &mut Vec<Work<X>>) -> Result<(), AllocError>
     ensures same { map (λ x. x.txs) lanes.new.items ≡ map (λ x. x.txs) lanes.old.items }
-    ensures ready { OnOk result (All IsReady lanes.new.items) }
+    ensures ready { OnOk result (All IsLaneReady lanes.new.items) }
 {
     for place in 0..lanes.len() {
         make_one_ready(&mut lanes[place])?;
@@ -22,7 +22,7 @@ pub(crate) fn make_ready<X: Source>(lanes: &mut Vec<Work<X>>) -> Result<(), Allo
 
 fn make_one_ready<X: Source>(work: &mut Work<X>) -> Result<(), AllocError>
     ensures same { work.new.txs ≡ work.old.txs }
-    ensures ready { OnOk result (IsReady work.new) }
+    ensures ready { OnOk result (IsLaneReady work.new) }
 {
     work.lane.decided.clear();
     work.lane.batches = 0;
@@ -33,7 +33,7 @@ fn make_one_ready<X: Source>(work: &mut Work<X>) -> Result<(), AllocError>
 /// Stops all lanes because memory ran out.
 pub(crate) fn stop_all<X: Source>(lanes: &mut Vec<Work<X>>)
     ensures same { map (λ x. x.txs) lanes.new.items ≡ map (λ x. x.txs) lanes.old.items }
-    ensures stopped { All HasNoMemory lanes.new.items }
+    ensures stopped { All HasStoppedForMemory lanes.new.items }
 {
     for place in 0..lanes.len() {
         stop(&mut lanes[place]);
@@ -42,16 +42,16 @@ pub(crate) fn stop_all<X: Source>(lanes: &mut Vec<Work<X>>)
 
 fn stop<X: Source>(work: &mut Work<X>)
     ensures same { work.new.txs ≡ work.old.txs }
-    ensures stopped { HasNoMemory work.new }
+    ensures stopped { HasStoppedForMemory work.new }
 {
     work.lane.fault = Some(no_memory());
 }
 
 /// The lane with the result of its run.
 pub(crate) fn kept<X: Source>(mut work: Work<X>, came: Result<LaneReport, LaneFault>) -> Work<X>
-    requires ready { IsReady work }
+    requires ready { IsLaneReady work }
     requires room { IfOk came (λ r. length (told_in r.batches) ≤ length work.txs) }
-    ensures { IsKept work came result }
+    ensures { IsResultKept work came result }
 {
     match came {
         Ok(report) => keep_all(&mut work.lane, report.batches.as_slice()),

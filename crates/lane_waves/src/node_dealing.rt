@@ -1,6 +1,6 @@
 // One item of each list, and one onto each.
 ghost use Rattle.std.specs.Prelude.{◌≡◌, ◌≤◌, ◌<◌, List, [], length, reverse, vec_capacity};
-ghost use Rattle.lane_waves.specs.Dealing.{PopsEach, HaveOne, HaveRoom};
+ghost use Rattle.lane_waves.specs.Dealing.{PopsEach, HaveOne, HaveRoomForOne};
 
 /// Lists, one item of each, and an empty list with room for as many lists.
 pub struct Dealt<T> {
@@ -37,7 +37,7 @@ pub fn deal<T>(mut rows: Vec<Vec<T>>, mut items: Vec<T>, mut spare: Vec<Vec<T>>)
 /// Adds an item to each list.
 pub fn gather<T>(mut rows: Vec<Vec<T>>, mut items: Vec<T>, mut spare: Vec<Vec<T>>) -> Dealt<T>
     requires each { length items.items ≡ length rows.items }
-    requires free { HaveRoom rows.items }
+    requires free { HaveRoomForOne rows.items }
     requires empty { spare.items ≡ [] }
     requires room { length rows.items ≤ vec_capacity spare }
     ensures added { PopsEach result.rows.items rows.items items.items }

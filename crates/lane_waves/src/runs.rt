@@ -1,7 +1,7 @@
 // The lanes of a wave, each on a thread of its own.
 ghost use Rattle.std.specs.Prelude.{◌<◌, ℕ, All, length, slice_index_or};
 ghost use denote.Param.Send.{IsSync, IsSend};
-ghost use Rattle.lane_waves.specs.Held.{Begins, Ends};
+ghost use Rattle.lane_waves.specs.Held.{RunBegins, RunEnds};
 
 use crate::seats::{SeatSet, run_over};
 use cbdc_types::{LaneId, Shape};
@@ -40,8 +40,8 @@ impl<
     /// locks; either it has done all that it got and is idle, and reports its batches, each done behind the one before it with the outcomes of its
     /// Commit; or it stopped, with all that `run_lane` says of that, and its fault has its cause in a node as the lane has seen it.
     pub fn go<G: Gate + Sync>(&mut self, alloc: Global, shape: &Shape, gate: &G)
-        requires begins { Begins S.sight B.tables shape.now self.old }
-        ensures ends { Ends S.sight B.tables shape.now self.old self.new }
+        requires begins { RunBegins S.sight B.tables shape.now self.old }
+        ensures ends { RunEnds S.sight B.tables shape.now self.old self.new }
     {
         let work = &mut self.work;
         let came = run_over(
@@ -68,8 +68,8 @@ pub fn run_all<
     X: Source + Send,
     G: Gate + Sync,
 >(rt: &W, alloc: Global, shape: &Shape, runs: &mut [LaneRun<'a, W, D, S, B, X>], gate: &G)
-    requires begin { All (Begins S.sight B.tables shape.now) runs.old }
-    ensures end { (i : ℕ) (d : _) → i < length runs.old → Ends S.sight B.tables shape.now (slice_index_or runs.old i d) (slice_index_or runs.new i d) }
+    requires begin { All (RunBegins S.sight B.tables shape.now) runs.old }
+    ensures end { (i : ℕ) (d : _) → i < length runs.old → RunEnds S.sight B.tables shape.now (slice_index_or runs.old i d) (slice_index_or runs.new i d) }
 {
     let count = runs.len().max(1);
     thread::for_each_mut(
@@ -77,8 +77,8 @@ pub fn run_all<
         runs,
         count,
         &|_: usize, run: &mut LaneRun<'_, W, D, S, B, X>|
-            requires { IsSync W.row × IsSend S.row × IsSend B.row × IsSync B.row × IsSync G.row × Begins S.sight B.tables shape.now run.old }
-            ensures { Ends S.sight B.tables shape.entry.now run.old run.new }
+            requires { IsSync W.row × IsSend S.row × IsSend B.row × IsSync B.row × IsSync G.row × RunBegins S.sight B.tables shape.now run.old }
+            ensures { RunEnds S.sight B.tables shape.entry.now run.old run.new }
         { run.go(alloc, shape, gate) },
     );
 }

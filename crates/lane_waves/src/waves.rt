@@ -8,12 +8,12 @@ ghost use Rattle.node_ports.specs.Nodes.{sight_at, IsNodeHeld};
 ghost use Rattle.lane_driver.specs.Stops.{IsSettled};
 ghost use Rattle.port_sets.specs.Nodes.{log_sight, shard_sight};
 ghost use Rattle.lane_waves.specs.NodeRows.{AreRows, AreLocked, AreStill, AreLeft};
-ghost use Rattle.lane_waves.specs.Held.{Begins};
+ghost use Rattle.lane_waves.specs.Held.{RunBegins};
 ghost use Rattle.thread_laws.specs.Running.{WaveRan};
 ghost use Rattle.lane_waves.specs.Laws.{WentOn};
 ghost use Rattle.lane_waves.specs.Places.{AllFrom};
 ghost use Rattle.lane_waves.specs.Rows.{IsHomeRow, IsShardRow, all_lanes};
-ghost use Rattle.lane_waves.specs.Deals.{MayRun, AreOpen, IsHomeFresh, IsEmptyRoom};
+ghost use Rattle.lane_waves.specs.Deals.{MayRun, AreLocksOpen, IsHomeFresh, IsEmptyRoom};
 ghost use Rattle.lane_waves.specs.Gathers.{AreRun};
 ghost use Rattle.lane_waves.specs.Rooms.{IsNodeRoom, IsLaneRoom};
 ghost use Rattle.lane_waves.specs.Waves.{log_goes, shard_goes, AreNodesOf, AreThrough};
@@ -187,7 +187,7 @@ fn run_table<
     mut table: Table<'a, W, D, S, B, X>,
     gate: &G,
 ) -> Table<'a, W, D, S, B, X>
-    requires begin { All (Begins S.sight B.tables shape.now) table.runs.items }
+    requires begin { All (RunBegins S.sight B.tables shape.now) table.runs.items }
     ensures { AreRun S.sight B.tables shape.now table.entry result }
 {
     run_all(rt, alloc, shape, table.runs.as_mut_slice(), gate);
@@ -212,7 +212,7 @@ fn run_seated<
     seated: SeatedLanes<D, S, X>,
     gate: &G,
 ) -> SeatedLanes<D, S, X>
-    requires open { AreOpen S.sight B.tables shape.now log_locks.now shard_locks.now }
+    requires open { AreLocksOpen S.sight B.tables shape.now log_locks.now shard_locks.now }
     requires homes { AllFrom (IsHomeFresh shape.now log_locks.now) 0 seated.homes.items }
     requires homes_many { length seated.homes.items ≡ shape.now.coordinators }
     requires left { AreLeft (shard_sight S.sight) (all_lanes shape.now) shard_locks.now seated.rows.items }

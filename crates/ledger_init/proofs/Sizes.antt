@@ -13,7 +13,7 @@ use Rattle.cbdc_model.specs.Room.{size_of}
 use Rattle.record_log.proofs.Lengths.{body_length}
 use Rattle.record_log.proofs.Records.{FitsHeader, FitsRecord}
 use Rattle.rack_ledgers.specs.First.{first_need}
-use Rattle.ledger_init.specs.Made.{first_of, node_count}
+use Rattle.ledger_init.specs.Made.{first_record_of, node_count}
 
 on_length : (shards s : ℕ) (xs : List Digest) → length (on_shard shards s xs) ≤ length xs
 on_length shards s [] = omega arith
@@ -46,7 +46,7 @@ made_length id k [] = refl
 made_length id k (o ∷ os) = omega (arith, made_length id (suc k) os)
 
 -- one more than its size, with the closing gate
-pub first_size : (K : Shape) (mint : List Output) (n : ℕ) → IsWithinLimits K → length mint ≤ 1000000 → n < node_count K → first_need (first_of K mint n) ≡ size_of (first_of K mint n) + 1
+pub first_size : (K : Shape) (mint : List Output) (n : ℕ) → IsWithinLimits K → length mint ≤ 1000000 → n < node_count K → first_need (first_record_of K mint n) ≡ size_of (first_record_of K mint n) + 1
 first_size K mint n limits few inside =
     let h : Header = header_of K (genesis_id mint) n in
     let fits : FitsHeader h = record { node = omega (arith, inside, limits.coordinators, limits.shards); shape = limits; genesis = id_len mint } in

@@ -23,8 +23,8 @@ abbrev pub node_count : Shape → ℕ
 node_count K = K.coordinators + K.shards
 
 -- the first record of a node of the ledger that a mint begins
-abbrev pub first_of : Shape → List Output → ℕ → Record
-first_of K mint n = first_record K (minted mint) n
+abbrev pub first_record_of : Shape → List Output → ℕ → Record
+first_record_of K mint n = first_record K (minted mint) n
 
 -- where the disk told its content, it now holds this record alone, and so does whatever a crash may leave of it
 abbrev pub HoldsFirst : {D : Type 0} → Ghosts D → Record → Option D → Option D → Type 0
@@ -56,12 +56,12 @@ pub record IsFirstInUse {D : Type 0} (K : Shape) (mint : List Output) (device : 
 
 -- there is room for the node's first record and a closing gate
 abbrev pub HasPlaceFor : {D : Type 0} → Shape → List Output → Ghosts D → (ℕ → Option D) → ℕ → Type 0
-HasPlaceFor K mint device held n = OfTold (held n) (λ was. size_of (first_of K mint n) + 1 ≤ device.limit was)
+HasPlaceFor K mint device held n = OfTold (held n) (λ was. size_of (first_record_of K mint n) + 1 ≤ device.limit was)
 
 -- this node has no room for its first record, and is the last one
 pub record IsLastFull {D : Type 0} (K : Shape) (mint : List Output) (device : Ghosts D) (held : ℕ → Option D) (node need capacity : ℕ) : Type 0 where
   pub inside : node < node_count K
-  pub need_is : need ≡ size_of (first_of K mint node) + 1
+  pub need_is : need ≡ size_of (first_record_of K mint node) + 1
   pub capacity_is : OfTold (held node) (λ was. capacity ≡ device.limit was)
   pub passes : capacity < need
   pub above : (n : ℕ) → node < n → n < node_count K → HasPlaceFor K mint device held n
@@ -87,17 +87,17 @@ IsOfNode k other = ⊥
 -- no node was in use (`MayBeMade`), and the writing of first records, from the highest node down, stopped at this one, of which the answer speaks:
 -- the disks of the nodes below it are unchanged, those above it hold their first records, and a crash leaves of its own no first record, what it
 -- might have left before, or, where the disk failed, the new one alone
-pub record StoppedAt {D : Type 0} (K : Shape) (mint : List Output) (device : Ghosts D) (before now : ℕ → Option D) (answer : Answer) (k : ℕ) : Type 0 where
+pub record InitStoppedAt {D : Type 0} (K : Shape) (mint : List Output) (device : Ghosts D) (before now : ℕ → Option D) (answer : Answer) (k : ℕ) : Type 0 where
   pub was : MayBeMade K mint device before
   pub inside : k < node_count K
   pub told : IsOfNode k answer
   pub below : (n : ℕ) → n < k → IsUnchanged device (before n) (now n)
-  pub begun : LeavesBut device (λ was. IsBegun was (first_of K mint k)) (before k) (now k)
+  pub begun : LeavesBut device (λ was. IsBegun was (first_record_of K mint k)) (before k) (now k)
   pub emptied : answer ≢ answers.DiskFault k → LeavesBut device IsEmptied (before k) (now k)
-  pub above : (n : ℕ) → k < n → n < node_count K → HoldsFirst device (first_of K mint n) (before n) (now n)
+  pub above : (n : ℕ) → k < n → n < node_count K → HoldsFirst device (first_record_of K mint n) (before n) (now n)
   pub outside : (n : ℕ) → node_count K ≤ n → now n ≡ before n
 
 -- all disks are as they were read, or the writing stopped at a node
-abbrev pub IsLeft : {D : Type 0} → Shape → List Output → Ghosts D → (ℕ → Option D) → (ℕ → Option D) → (ℕ → ℕ) → (ℕ → ℕ) → Answer → Type 0
-IsLeft K mint device before now disks_before disks_now answer =
-    AreBack device disks_before disks_now before now ⊎ ((k : ℕ) × StoppedAt K mint device before now answer k)
+abbrev pub AreDisksLeft : {D : Type 0} → Shape → List Output → Ghosts D → (ℕ → Option D) → (ℕ → Option D) → (ℕ → ℕ) → (ℕ → ℕ) → Answer → Type 0
+AreDisksLeft K mint device before now disks_before disks_now answer =
+    AreBack device disks_before disks_now before now ⊎ ((k : ℕ) × InitStoppedAt K mint device before now answer k)

@@ -30,7 +30,7 @@ pub record IsSafe {D : Type 0} (device : Ghosts D) (node : ℕ) (first : Record)
   pub emptied : answer ≢ answers.DiskFault node → LeavesOf device IsEmptied given now
 
 -- this node's disk holds its first record, for which it has room, and has as much as it had
-pub record IsDone {D : Type 0} (device : Ghosts D) (first : Record) (given : D) (held : Option D) : Type 0 where
+pub record IsFirstWritten {D : Type 0} (device : Ghosts D) (first : Record) (given : D) (held : Option D) : Type 0 where
   pub holds : OfTold held (HoldsOf device first given)
   pub begun : OfTold held (LeavesOf device (λ before. IsBegun before first) given)
   pub room : first_need first ≤ device.limit given
@@ -43,7 +43,7 @@ pub record IsStopped {D : Type 0} (device : Ghosts D) (node : ℕ) (first : Reco
   pub opening : IsOpening node (device.count given) now answer
 
 -- the writing stopped at one of the items: those behind it are done, and those before it are as they were
-pub record StopsAt {X : Type 0} (Waits Fails Done : ℕ → X → Type 0) (whole : List X) : Type 0 where
+pub record WritingStopsAt {X : Type 0} (Waits Fails Done : ℕ → X → Type 0) (whole : List X) : Type 0 where
   pub front : List X
   pub x : X
   pub done : List X

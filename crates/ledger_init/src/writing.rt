@@ -5,7 +5,7 @@ ghost use Rattle.rack_ledgers.specs.Places.{EachFrom, MayReturn, IsOpening};
 ghost use Rattle.gate_journal.specs.Formatting.{IsEmptied};
 ghost use Rattle.rack_ledgers.specs.Racked.{OfTold};
 ghost use Rattle.rack_ledgers.specs.First.{IsBegun, IsUnwritten, first_need};
-ghost use Rattle.ledger_init.specs.Places.{minted_by, HoldsOf, LeavesOf, IsDone, IsStopped, StopsAt};
+ghost use Rattle.ledger_init.specs.Places.{minted_by, HoldsOf, LeavesOf, IsFirstWritten, IsStopped, WritingStopsAt};
 
 use crate::dealing::hashes_on;
 use cbdc_types::{Answer, CompactTx, Header, NodeId, Record, Shape};
@@ -81,7 +81,7 @@ fn write_at<R: Rack>(
     disk: R::Disk,
 ) -> Result<(), Answer>
     requires { (k : ℕ) → R.Disk.count disk ≤ k → R.can_put rack.old node k }
-    ensures done { OnOk result (IsDone R.Disk.Disk (first_record shape.now (minted_by genesis.now) node) disk (R.held rack.new node)) }
+    ensures done { OnOk result (IsFirstWritten R.Disk.Disk (first_record shape.now (minted_by genesis.now) node) disk (R.held rack.new node)) }
     ensures stopped { IfErr result (λ e. IsStopped R.Disk.Disk node (first_record shape.now (minted_by genesis.now) node) e
         (R.count rack.new node) disk (R.held rack.new node)) }
     ensures others_held { (n : ℕ) → n ≢ node → R.held rack.new n ≡ R.held rack.old n }
@@ -106,11 +106,11 @@ pub(crate) fn write_firsts<R: Rack>(
     requires few { length blanks.items < 2 ^ 32 }
     requires out { EachFrom (MayReturn (λ b. R.Disk.count b.disk) (R.can_put rack.old)) 0 blanks.items }
     ensures done { OnOk result (EachFrom
-        (λ n b. IsDone R.Disk.Disk (first_record shape.now (minted_by genesis.now) n) b.disk (R.held rack.new n)) 0 blanks.items) }
-    ensures stopped { IfErr result (λ e. StopsAt
+        (λ n b. IsFirstWritten R.Disk.Disk (first_record shape.now (minted_by genesis.now) n) b.disk (R.held rack.new n)) 0 blanks.items) }
+    ensures stopped { IfErr result (λ e. WritingStopsAt
         (λ n b. OfTold (R.held rack.new n) (λ now. now ≡ b.disk))
         (λ n b. IsStopped R.Disk.Disk n (first_record shape.now (minted_by genesis.now) n) e (R.count rack.new n) b.disk (R.held rack.new n))
-        (λ n b. IsDone R.Disk.Disk (first_record shape.now (minted_by genesis.now) n) b.disk (R.held rack.new n)) blanks.items) }
+        (λ n b. IsFirstWritten R.Disk.Disk (first_record shape.now (minted_by genesis.now) n) b.disk (R.held rack.new n)) blanks.items) }
     ensures others_held { (n : ℕ) → length blanks.items ≤ n → R.held rack.new n ≡ R.held rack.old n }
     ensures back { (n : ℕ) → n < length blanks.items → R.can_take rack.new n }
     ensures others_in { (n : ℕ) → length blanks.items ≤ n → R.can_take rack.old n → R.can_take rack.new n }

@@ -12,7 +12,7 @@ use Rattle.lane_driver.specs.declared.fault.LaneFault.{LaneFault}
 use Rattle.lane_driver.specs.declared.fault.LaneFaultKind.{LaneFaultKind}
 use Rattle.lane_driver.specs.declared.fault.LaneFaultKind.TheVariants.{DiskFault as DiskStopped, Full as NoRoom, ClockEnd as NoStamp, Memory as NoMemory}
 use Rattle.ledger_runs.specs.Turning.{IsLaneOf}
-use Rattle.ledger_runs.specs.Faults.{GrowBy, TookLanes, TakesInOrder, IsWanted, wants_prepare, wants_lock, HasNoDiskFor, LacksLock, IsBeforeLocks, IsCauseOf, IsLaneCause, IsSomeCauseOf, IsRunCause, HaveFailed, MayHold, Rests}
+use Rattle.ledger_runs.specs.Faults.{GrowBy, TookLanes, TakesInOrder, IsWanted, wants_prepare, wants_lock, HasNoDiskFor, LacksLock, IsBeforeLocks, IsCauseOf, IsLaneCause, IsSomeCauseOf, IsRunCause, HaveFailed, MayHoldBytes, LaneRests}
 use Rattle.ledger_runs.proofs.Others.{slot_same, record_same}
 
 -- ---- what a lane wants, while another goes on
@@ -112,7 +112,7 @@ asked_by K lane next due X on node (asks_shard b txs s at concerned heard) = ask
 pub risen_later : (opened faults opens later : ℕ → ℕ) → ((n : ℕ) → opens n ≡ opened n) → ((n : ℕ) → faults n ≤ later n) → (n : ℕ) → HaveFailed opened faults n → HaveFailed opens later n
 risen_later opened faults opens later same le n risen = subst (λ o. HasRisen o (later n)) (sym (same n)) (le_trans risen (le n))
 
-pub holds_later : (capacity now : ℕ → ℕ) → ((n : ℕ) → now n ≡ capacity n) → (n c : ℕ) → MayHold capacity n c → MayHold now n c
+pub holds_later : (capacity now : ℕ → ℕ) → ((n : ℕ) → now n ≡ capacity n) → (n c : ℕ) → MayHoldBytes capacity n c → MayHoldBytes now n c
 holds_later capacity now same n c is = is ∙ sym (same n)
 
 -- from an earlier entry
@@ -148,7 +148,7 @@ run_moves K next due E F X failed fails holds held before on failed_on held_on e
     go NoMemory cause = tt
 
 -- a lane that has a fault with its cause rests
-pub rests_by : (K : Shape) (lane : ℕ) (next : List Compact → Type 0) (E X : ℕ → List Record) (failed : ℕ → Type 0) (holds : ℕ → ℕ → Type 0) (e : LaneFault) → IsLaneCause K lane next E X failed holds e → Rests K lane X failed
+pub rests_by : (K : Shape) (lane : ℕ) (next : List Compact → Type 0) (E X : ℕ → List Record) (failed : ℕ → Type 0) (holds : ℕ → ℕ → Type 0) (e : LaneFault) → IsLaneCause K lane next E X failed holds e → LaneRests K lane X failed
 rests_by K lane next E X failed holds e cause = go e.fault cause
   where
     wants : (node : ℕ) (front : List Record) (r : Record) → IsWanted K lane next X node front r → IsBeforeLocks K lane X
@@ -156,12 +156,12 @@ rests_by K lane next E X failed holds e cause = go e.fault cause
     wants node front r (wants_lock b t txs s is at concerned phase stands have behind e) =
         inr (record { batch = b; of_lane = is; stamp = t; txs = txs; phase = phase; prepare = stands; shard = s; concerned = concerned; lacks = subst (λ n. (slot (X n) lane).number < b.number) at behind })
 
-    asks : (h : HasNoDiskFor K lane next X failed e.node) → IsAsked K lane next X e.node → Rests K lane X failed
+    asks : (h : HasNoDiskFor K lane next X failed e.node) → IsAsked K lane next X e.node → LaneRests K lane X failed
     asks h (asks_prepare txs is at idle) = inl (inl idle)
     asks h (asks_log b txs at heard) = inr (e.node, record { inside = h.inside; asked = asks_log b txs at heard; did = h.did })
     asks h (asks_shard b txs s at concerned heard) = inr (e.node, record { inside = h.inside; asked = asks_shard b txs s at concerned heard; did = h.did })
 
-    go : (kind : LaneFaultKind) → IsCauseOf K lane next E X failed holds e.node kind → Rests K lane X failed
+    go : (kind : LaneFaultKind) → IsCauseOf K lane next E X failed holds e.node kind → LaneRests K lane X failed
     go DiskStopped h = asks h h.asked
     go (NoRoom used need capacity) h = inl (wants e.node h.front h.wanted h.is_wanted)
     go (NoStamp stamp) h = inl (wants e.node h.front h.wanted h.is_wanted)

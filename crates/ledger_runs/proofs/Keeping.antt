@@ -8,7 +8,7 @@ use Rattle.cbdc_model.specs.Slots.{Idle}
 use Rattle.recovery.specs.declared.resumed.ResumedBatch.{ResumedBatch}
 use Rattle.run_laws.specs.WaveSteps.{ResumedSo, ResumingStepLaw, ResumingSkipLaw}
 use Rattle.ledger_runs.specs.Keeping.{KeepsLedger}
-use Rattle.ledger_runs.specs.Turning.{phase_at, OfKept, StaysKept, KeepsLanes, listed, TookUp, TookUpOne}
+use Rattle.ledger_runs.specs.Turning.{lane_phase, OfKept, StaysKept, KeepsLanes, none_or_one, TookUp, TookUpOne}
 use Rattle.std.specs.Prelude.{Result, Ok, Err, OnOk, IsOk}
 
 pub lt_or_eq : (l lane : ℕ) → l < lane + 1 → (l < lane) ⊎ (l ≡ lane)
@@ -33,7 +33,7 @@ pub resumes_on : ResumingStepLaw → ResumingSkipLaw → (K : Shape) (lane : ℕ
 resumes_on step skip K lane E J L (Some r) so took = subst (λ l. ResumedSo K l E L) (sym (add-one lane)) (step K lane r.batch E J L so took.0)
 resumes_on step skip K lane E J L None so (idle, same) =
     let all : J ≡ L = λ i n. sym (same n) i in
-    let on : ResumedSo K (suc lane) E J = skip K lane (suc lane) E J so (omega arith) (λ l low high. subst (λ m. phase_at K J m ≡ Idle) (omega arith) idle) in
+    let on : ResumedSo K (suc lane) E J = skip K lane (suc lane) E J so (omega arith) (λ l low high. subst (λ m. lane_phase K J m ≡ Idle) (omega arith) idle) in
     subst (λ X. ResumedSo K (lane + 1) E X) all (subst (λ l. ResumedSo K l E J) (sym (add-one lane)) on)
 
 pub stays_next : (K H : Shape) (I J L : ℕ → List Record) → H ≡ K → OfKept K I (StaysKept K I J) → OfKept H J (StaysKept H J L) → OfKept K I (StaysKept K I L)
@@ -46,12 +46,12 @@ of_ok (Err e) X ok so = absurd (false≢true ok)
 
 -- the lanes that were taken up are idle
 pub idle_next : (K H : Shape) (lane : ℕ) (J L : ℕ → List Record) → H ≡ K → lane < K.coordinators * K.lanes
-    → ((l : ℕ) → l < lane → phase_at K J l ≡ Idle) → KeepsLanes H lane J L → phase_at H L lane ≡ Idle → (l : ℕ) → l < lane + 1 → phase_at K L l ≡ Idle
+    → ((l : ℕ) → l < lane → lane_phase K J l ≡ Idle) → KeepsLanes H lane J L → lane_phase H L lane ≡ Idle → (l : ℕ) → l < lane + 1 → lane_phase K L l ≡ Idle
 idle_next K H lane J L e below before others now l low = go (lt_or_eq l lane low)
   where
-    go : (l < lane) ⊎ (l ≡ lane) → phase_at K L l ≡ Idle
+    go : (l < lane) ⊎ (l ≡ lane) → lane_phase K L l ≡ Idle
     go (inl less) = subst (λ k. KeepsLanes k lane J L) e others l (omega arith) (λ h. absurd (omega (arith, h, less))) ∙ before l less
-    go (inr same) = subst (λ k. phase_at k L l ≡ Idle) e (subst (λ m. phase_at H L m ≡ Idle) (sym same) now)
+    go (inr same) = subst (λ k. lane_phase k L l ≡ Idle) e (subst (λ m. lane_phase H L m ≡ Idle) (sym same) now)
 
 pub so_next : ResumingStepLaw → ResumingSkipLaw → (K H : Shape) (lane : ℕ) (E J L : ℕ → List Record) (before after : List ResumedBatch) → H ≡ K
     → OfKept K E (StaysKept K E J) → OfKept K E (λ _ _. ResumedSo K lane E J) → OfKept H J (λ _ _. TookUpOne H lane J L before after)
@@ -61,7 +61,7 @@ so_next step skip K H lane E J L before after e keeps so took mint submissions k
     resumes_on step skip K lane E J L now.0 (so mint submissions kept) now.1
 
 pub keeps_found : (K : Shape) (lane : ℕ) (I J : ℕ → List Record) (found : Option ResumedBatch) (before after : List ResumedBatch)
-    → OfKept K I (λ _ _. TookUp K lane I J found) → after ≡ before ++ listed found → OfKept K I (λ _ _. TookUpOne K lane I J before after)
+    → OfKept K I (λ _ _. TookUp K lane I J found) → after ≡ before ++ none_or_one found → OfKept K I (λ _ _. TookUpOne K lane I J before after)
 keeps_found K lane I J found before after took e mint submissions kept = (found, took mint submissions kept, e)
 
 -- what a call keeps of a ledger's nodes, others behind it keep

@@ -2,7 +2,7 @@
 use Rattle.std.proofs.Common.{◌≡◌, ◌⊎◌, inl, inr, ℕ, List, [], Option, Some, refl, ◌∙◌, subst}
 use Rattle.cbdc_model.specs.Records.{Shape, Compact, Record, Prepare}
 use Rattle.ledger_runs.specs.Turning.{IsLaneOf}
-use Rattle.ledger_runs.specs.Pieces.{HasPrepared}
+use Rattle.ledger_runs.specs.Pieces.{HasPreparedPieces}
 use Rattle.ledger_runs.specs.Faults.{Nothing}
 use Rattle.ledger_runs.specs.Flying.{Launches}
 
@@ -12,18 +12,18 @@ launches_begin K next I F n t b txs is = inl (is, refl)
 
 -- one part of a run behind another
 pub launches_on : (K : Shape) (next due all : ℕ → List Compact → Type 0) (I J L : ℕ → List Record) (F G M : ℕ → Option Record)
-    → ((lane : ℕ) (txs : List Compact) → IsLaneOf K lane → HasPrepared K lane [] J L → next lane txs → all lane txs) → ((lane : ℕ) (txs : List Compact) → IsLaneOf K lane → due lane txs → all lane txs)
+    → ((lane : ℕ) (txs : List Compact) → IsLaneOf K lane → HasPreparedPieces K lane [] J L → next lane txs → all lane txs) → ((lane : ℕ) (txs : List Compact) → IsLaneOf K lane → due lane txs → all lane txs)
     → Launches K next I J F G → Launches K due J L G M → Launches K all I L F M
 launches_on K next due all I J L F G M on now one two n t b txs is = go (two n t b txs is)
   where
     Told : Type 0
-    Told = ((F n ≡ Some (Prepare t b txs)) × HasPrepared K b.lane [] I L) ⊎ (IsLaneOf K b.lane × all b.lane txs)
+    Told = ((F n ≡ Some (Prepare t b txs)) × HasPreparedPieces K b.lane [] I L) ⊎ (IsLaneOf K b.lane × all b.lane txs)
 
-    earlier : HasPrepared K b.lane [] J L → ((F n ≡ Some (Prepare t b txs)) × HasPrepared K b.lane [] I J) ⊎ (IsLaneOf K b.lane × next b.lane txs) → Told
+    earlier : HasPreparedPieces K b.lane [] J L → ((F n ≡ Some (Prepare t b txs)) × HasPreparedPieces K b.lane [] I J) ⊎ (IsLaneOf K b.lane × next b.lane txs) → Told
     earlier none (inl (was, before)) = inl (was, none ∙ before)
     earlier none (inr (inside, is_next)) = inr (inside, on b.lane txs inside none is_next)
 
-    go : ((G n ≡ Some (Prepare t b txs)) × HasPrepared K b.lane [] J L) ⊎ (IsLaneOf K b.lane × due b.lane txs) → Told
+    go : ((G n ≡ Some (Prepare t b txs)) × HasPreparedPieces K b.lane [] J L) ⊎ (IsLaneOf K b.lane × due b.lane txs) → Told
     go (inl (was, none)) = earlier none (one n t b txs was)
     go (inr (inside, is_due)) = inr (inside, now b.lane txs inside is_due)
 
@@ -32,7 +32,7 @@ pub launches_by : (K : Shape) (next all : ℕ → List Compact → Type 0) (I J 
     → Launches K next I J F G → Launches K all I J F G
 launches_by K next all I J F G on one n t b txs is = go (one n t b txs is)
   where
-    go : ((F n ≡ Some (Prepare t b txs)) × HasPrepared K b.lane [] I J) ⊎ (IsLaneOf K b.lane × next b.lane txs) → ((F n ≡ Some (Prepare t b txs)) × HasPrepared K b.lane [] I J) ⊎ (IsLaneOf K b.lane × all b.lane txs)
+    go : ((F n ≡ Some (Prepare t b txs)) × HasPreparedPieces K b.lane [] I J) ⊎ (IsLaneOf K b.lane × next b.lane txs) → ((F n ≡ Some (Prepare t b txs)) × HasPreparedPieces K b.lane [] I J) ⊎ (IsLaneOf K b.lane × all b.lane txs)
     go (inl was) = inl was
     go (inr (inside, is_next)) = inr (inside, on b.lane txs inside is_next)
 

@@ -8,7 +8,7 @@ use Rattle.lane_driver.specs.declared.fault.LaneFault.{LaneFault}
 use Rattle.ledger_runs.specs.Waving.{HaveSent, FirstFaultIs}
 use Rattle.ledger_runs.specs.Pieces.{IsNextPiece}
 use Rattle.ledger_runs.specs.Faults.{HaveCauses}
-use Rattle.ledger_runs.specs.Least.{HasRun, RunTheirs, IsLeastFault}
+use Rattle.ledger_runs.specs.Least.{LaneHasRun, RunTheirs, IsLeastFault}
 use Rattle.ledger_runs.specs.Lanes.{LaneOf}
 use Rattle.ledger_runs.proofs.Faulting.{cause_since}
 use Rattle.ledger_runs.proofs.WaveKeeping.{at_place}
@@ -23,5 +23,5 @@ least_fault K sent next I J failed holds lanes many have piece causes theirs e (
   cause = cause_since K lane (IsNextPiece K lane x.txs I J) (next lane) I I J failed holds (λ n. end_self (I n)) (piece lane x there) e (causes lane x there e is);
   lesser = λ other low.
       let y = at_place lanes other (omega (arith, low, slice_get_within lanes lane x there)) in
-      subst (λ all. HasRun K other all I J) (have other y.0 y.1) (theirs other y.0 y.1 (least other y.0 low y.1));
+      subst (λ all. LaneHasRun K other all I J) (have other y.0 y.1) (theirs other y.0 y.1 (least other y.0 low y.1));
 }

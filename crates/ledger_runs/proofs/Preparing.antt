@@ -7,7 +7,7 @@ use Rattle.cbdc_model.specs.Waves.{IsCut, prepared}
 use Rattle.lane_laws.specs.Batches as batches
 use Rattle.run_laws.proofs.TurnKinds.{prepared_own}
 use Rattle.ledger_runs.specs.Telling.{SamePrepared}
-use Rattle.ledger_runs.specs.Pieces.{HasPrepared, HaveBegun}
+use Rattle.ledger_runs.specs.Pieces.{HasPreparedPieces, HaveBegun}
 use Rattle.ledger_runs.specs.Faults.{GrowBy}
 use Rattle.ledger_runs.specs.Lanes.{LaneOf}
 use Rattle.ledger_runs.proofs.Others.{own_same}
@@ -19,7 +19,7 @@ same_prepared lane other apart J X grown n =
     prepared_own lane (X n) ∙ ap batches.prepared (own_same lane other apart J X grown n) ∙ sym (prepared_own lane (J n))
 
 -- a lane that resumed has prepared nothing, and no other lane has
-pub resumed_none : (K H : Shape) (lane : ℕ) (E J L : ℕ → List Record) → H ≡ K → SamePrepared K E J → GrowBy lane J L → HasPrepared H lane [] J L → SamePrepared K E L
+pub resumed_none : (K H : Shape) (lane : ℕ) (E J L : ℕ → List Record) → H ≡ K → SamePrepared K E J → GrowBy lane J L → HasPreparedPieces H lane [] J L → SamePrepared K E L
 resumed_none K H lane E J L same before grown none l = go (eqb_tells l lane) ∙ before l
   where
     go : (((l == lane) ≡ true) × (l ≡ lane)) ⊎ (((l == lane) ≡ false) × (l ≢ lane)) → prepared l (L (home_of K l)) ≡ prepared l (J (home_of K l))

@@ -6,8 +6,8 @@ use Rattle.cbdc_model.specs.Ranges.{home_of}
 use Rattle.recovery.specs.declared.resumed.ResumedBatch.{ResumedBatch}
 use Rattle.run_laws.specs.Turns.{ResumesBatch}
 use Rattle.run_laws.specs.WaveSteps.{ResumedSo}
-use Rattle.ledger_runs.specs.Turning.{OfKept, StaysKept, TookUp, listed}
-use Rattle.ledger_runs.specs.Telling.{IsOpened, IsResumedAt, TellResumed, TakesUp}
+use Rattle.ledger_runs.specs.Turning.{OfKept, StaysKept, TookUp, none_or_one}
+use Rattle.ledger_runs.specs.Telling.{IsLanesOpenBatch, IsResumedAt, TellResumed, TakesUp}
 use Rattle.ledger_runs.proofs.Stays.{same_outcomes}
 
 -- ---- batches that were open
@@ -61,5 +61,5 @@ resumed_told K H lane E J L before after e keeps so told takes mint submissions 
     subst (λ n. TellResumed K E L n after) (sym (add-one lane)) (told_next K lane E J L before after (so mint submissions kept) (told mint submissions kept) now)
 
 pub takes_found : (K : Shape) (lane : ℕ) (I J : ℕ → List Record) (found : Option ResumedBatch) (before after : List ResumedBatch)
-    → OfKept K I (λ _ _. TookUp K lane I J found) → IsOpened K lane I found → after ≡ before ++ listed found → OfKept K I (λ _ _. TakesUp K lane I J before after)
+    → OfKept K I (λ _ _. TookUp K lane I J found) → IsLanesOpenBatch K lane I found → after ≡ before ++ none_or_one found → OfKept K I (λ _ _. TakesUp K lane I J before after)
 takes_found K lane I J found before after took opened e mint submissions kept = (found, took mint submissions kept, opened, e)

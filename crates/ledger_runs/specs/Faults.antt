@@ -14,9 +14,9 @@ use Rattle.run_laws.specs.Faults.{IsAsked}
 use Rattle.lane_driver.specs.declared.fault.LaneFault.{LaneFault}
 use Rattle.lane_driver.specs.declared.fault.LaneFaultKind.{LaneFaultKind}
 use Rattle.lane_driver.specs.declared.fault.LaneFaultKind.TheVariants.{DiskFault as DiskStopped, Full as NoRoom, ClockEnd as NoStamp, Memory as NoMemory}
-use Rattle.ledger_runs.specs.Turning.{phase_at, IsLaneOf}
+use Rattle.ledger_runs.specs.Turning.{lane_phase, IsLaneOf}
 use Rattle.ledger_runs.specs.Waving.{EachLane}
-use Rattle.ledger_runs.specs.Pieces.{HasPrepared, IsNextPiece}
+use Rattle.ledger_runs.specs.Pieces.{HasPreparedPieces, IsNextPiece}
 use Rattle.ledger_runs.specs.Lanes.{LaneOf}
 
 -- all of these records are the lane's
@@ -41,8 +41,8 @@ TakesInOrder K E X = (lanes : ℕ) × (lanes ≤ K.coordinators * K.lanes) × To
 -- of transactions that are next; where its batch is prepared, the Lock of a concerned shard that has not come to this batch, each lesser one having
 -- its Lock
 pub data IsWanted (K : Shape) (lane : ℕ) (next : List Compact → Type 0) (X : ℕ → List Record) (node : ℕ) (front : List Record) (r : Record) : Type 0 where
-  wants_prepare : (txs : List Compact) → next txs → node ≡ home_of K lane → phase_at K X lane ≡ Idle → r ≡ prepare_record front lane txs → IsWanted K lane next X node front r
-  wants_lock : (b : Batch) (t : ℕ) (txs : List Compact) (s : ℕ) → b.lane ≡ lane → node ≡ shard_node K s → is_concerned K txs s ≡ true → phase_at K X lane ≡ InPrepare
+  wants_prepare : (txs : List Compact) → next txs → node ≡ home_of K lane → lane_phase K X lane ≡ Idle → r ≡ prepare_record front lane txs → IsWanted K lane next X node front r
+  wants_lock : (b : Batch) (t : ℕ) (txs : List Compact) (s : ℕ) → b.lane ≡ lane → node ≡ shard_node K s → is_concerned K txs s ≡ true → lane_phase K X lane ≡ InPrepare
       → record_of 6 (X (home_of K lane)) b ≡ Some (Prepare t b txs) → HaveBelow K txs (λ k. X (shard_node K k)) 2 b s → (slot (X node) lane).number < b.number
       → r ≡ lock_record front (record { batch = b; part = part K.shards s 0 txs; cause = t }) → IsWanted K lane next X node front r
 
@@ -84,7 +84,7 @@ pub record LacksLock (K : Shape) (lane : ℕ) (X : ℕ → List Record) : Type 0
   pub of_lane : batch.lane ≡ lane
   pub stamp : ℕ
   pub txs : List Compact
-  pub phase : phase_at K X lane ≡ InPrepare
+  pub phase : lane_phase K X lane ≡ InPrepare
   pub prepare : record_of 6 (X (home_of K lane)) batch ≡ Some (Prepare stamp batch txs)
   pub shard : ℕ
   pub concerned : is_concerned K txs shard ≡ true
@@ -92,7 +92,7 @@ pub record LacksLock (K : Shape) (lane : ℕ) (X : ℕ → List Record) : Type 0
 
 -- the lane is between batches, or its batch lacks a Lock
 abbrev pub IsBeforeLocks : Shape → ℕ → (ℕ → List Record) → Type 0
-IsBeforeLocks K lane X = (phase_at K X lane ≡ Idle) ⊎ LacksLock K lane X
+IsBeforeLocks K lane X = (lane_phase K X lane ≡ Idle) ⊎ LacksLock K lane X
 
 -- the cause of a lane's fault of this node and kind, from journals E to X, by the nodes whose disks have failed and what disks may hold: a node that
 -- the lane asks has a disk that failed; or no room or no stamp for what the lane wants; memory runs out between batches, or before a batch has its Locks
@@ -104,7 +104,7 @@ IsCauseOf K lane next E X failed may_hold node NoMemory = IsBeforeLocks K lane X
 
 -- `IsCauseOf`, `IsLaneCause`, `IsOpenCause`: the cause of a lane's fault, by its kind: a node that the lane asks has a disk that failed; no room;
 -- no stamp; memory ran out, and the lane is before the Locks of a batch (`IsBeforeLocks`); the same where an open batch is brought to its end, and
--- where memory ran out the lane may wait (`Waits`), too
+-- where memory ran out the lane may wait (`LaneWaits`), too
 abbrev pub IsLaneCause : Shape → ℕ → (List Compact → Type 0) → (ℕ → List Record) → (ℕ → List Record) → (ℕ → Type 0) → (ℕ → ℕ → Type 0) → LaneFault → Type 0
 IsLaneCause K lane next E X failed may_hold e = IsCauseOf K lane next E X failed may_hold e.node e.fault
 
@@ -124,36 +124,36 @@ abbrev pub HaveFailed : (ℕ → ℕ) → (ℕ → ℕ) → ℕ → Type 0
 HaveFailed opened faults n = HasRisen (opened n) (faults n)
 
 -- how many bytes each may hold
-abbrev pub MayHold : (ℕ → ℕ) → ℕ → ℕ → Type 0
-MayHold capacity n c = c ≡ capacity n
+abbrev pub MayHoldBytes : (ℕ → ℕ) → ℕ → ℕ → Type 0
+MayHoldBytes capacity n c = c ≡ capacity n
 
 -- no transactions are next for a lane
 abbrev pub Nothing : List Compact → Type 0
 Nothing txs = ⊥
 
 -- where a lane stands: between batches; its batch lacks a Lock; or it has an open batch, and the disk of a node that it asks has failed
-abbrev pub Rests : Shape → ℕ → (ℕ → List Record) → (ℕ → Type 0) → Type 0
-Rests K lane X failed = IsBeforeLocks K lane X ⊎ ((node : ℕ) × HasNoDiskFor K lane Nothing X failed node)
+abbrev pub LaneRests : Shape → ℕ → (ℕ → List Record) → (ℕ → Type 0) → Type 0
+LaneRests K lane X failed = IsBeforeLocks K lane X ⊎ ((node : ℕ) × HasNoDiskFor K lane Nothing X failed node)
 
--- `Rests`, `AllRest`: where a lane, or each, stands: `IsBeforeLocks`, or the disk of a node that it asks for its open batch has failed
-abbrev pub AllRest : Shape → (ℕ → List Record) → (ℕ → Type 0) → Type 0
-AllRest K X failed = (lane : ℕ) → IsLaneOf K lane → Rests K lane X failed
+-- `LaneRests`, `LanesRest`: where a lane, or each, stands: `IsBeforeLocks`, or the disk of a node that it asks for its open batch has failed
+abbrev pub LanesRest : Shape → (ℕ → List Record) → (ℕ → Type 0) → Type 0
+LanesRest K X failed = (lane : ℕ) → IsLaneOf K lane → LaneRests K lane X failed
 
 -- nothing of the lane was written, from journals E to X
-abbrev pub IsUntouched : ℕ → (ℕ → List Record) → (ℕ → List Record) → Type 0
-IsUntouched lane E X = (n : ℕ) → own lane (X n) ≡ own lane (E n)
+abbrev pub IsLaneUntouched : ℕ → (ℕ → List Record) → (ℕ → List Record) → Type 0
+IsLaneUntouched lane E X = (n : ℕ) → own lane (X n) ≡ own lane (E n)
 
 -- the lane waits where it was: its batch was prepared, and is so still
-abbrev pub Waits : Shape → ℕ → (ℕ → List Record) → (ℕ → List Record) → Type 0
-Waits K lane E X = (phase_at K X lane ≡ InPrepare) × HasPrepared K lane [] E X
+abbrev pub LaneWaits : Shape → ℕ → (ℕ → List Record) → (ℕ → List Record) → Type 0
+LaneWaits K lane E X = (lane_phase K X lane ≡ InPrepare) × HasPreparedPieces K lane [] E X
 
 -- the cause of the fault of a lane whose open batch is brought to its end; where memory ran out it may wait, too
 abbrev pub IsOpenCause : Shape → ℕ → (ℕ → List Record) → (ℕ → List Record) → (ℕ → Type 0) → (ℕ → ℕ → Type 0) → LaneFault → Type 0
-IsOpenCause K lane E X failed may_hold e = ((e.fault ≡ NoMemory) × Waits K lane E X) ⊎ IsLaneCause K lane Nothing E X failed may_hold e
+IsOpenCause K lane E X failed may_hold e = ((e.fault ≡ NoMemory) × LaneWaits K lane E X) ⊎ IsLaneCause K lane Nothing E X failed may_hold e
 
 -- or memory was wanting for it, and it waits
 abbrev pub RestsOrWaits : Shape → ℕ → (ℕ → List Record) → (ℕ → List Record) → (ℕ → Type 0) → Type 0 → Type 0
-RestsOrWaits K lane E X failed wanting = Rests K lane X failed ⊎ (wanting × Waits K lane E X)
+RestsOrWaits K lane E X failed wanting = LaneRests K lane X failed ⊎ (wanting × LaneWaits K lane E X)
 
 -- `RestsOrWaits`, `AllRestOrWait`, `RestsSince`, `AllRestSince`: a lane, or each, rests, or memory ran out for it and it waits; the same where
 -- nothing reports that memory ran out
@@ -162,7 +162,7 @@ AllRestOrWait K E X failed wanting = (lane : ℕ) → IsLaneOf K lane → RestsO
 
 -- the same where nothing reports that memory ran out
 abbrev pub RestsSince : Shape → ℕ → (ℕ → List Record) → (ℕ → List Record) → (ℕ → Type 0) → Type 0
-RestsSince K lane E X failed = Rests K lane X failed ⊎ Waits K lane E X
+RestsSince K lane E X failed = LaneRests K lane X failed ⊎ LaneWaits K lane E X
 
 -- so does each lane, or nothing was written
 abbrev pub AllRestSince : Shape → (ℕ → List Record) → (ℕ → List Record) → (ℕ → Type 0) → Type 0

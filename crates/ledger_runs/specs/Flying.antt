@@ -5,7 +5,7 @@ use Rattle.cbdc_model.specs.Coins.{Output, FullTx}
 use Rattle.run_laws.specs.Flights.{MayCome}
 use Rattle.ledger_runs.specs.Turning.{IsLaneOf}
 use Rattle.ledger_runs.specs.Waving.{AllProper}
-use Rattle.ledger_runs.specs.Pieces.{HasPrepared, IsNextPiece}
+use Rattle.ledger_runs.specs.Pieces.{HasPreparedPieces, IsNextPiece}
 use Rattle.ledger_runs.specs.Lanes.{LaneOf}
 
 -- each may come next at its node of these journals
@@ -25,7 +25,7 @@ FliesSent K sent I J before after mint submissions = AllProper K sent submission
 -- from journals I to J each was in flight before, and its lane has prepared nothing; or it is of transactions that are next for its lane
 abbrev pub Launches : Shape → (ℕ → List Compact → Type 0) → (ℕ → List Record) → (ℕ → List Record) → (ℕ → Option Record) → (ℕ → Option Record) → Type 0
 Launches K next I J before after = (n t : ℕ) (b : Batch) (txs : List Compact) → after n ≡ Some (Prepare t b txs)
-    → ((before n ≡ Some (Prepare t b txs)) × HasPrepared K b.lane [] I J) ⊎ (IsLaneOf K b.lane × next b.lane txs)
+    → ((before n ≡ Some (Prepare t b txs)) × HasPreparedPieces K b.lane [] I J) ⊎ (IsLaneOf K b.lane × next b.lane txs)
 
 -- for each lane the next piece of what it gets is
 abbrev pub AreNextPieces : Shape → List LaneOf → (ℕ → List Record) → (ℕ → List Record) → ℕ → List Compact → Type 0

@@ -5,12 +5,12 @@ use Rattle.cbdc_model.specs.Records.{Shape, Record}
 use Rattle.cbdc_model.specs.Slots.{Idle}
 use Rattle.cbdc_model.specs.Grammar.{HasSize}
 use Rattle.recovery.specs.Planned.{PlanOf}
-use Rattle.ledger_runs.specs.Turning.{phase_at, IsLaneOf}
+use Rattle.ledger_runs.specs.Turning.{lane_phase, IsLaneOf}
 
 -- what was found of a lane is its open batch, of a size within the shape's limit; with none the lane is idle
 pub record IsFound (K : Shape) (I : ℕ → List Record) (opens : ℕ → Option OpenLane) (lane : ℕ) (found : Option OpenLane) : Type 0 where
   pub told : found ≡ opens lane
-  pub idle : found ≡ None → phase_at K I lane ≡ Idle
+  pub idle : found ≡ None → lane_phase K I lane ≡ Idle
   pub size : IfSome found (λ o. HasSize K o.txs)
 
 -- what was found of each lane, in order

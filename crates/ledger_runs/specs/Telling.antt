@@ -8,7 +8,7 @@ use Rattle.cbdc_model.specs.Waves.{prepared}
 use Rattle.cbdc_model.specs.Places.{Sized, sized_onto}
 use Rattle.recovery.specs.declared.resumed.ResumedBatch.{ResumedBatch}
 use Rattle.recovery.specs.Open.{phase_of}
-use Rattle.ledger_runs.specs.Turning.{phase_at, listed, TookUp}
+use Rattle.ledger_runs.specs.Turning.{lane_phase, none_or_one, TookUp}
 use Rattle.ledger_runs.specs.Waving.{EachLane}
 use Rattle.ledger_runs.specs.declared.lanes.Decided.{Decided}
 use Rattle.ledger_runs.specs.Lanes.{LaneOf}
@@ -17,30 +17,30 @@ use Rattle.ledger_runs.specs.declared.lanes.Lane.{Lane}
 -- ---- batches that were open
 
 -- the batch is the lane's open one
-abbrev pub IsOpened : Shape → ℕ → (ℕ → List Record) → Option ResumedBatch → Type 0
-IsOpened K lane I None = Unit {0}
-IsOpened K lane I (Some r) = r.batch ≡ open_batch (I (home_of K lane)) lane
+abbrev pub IsLanesOpenBatch : Shape → ℕ → (ℕ → List Record) → Option ResumedBatch → Type 0
+IsLanesOpenBatch K lane I None = Unit {0}
+IsLanesOpenBatch K lane I (Some r) = r.batch ≡ open_batch (I (home_of K lane)) lane
 
 -- a lane's batch that was open in journals E: which it is, the phase in which it stood, and what is decided of it in journals X
 pub record TellsResumed (K : Shape) (lane : ℕ) (E X : ℕ → List Record) (r : ResumedBatch) : Type 0 where
   pub batch_is : r.batch ≡ open_batch (E (home_of K lane)) lane
-  pub phase_is : phase_of r.phase ≡ phase_at K E lane
+  pub phase_is : phase_of r.phase ≡ lane_phase K E lane
   pub outcomes_are : r.outcomes ≡ outcomes_of (X (home_of K lane)) r.batch
 
 -- `TellsResumed`, `IsResumedAt`: a lane's batch that was open in journals E: which it is, the phase in which it stood, and what is decided of it in
 -- journals X
 abbrev pub IsResumedAt : Shape → ℕ → (ℕ → List Record) → (ℕ → List Record) → Option ResumedBatch → Type 0
-IsResumedAt K lane E X None = phase_at K E lane ≡ Idle
+IsResumedAt K lane E X None = lane_phase K E lane ≡ Idle
 IsResumedAt K lane E X (Some r) = TellsResumed K lane E X r
 
 -- one of each lane below n that was open, in rising order
 abbrev pub TellResumed : Shape → (ℕ → List Record) → (ℕ → List Record) → ℕ → List ResumedBatch → Type 0
 TellResumed K E X zero rs = rs ≡ []
-TellResumed K E X (suc lane) rs = (before : List ResumedBatch) × (found : Option ResumedBatch) × TellResumed K E X lane before × IsResumedAt K lane E X found × (rs ≡ before ++ listed found)
+TellResumed K E X (suc lane) rs = (before : List ResumedBatch) × (found : Option ResumedBatch) × TellResumed K E X lane before × IsResumedAt K lane E X found × (rs ≡ before ++ none_or_one found)
 
 -- the result of a lane's open batch is kept behind the result of others
 abbrev pub TakesUp : Shape → ℕ → (ℕ → List Record) → (ℕ → List Record) → List ResumedBatch → List ResumedBatch → Type 0
-TakesUp K lane I J before after = (found : Option ResumedBatch) × TookUp K lane I J found × IsOpened K lane I found × (after ≡ before ++ listed found)
+TakesUp K lane I J before after = (found : Option ResumedBatch) × TookUp K lane I J found × IsLanesOpenBatch K lane I found × (after ≡ before ++ none_or_one found)
 
 -- no lane has a new Prepare
 abbrev pub SamePrepared : Shape → (ℕ → List Record) → (ℕ → List Record) → Type 0
@@ -78,9 +78,9 @@ TellsNew K I J lane x = (more : List Record) → J (home_of K lane) ≡ more ++ 
     → KeepsDecided (J (home_of K lane)) (sized_onto lane more []) (kept_by x.decided.items) x.batches
 
 -- so have all lanes
-abbrev pub AllTell : Shape → (ℕ → List Record) → (ℕ → List Record) → List Lane → Type 0
-AllTell K I J lanes = (lane : ℕ) (x : Lane) → slice_get lanes lane ≡ Some x → TellsNew K I J lane x
+abbrev pub AllTellNew : Shape → (ℕ → List Record) → (ℕ → List Record) → List Lane → Type 0
+AllTellNew K I J lanes = (lane : ℕ) (x : Lane) → slice_get lanes lane ≡ Some x → TellsNew K I J lane x
 
 -- no lane has done anything
-abbrev pub AreFresh : List LaneOf → Type 0
-AreFresh lanes = EachLane (λ lane x. (x.decided.items ≡ []) × (x.batches ≡ 0)) lanes
+abbrev pub AreLanesFresh : List LaneOf → Type 0
+AreLanesFresh lanes = EachLane (λ lane x. (x.decided.items ≡ []) × (x.batches ≡ 0)) lanes

@@ -7,13 +7,13 @@ ghost use Rattle.cbdc_model.specs.World.{AreIdle};
 ghost use Rattle.cbdc_model.specs.Waves.{IsResumed};
 ghost use Rattle.cbdc_model.specs.Slots.{Idle};
 ghost use Rattle.ledger_runs.specs.Keeping.{KeepsLedger};
-ghost use Rattle.ledger_runs.specs.Turning.{phase_at, IsLaneOf, KeepsLanes, OfKept, StaysKept, TookUpOne};
+ghost use Rattle.ledger_runs.specs.Turning.{lane_phase, IsLaneOf, KeepsLanes, OfKept, StaysKept, TookUpOne};
 ghost use Rattle.ledger_runs.specs.Planning.{IsFound, IsPlanOf, KeepsOpens};
 ghost use Rattle.ledger_runs.specs.Flying.{FliesOn, Launches};
-ghost use Rattle.ledger_runs.specs.Least.{IsUnbegun, IsLeastOpen};
+ghost use Rattle.ledger_runs.specs.Least.{IsUnbegunForMemory, IsLeastOpen};
 ghost use Rattle.ledger_runs.specs.Telling.{TakesUp, TellResumed, SamePrepared};
-ghost use Rattle.ledger_runs.specs.Pieces.{HasPrepared};
-ghost use Rattle.ledger_runs.specs.Faults.{GrowBy, TakesInOrder, IsOpenCause, IsRunCause, AllRestOrWait, HaveFailed, MayHold, Nothing};
+ghost use Rattle.ledger_runs.specs.Pieces.{HasPreparedPieces};
+ghost use Rattle.ledger_runs.specs.Faults.{GrowBy, TakesInOrder, IsOpenCause, IsRunCause, AllRestOrWait, HaveFailed, MayHoldBytes, Nothing};
 
 use crate::Turns;
 use crate::openings::{open_lanes, plan_lanes};
@@ -40,7 +40,7 @@ fn resume_next<L: Turns, G: Gate>(
     ensures len { vec_len batches.new ≤ vec_len batches.old + 1 }
     ensures capacity { vec_capacity batches.new ≡ vec_capacity batches.old }
     ensures keeps_ledger { KeepsLedger L.shape L.opened L.faults L.capacity L.holds ledger.old ledger.new }
-    ensures idle { OnOk result (phase_at (L.shape ledger.old) (L.journals ledger.new) lane ≡ Idle) }
+    ensures idle { OnOk result (lane_phase (L.shape ledger.old) (L.journals ledger.new) lane ≡ Idle) }
     ensures others { KeepsLanes (L.shape ledger.old) lane (L.journals ledger.old) (L.journals ledger.new) }
     ensures opens_same { KeepsOpens (L.shape ledger.old) lane (L.opens ledger.old) (L.opens ledger.new) }
     ensures keeps { OfKept (L.shape ledger.old) (L.journals ledger.old) (StaysKept (L.shape ledger.old) (L.journals ledger.old) (L.journals ledger.new)) }
@@ -53,9 +53,9 @@ fn resume_next<L: Turns, G: Gate>(
     ensures launches { Launches (L.shape ledger.old) (λ _. Nothing) (L.journals ledger.old) (L.journals ledger.new) (L.flights ledger.old) (L.flights ledger.new) }
     ensures checked { L.checked ledger.new }
     ensures grows { GrowBy lane (L.journals ledger.old) (L.journals ledger.new) }
-    ensures unprepared { HasPrepared (L.shape ledger.old) lane [] (L.journals ledger.old) (L.journals ledger.new) }
+    ensures unprepared { HasPreparedPieces (L.shape ledger.old) lane [] (L.journals ledger.old) (L.journals ledger.new) }
     ensures fault { IfErr result (IsOpenCause (L.shape ledger.old) lane (L.journals ledger.old) (L.journals ledger.new)
-        (HaveFailed (L.opened ledger.new) (L.faults ledger.new)) (MayHold (L.capacity ledger.new))) }
+        (HaveFailed (L.opened ledger.new) (L.faults ledger.new)) (MayHoldBytes (L.capacity ledger.new))) }
     ensures wanting { IfErr result (λ e. e.fault ≡ Memory → L.wanting ledger.new lane) }
     ensures wanting_same { (n : ℕ) → L.wanting ledger.old n → L.wanting ledger.new n }
 {
@@ -113,15 +113,15 @@ pub fn resume_all<L: Turns, G: Gate>(
 
     // Its fault has its cause.
     ensures fault { IfErr result (IsRunCause (L.shape ledger.old) (λ _. Nothing) (L.journals ledger.old) (L.journals ledger.new)
-        (HaveFailed (L.opened ledger.new) (L.faults ledger.new)) (MayHold (L.capacity ledger.new))) }
+        (HaveFailed (L.opened ledger.new) (L.faults ledger.new)) (MayHoldBytes (L.capacity ledger.new))) }
 
     // It is that of the least lane that met one: all lesser lanes are idle. Only where memory ran out before the first was taken up
     // is nothing done.
-    ensures least { IfErr result (IsLeastOpen (L.shape ledger.old) (L.journals ledger.old) (L.journals ledger.new) (HaveFailed (L.opened ledger.new) (L.faults ledger.new)) (MayHold (L.capacity ledger.new))) }
+    ensures least { IfErr result (IsLeastOpen (L.shape ledger.old) (L.journals ledger.old) (L.journals ledger.new) (HaveFailed (L.opened ledger.new) (L.faults ledger.new)) (MayHoldBytes (L.capacity ledger.new))) }
 
     // Behind the fault of a lane each lane was taken up: it is between batches, or its batch lacks a Lock, or the disk of a node that it
     // asks has failed; or memory was wanting for its Locks, and it is prepared still.
-    ensures rests { IfErr result (λ e. IsUnbegun (L.journals ledger.old) (L.journals ledger.new) e ⊎ AllRestOrWait (L.shape ledger.old) (L.journals ledger.old) (L.journals ledger.new)
+    ensures rests { IfErr result (λ e. IsUnbegunForMemory (L.journals ledger.old) (L.journals ledger.new) e ⊎ AllRestOrWait (L.shape ledger.old) (L.journals ledger.old) (L.journals ledger.new)
         (HaveFailed (L.opened ledger.new) (L.faults ledger.new)) (L.wanting ledger.new)) }
 {
     let count = ledger.shape().lane_count();

@@ -5,12 +5,12 @@ ghost use Rattle.cbdc_model.specs.Records.{Shape as ShapeOf, Record};
 ghost use Rattle.cbdc_model.specs.Slots.{Idle};
 ghost use Rattle.lane_driver.specs.declared.fault.LaneFaultKind.TheVariants.{Memory};
 ghost use Rattle.ledger_runs.specs.Keeping.{KeepsLedger};
-ghost use Rattle.ledger_runs.specs.Turning.{phase_at, IsLaneOf, KeepsLanes, OfKept, StaysKept, TookUp};
+ghost use Rattle.ledger_runs.specs.Turning.{lane_phase, IsLaneOf, KeepsLanes, OfKept, StaysKept, TookUp};
 ghost use Rattle.ledger_runs.specs.Flying.{FliesOn, Launches};
-ghost use Rattle.ledger_runs.specs.Telling.{IsOpened};
+ghost use Rattle.ledger_runs.specs.Telling.{IsLanesOpenBatch};
 ghost use Rattle.ledger_runs.specs.Planning.{IsFound, KeepsOpens};
-ghost use Rattle.ledger_runs.specs.Pieces.{HasPrepared};
-ghost use Rattle.ledger_runs.specs.Faults.{GrowBy, IsOpenCause, HaveFailed, MayHold, Nothing};
+ghost use Rattle.ledger_runs.specs.Pieces.{HasPreparedPieces};
+ghost use Rattle.ledger_runs.specs.Faults.{GrowBy, IsOpenCause, HaveFailed, MayHoldBytes, Nothing};
 
 use cbdc_types::{LaneId, OpenLane, Shape};
 use lane_driver::LaneFault;
@@ -77,22 +77,22 @@ pub trait Turns {
         requires plan { plan ≡ record { shape = shape self.old; lanes = unfinished.now ∷ [] } }
         requires checked { checked self.old }
         ensures keeps_ledger { KeepsLedger shape opened faults capacity holds self.old self.new }
-        ensures idle { OnOk result (phase_at (shape self.old) (journals self.new) lane ≡ Idle) }
+        ensures idle { OnOk result (lane_phase (shape self.old) (journals self.new) lane ≡ Idle) }
         ensures others { KeepsLanes (shape self.old) lane (journals self.old) (journals self.new) }
         ensures opens_same { KeepsOpens (shape self.old) lane (opens self.old) (opens self.new) }
         ensures keeps { OfKept (shape self.old) (journals self.old) (StaysKept (shape self.old) (journals self.old) (journals self.new)) }
         ensures took { IfOk result (λ batch. OfKept (shape self.old) (journals self.old) (λ _ _. TookUp (shape self.old) lane (journals self.old) (journals self.new) (Some batch))) }
-        ensures opened { IfOk result (λ batch. IsOpened (shape self.old) lane (journals self.old) (Some batch)) }
+        ensures opened { IfOk result (λ batch. IsLanesOpenBatch (shape self.old) lane (journals self.old) (Some batch)) }
         ensures quiet { OnOk result (quiet self.old → quiet self.new) }
         ensures flies { OfKept (shape self.old) (journals self.old) (FliesOn (shape self.old) (journals self.old) (journals self.new) (flights self.old) (flights self.new)) }
         ensures launches { Launches (shape self.old) (λ _. Nothing) (journals self.old) (journals self.new) (flights self.old) (flights self.new) }
         ensures checked { checked self.new }
         ensures grows { GrowBy lane (journals self.old) (journals self.new) }
-        ensures unprepared { HasPrepared (shape self.old) lane [] (journals self.old) (journals self.new) }
+        ensures unprepared { HasPreparedPieces (shape self.old) lane [] (journals self.old) (journals self.new) }
 
         // Its fault has its cause. Where memory was wanting the lane may wait where it was: its batch is prepared still.
         ensures fault { IfErr result (IsOpenCause (shape self.old) lane (journals self.old) (journals self.new)
-            (HaveFailed (opened self.new) (faults self.new)) (MayHold (capacity self.new))) }
+            (HaveFailed (opened self.new) (faults self.new)) (MayHoldBytes (capacity self.new))) }
         ensures wanting { IfErr result (λ e. e.fault ≡ Memory → wanting self.new lane) }
         ensures wanting_same { (n : ℕ) → wanting self.old n → wanting self.new n };
 }

@@ -15,7 +15,7 @@ use Rattle.cbdc_model.specs.Sights.{Sight, Stays, Meets}
 use Rattle.cbdc_model.specs.Slots.{Idle}
 use Rattle.shard_core.specs.Stands.{Stands}
 use Rattle.shard_core.specs.declared.core_state.ShardCore.{ShardCore}
-use Rattle.port_sets.specs.Giving.{Gives}
+use Rattle.port_sets.specs.Giving.{NodeGives}
 use Rattle.port_sets.specs.Shards.{lock_owed, finish_owed, forget_owed, good_reply, good_stamp}
 use Rattle.lock_rows.specs.Frozen.{seen_of, IsFrozen}
 
@@ -33,7 +33,7 @@ module _ {A : Type 0} (lane : ℕ) (memory : Bool) (due : Header → ℕ → Opt
   abbrev s : Sight
   s = record { header = h; seen = Genesis h hs ∷ []; flight = None; faults = 0; opened = 0; capacity = 0 }
 
-  pub gives : IsJournal h (Genesis h hs ∷ []) → Meets memory (due h 0 None (Genesis h hs ∷ [])) s s (Genesis h hs ∷ []) (Err fault) → Gives lane memory due good s s (Err fault)
+  pub gives : IsJournal h (Genesis h hs ∷ []) → Meets memory (due h 0 None (Genesis h hs ∷ [])) s s (Genesis h hs ∷ []) (Err fault) → NodeGives lane memory due good s s (Err fault)
   gives journal meets = record {
     told = record {
       found = Genesis h hs ∷ [];
@@ -76,15 +76,15 @@ module _ (core : ShardCore) (rs : List Record) (k : IsFrozen core rs) (t : Sight
   stays : Stays first first J
   stays = record { node = record { header = refl; opened = refl; capacity = refl; later = omega arith }; seen = refl; flight = refl }
 
-  pub lock_gives : (c : LockCall) → Gives c.batch.lane true (lock_owed c) good_reply t t (Err Memory)
-  lock_gives c = subst (λ s. Gives c.batch.lane true (lock_owed c) good_reply s s (Err Memory)) (sym seen_first) (gives c.batch.lane true (lock_owed c) good_reply core.header k.hashes Memory k.journal (refl, stays))
+  pub lock_gives : (c : LockCall) → NodeGives c.batch.lane true (lock_owed c) good_reply t t (Err Memory)
+  lock_gives c = subst (λ s. NodeGives c.batch.lane true (lock_owed c) good_reply s s (Err Memory)) (sym seen_first) (gives c.batch.lane true (lock_owed c) good_reply core.header k.hashes Memory k.journal (refl, stays))
 
-  pub finish_gives : (c : FinishCall) → 1 ≤ c.batch.number → Gives c.batch.lane false (finish_owed c) good_stamp t t (Err (Refuses (NotLocked 0)))
-  finish_gives c le = subst (λ s. Gives c.batch.lane false (finish_owed c) good_stamp s s (Err (Refuses (NotLocked 0)))) (sym seen_first)
+  pub finish_gives : (c : FinishCall) → 1 ≤ c.batch.number → NodeGives c.batch.lane false (finish_owed c) good_stamp t t (Err (Refuses (NotLocked 0)))
+  finish_gives c le = subst (λ s. NodeGives c.batch.lane false (finish_owed c) good_stamp s s (Err (Refuses (NotLocked 0)))) (sym seen_first)
       (gives c.batch.lane false (finish_owed c) good_stamp core.header k.hashes (Refuses (NotLocked 0)) k.journal (ap (λ p. stamp_by p (Finish (next_stamp J c.cause) c.batch c.decisions)) (finish_refused core.header k.hashes c le), stays))
 
-  pub forget_gives : (c : ForgetCall) → 1 ≤ c.batch.number → Gives c.batch.lane false (forget_owed c) good_stamp t t (Err (Refuses (NotLocked 0)))
-  forget_gives c le = subst (λ s. Gives c.batch.lane false (forget_owed c) good_stamp s s (Err (Refuses (NotLocked 0)))) (sym seen_first)
+  pub forget_gives : (c : ForgetCall) → 1 ≤ c.batch.number → NodeGives c.batch.lane false (forget_owed c) good_stamp t t (Err (Refuses (NotLocked 0)))
+  forget_gives c le = subst (λ s. NodeGives c.batch.lane false (forget_owed c) good_stamp s s (Err (Refuses (NotLocked 0)))) (sym seen_first)
       (gives c.batch.lane false (forget_owed c) good_stamp core.header k.hashes (Refuses (NotLocked 0)) k.journal (ap (λ p. stamp_by p (Forget (next_stamp J c.cause) c.batch)) (forget_refused core.header k.hashes c le), stays))
 
 only_one : (all : List Record) (r : Record) → length all ≡ 1 → slice_get all 0 ≡ Some r → all ≡ r ∷ []

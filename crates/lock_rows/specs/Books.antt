@@ -10,20 +10,20 @@ use Rattle.lock_rows.specs.declared.book.Answer.{Answer}
 use Rattle.lock_rows.specs.declared.book.Answer.TheVariants.{Counted, Listed}
 
 -- a line is written down as a Forget of its lane, with its number
-abbrev pub record_of : Line → Record
-record_of l = Forget l.number (record { lane = l.lane; number = l.number })
+abbrev pub line_record : Line → Record
+line_record l = Forget l.number (record { lane = l.lane; number = l.number })
 
 -- nothing is ever in flight
 abbrev pub sight_of : Book → Sight
-sight_of b = record { header = b.header; seen = map record_of (reverse b.lines.items); flight = None; faults = 0; opened = 0; capacity = 0 }
+sight_of b = record { header = b.header; seen = map line_record (reverse b.lines.items); flight = None; faults = 0; opened = 0; capacity = 0 }
 
 -- the line is written down, or there was no memory
-abbrev pub Writes : Sight → Line → Sight → Bool → Type 0
-Writes s l t true = t.seen ≡ record_of l ∷ s.seen
-Writes s l t false = t.seen ≡ s.seen
+abbrev pub BookWrites : Sight → Line → Sight → Bool → Type 0
+BookWrites s l t true = t.seen ≡ line_record l ∷ s.seen
+BookWrites s l t false = t.seen ≡ s.seen
 
 -- what the journal says; its lines the oldest first
-abbrev pub Tells : Sight → Ask → Answer → Type 0
-Tells s Count (Counted n) = n ≡ length s.seen
-Tells s Lines (Listed all) = IfOk all (λ ls. map record_of (reverse ls.items) ≡ s.seen)
-Tells s ask answer = ⊥
+abbrev pub BookTells : Sight → Ask → Answer → Type 0
+BookTells s Count (Counted n) = n ≡ length s.seen
+BookTells s Lines (Listed all) = IfOk all (λ ls. map line_record (reverse ls.items) ≡ s.seen)
+BookTells s ask answer = ⊥

@@ -1,6 +1,6 @@
 // A node in memory, for the rows: it writes down whatever it is asked to.
 ghost use Rattle.std.specs.Prelude.{◌≡◌};
-ghost use Rattle.lock_rows.specs.Books.{sight_of, Writes, Tells};
+ghost use Rattle.lock_rows.specs.Books.{sight_of, BookWrites, BookTells};
 
 use cbdc_types::{Header, LaneId};
 use node_lock::{Asked, Node, Sighted};
@@ -74,7 +74,7 @@ impl Asked for Book {
 
     type Answer = Answer;
 
-    ghost tells = { Tells };
+    ghost tells = { BookTells };
 
     fn ask(&self, ask: &Ask) -> Answer {
         match ask {
@@ -93,7 +93,7 @@ impl<'c> Node<'c> for Book {
 
     ghost allowed = { λ l s. Unit {0} };
 
-    ghost gives = { λ s l t m done. Writes s l t done };
+    ghost gives = { λ s l t m done. BookWrites s l t done };
 
     fn step(&mut self, call: &mut Line) -> bool {
         match self.lines.push(*call) {

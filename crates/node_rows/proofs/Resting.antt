@@ -11,14 +11,14 @@ use Rattle.lane_driver.specs.Told.{IsLane, AreShardsOf}
 use Rattle.lane_driver.specs.Stops.{IsSettled}
 use Rattle.node_journal.specs.Nodes.{NodeOf, sight}
 use Rattle.node_ports.specs.Nodes.{sight_at}
-use Rattle.node_rows.specs.Resting.{number_in, AllRest, LogRests, MayRun}
+use Rattle.node_rows.specs.Resting.{number_of_lane, AllRest, LogRests, MayRunOver}
 
 -- ---- records of batches up to a number
 
 another : (c b : Batch) (lane k : ℕ) → (if c.lane == lane then c.number else 0) ≤ k → b.lane ≡ lane → k < b.number → same_batch c b ≡ false
 another c b lane k low same high = grind (arith, low, same, high)
 
-not_of : (r : Record) (b : Batch) (lane k : ℕ) → number_in lane r ≤ k → b.lane ≡ lane → k < b.number → is_of b r ≡ false
+not_of : (r : Record) (b : Batch) (lane k : ℕ) → number_of_lane lane r ≤ k → b.lane ≡ lane → k < b.number → is_of b r ≡ false
 not_of (Genesis header hs) b lane k low same high = refl
 not_of (Start header) b lane k low same high = refl
 not_of (Lock stamp c es) b lane k low same high = another c b lane k low same high
@@ -33,11 +33,11 @@ never : (a : Bool) → (a && false) ≡ false
 never true = refl
 never false = refl
 
-none_later : (kind lane k : ℕ) (J : List Record) (b : Batch) → All (λ r. number_in lane r ≤ k) J → b.lane ≡ lane → k < b.number → record_of kind J b ≡ None
+none_later : (kind lane k : ℕ) (J : List Record) (b : Batch) → All (λ r. number_of_lane lane r ≤ k) J → b.lane ≡ lane → k < b.number → record_of kind J b ≡ None
 none_later kind lane k [] b all same high = refl
 none_later kind lane k (r ∷ J) b all same high =
-    rw (not_of r b lane k (All-head (λ x. number_in lane x ≤ k) r J all) same high)
-    (rw (never (kind_of r == kind)) (none_later kind lane k J b (All-tail (λ x. number_in lane x ≤ k) r J all) same high))
+    rw (not_of r b lane k (All-head (λ x. number_of_lane lane x ≤ k) r J all) same high)
+    (rw (never (kind_of r == kind)) (none_later kind lane k J b (All-tail (λ x. number_of_lane lane x ≤ k) r J all) same high))
 
 -- ---- a list of nodes, by their places
 
@@ -50,11 +50,11 @@ record Rested (lane k stamp : ℕ) (I : Sight) : Type 0 where
   pub idle : (slot I.seen lane).phase ≡ Idle
   pub number : (slot I.seen lane).number ≤ k
   pub stamp_is : slot_stamp I.seen lane ≤ stamp
-  pub numbers : All (λ r. number_in lane r ≤ k) I.seen
+  pub numbers : All (λ r. number_of_lane lane r ≤ k) I.seen
 
 module _ {D : Type 0} (K : Shape) (lane k stamp : ℕ) where
   rested : (nodes : List (NodeOf D)) (n s : ℕ) → AllRest K lane k stamp n nodes → Rested lane k stamp (sight_at sight nodes s)
-  rested [] n s all = record { idle = refl; number = omega arith; stamp_is = omega arith; numbers = All-nil (λ r. number_in lane r ≤ k) }
+  rested [] n s all = record { idle = refl; number = omega arith; stamp_is = omega arith; numbers = All-nil (λ r. number_of_lane lane r ≤ k) }
   rested (x ∷ xs) n zero all = record { idle = all.0.idle; number = all.0.number; stamp_is = all.0.stamp_is; numbers = all.0.numbers }
   rested (x ∷ xs) n (suc s) all = rested xs (suc n) s all.1
 
@@ -89,7 +89,7 @@ module _ {D : Type 0} (K : Shape) (lane k : ℕ) (l : NodeOf D) (nodes : List (N
 
 -- where the coordinator's log stands at its place
 pub rests : {D : Type 0} (K : Shape) (lane k at : ℕ) (l : NodeOf D) (logs nodes : List (NodeOf D))
-    → at < length logs → l ≡ get_or logs at l → LogRests K lane k l → length nodes ≡ K.shards → AllRest K lane k (last_stamp l.journal) 0 nodes → MayRun K lane at logs nodes
+    → at < length logs → l ≡ get_or logs at l → LogRests K lane k l → length nodes ≡ K.shards → AllRest K lane k (last_stamp l.journal) 0 nodes → MayRunOver K lane at logs nodes
 rests K lane k at l logs nodes inside stands log as_many rest = record {
   lane_is = subst (λ (I : Sight). IsLane I.header lane) here (subst (λ (H : Shape). (lane < H.coordinators * H.lanes) × (l.header.node ≡ home_of H lane)) (sym log.shape) (log.inside, log.node));
   shape = subst (λ (I : Sight). I.header.shape ≡ K) here log.shape;

@@ -9,16 +9,16 @@ use Rattle.node_journal.specs.Nodes.{NodeOf, sight}
 use Rattle.node_ports.specs.Nodes.{sight_at}
 
 -- the number of a record's batch, 0 of a first record and of another lane's
-abbrev pub number_in : ℕ → Record → ℕ
-number_in lane (Genesis header hs) = 0
-number_in lane (Lock stamp b es) = if b.lane == lane then b.number else 0
-number_in lane (Finish stamp b ds) = if b.lane == lane then b.number else 0
-number_in lane (Forget stamp b) = if b.lane == lane then b.number else 0
-number_in lane (Start header) = 0
-number_in lane (Prepare stamp b txs) = if b.lane == lane then b.number else 0
-number_in lane (Commit stamp b os) = if b.lane == lane then b.number else 0
-number_in lane (Discard stamp b) = if b.lane == lane then b.number else 0
-number_in lane (Done stamp b) = if b.lane == lane then b.number else 0
+abbrev pub number_of_lane : ℕ → Record → ℕ
+number_of_lane lane (Genesis header hs) = 0
+number_of_lane lane (Lock stamp b es) = if b.lane == lane then b.number else 0
+number_of_lane lane (Finish stamp b ds) = if b.lane == lane then b.number else 0
+number_of_lane lane (Forget stamp b) = if b.lane == lane then b.number else 0
+number_of_lane lane (Start header) = 0
+number_of_lane lane (Prepare stamp b txs) = if b.lane == lane then b.number else 0
+number_of_lane lane (Commit stamp b os) = if b.lane == lane then b.number else 0
+number_of_lane lane (Discard stamp b) = if b.lane == lane then b.number else 0
+number_of_lane lane (Done stamp b) = if b.lane == lane then b.number else 0
 
 -- at a shard of this place, whose last record of the lane has a stamp no later than that
 pub record RestsAt {D : Type 0} (K : Shape) (lane k stamp s : ℕ) (n : NodeOf D) : Type 0 where
@@ -27,7 +27,7 @@ pub record RestsAt {D : Type 0} (K : Shape) (lane k stamp s : ℕ) (n : NodeOf D
   pub idle : (slot n.journal lane).phase ≡ Idle
   pub number : (slot n.journal lane).number ≤ k
   pub stamp_is : slot_stamp n.journal lane ≤ stamp
-  pub numbers : All (λ r. number_in lane r ≤ k) n.journal
+  pub numbers : All (λ r. number_of_lane lane r ≤ k) n.journal
 
 -- at all shards, of which the first has this place
 abbrev pub AllRest : {D : Type 0} → Shape → ℕ → ℕ → ℕ → ℕ → List (NodeOf D) → Type 0
@@ -41,10 +41,10 @@ pub record LogRests {D : Type 0} (K : Shape) (lane k : ℕ) (l : NodeOf D) : Typ
   pub home : home_of K lane < K.coordinators
   pub inside : lane < K.coordinators * K.lanes
   pub idle : slot l.journal lane ≡ record { number = k; phase = Idle }
-  pub numbers : All (λ r. number_in lane r ≤ k) l.journal
+  pub numbers : All (λ r. number_of_lane lane r ≤ k) l.journal
 
 -- a lane may be run over these nodes of a ledger, its coordinator at this place: it rests at all of them
-pub record MayRun {D : Type 0} (K : Shape) (lane at : ℕ) (logs nodes : List (NodeOf D)) : Type 0 where
+pub record MayRunOver {D : Type 0} (K : Shape) (lane at : ℕ) (logs nodes : List (NodeOf D)) : Type 0 where
   pub lane_is : IsLane (sight_at sight logs at).header lane
   pub shape : (sight_at sight logs at).header.shape ≡ K
   pub idle : (slot (sight_at sight logs at).seen lane).phase ≡ Idle

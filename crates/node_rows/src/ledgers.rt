@@ -2,7 +2,7 @@
 ghost use Rattle.std.specs.Prelude.{◌≡◌, ◌↔◌, ◌≤◌, ◌==◌, if◌then◌else◌, reverse, IsTrue, IfOk, IfSome, OnOk, All};
 ghost use Rattle.cbdc_model.specs.Ranges.{home_of};
 ghost use Rattle.cbdc_model.specs.Grammar.{HasSize, IsCompact};
-ghost use Rattle.node_rows.specs.Resting.{number_in as number_of_lane, RestsAt, AllRest, LogRests, MayRun};
+ghost use Rattle.node_rows.specs.Resting.{number_of_lane, RestsAt, AllRest, LogRests, MayRunOver};
 
 use crate::state::Seen;
 use cbdc_types::{BatchId, CompactTx, LaneId, Record, Shape, Stamp};
@@ -141,7 +141,7 @@ fn check_rest(
     logs: &[CoordLog<FaultDisk>],
     shards: &[ShardNode<FaultDisk>],
 ) -> Result<(), Wrong>
-    ensures { OnOk result (MayRun shape.now lane at logs.now shards.now) }
+    ensures { OnOk result (MayRunOver shape.now lane at logs.now shards.now) }
 {
     let Some(log) = logs.get(at as usize) else {
         return Err(Wrong::Line("no such lane"));
@@ -231,7 +231,7 @@ fn run_all<W: Wait>(
     gate: &Noting,
 ) -> Result<LaneReport, LaneFault>
     requires place { ports.old.log.at ≡ home_of shape.now lane }
-    requires rests { MayRun shape.now lane ports.old.log.at ports.old.log.logs.items ports.old.shards.nodes.items }
+    requires rests { MayRunOver shape.now lane ports.old.log.at ports.old.log.logs.items ports.old.shards.nodes.items }
     requires limits { All IsCompact txs.now }
 {
     let mut source = SliceSource::new(txs);
@@ -249,7 +249,7 @@ fn run_one<W: Wait>(
     gate: &Noting,
 ) -> Result<LaneReport, LaneFault>
     requires place { ports.old.log.at ≡ home_of shape.now lane }
-    requires rests { MayRun shape.now lane ports.old.log.at ports.old.log.logs.items ports.old.shards.nodes.items }
+    requires rests { MayRunOver shape.now lane ports.old.log.at ports.old.log.logs.items ports.old.shards.nodes.items }
     requires size { HasSize shape.now txs.now }
     requires limits { All IsCompact txs.now }
 {
@@ -291,7 +291,7 @@ fn run_ports<W: Wait>(
     told: &mut Told,
 )
     requires place { ports.old.log.at ≡ home_of shape.now plan.now.lane }
-    requires rests { MayRun shape.now plan.now.lane ports.old.log.at ports.old.log.logs.items ports.old.shards.nodes.items }
+    requires rests { MayRunOver shape.now plan.now.lane ports.old.log.at ports.old.log.logs.items ports.old.shards.nodes.items }
 {
     let (lane, txs, repeats) = (plan.lane, plan.txs, plan.repeats);
     if !are_compact(txs) {
@@ -330,7 +330,7 @@ fn run_rested<W: Wait>(
     told: &mut Told,
 ) -> Apart
     requires place { at ≡ home_of shape.now plan.now.lane }
-    requires rests { MayRun shape.now plan.now.lane at nodes.logs.items nodes.shards.items }
+    requires rests { MayRunOver shape.now plan.now.lane at nodes.logs.items nodes.shards.items }
 {
     let Apart { logs, shards } = nodes;
     let gate = Noting::new(alloc);

@@ -6,7 +6,7 @@ use Rattle.cbdc_model.specs.Sights.{Sight}
 use Rattle.port_sets.specs.declared.coordinators.LogCall.{LogCall}
 use Rattle.port_sets.specs.declared.coordinators.LogCall.TheVariants.{Prepare, Decide, Discard, Done}
 use Rattle.port_sets.specs.declared.coordinators.LogReply.TheVariants.{Stamped}
-use Rattle.port_sets.specs.Logs.{Decides, gives_of}
+use Rattle.port_sets.specs.Logs.{Decides, log_gives}
 
 -- the outcomes that were filled in
 abbrev pub outs_of : LogCall → List Outcome
@@ -17,7 +17,7 @@ abbrev pub MadeDecides : Sight → LogCall → Sight → List Outcome → Result
 MadeDecides s (Decide lane replies out) t os r = Decides lane replies.now s t os r
 MadeDecides s other t os r = Unit {0}
 
-pub decided : (s t : Sight) (made now : LogCall) (r : Result ℕ NodeFault) → gives_of s made t now (Stamped r) → MadeDecides s made t (outs_of now) r
+pub decided : (s t : Sight) (made now : LogCall) (r : Result ℕ NodeFault) → log_gives s made t now (Stamped r) → MadeDecides s made t (outs_of now) r
 decided s t (Decide lane replies out) (Decide l q new) r g = g.0
 decided s t (Decide lane replies out) (Prepare l txs) r g = absurd g
 decided s t (Decide lane replies out) (Discard l cause) r g = absurd g

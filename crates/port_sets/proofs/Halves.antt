@@ -4,7 +4,7 @@ use Rattle.std.specs.List.{AllZip, slice_get}
 use Rattle.std.proofs.lemmas.Bool.{cases_lt}
 use Rattle.std.proofs.lemmas.List.{length-append, length-set}
 use Rattle.lane_laws.specs.Calls.{shard, AllAbove, IsRising, NotAmong, Every}
-use Rattle.port_sets.specs.Phase.{IsTaken, IsPhase, IsMade, IsPhaseMade}
+use Rattle.port_sets.specs.Phase.{IsCallTaken, IsPhase, IsMade, IsPhaseMade}
 
 -- ---- elements of two lists, one behind the other
 
@@ -117,7 +117,7 @@ module _ {P C A : Type 0} (accepts : C → P → Type 0) where
       → (first ≤ at) × (at < first + length ports)
   first_taken first at calls ports answers low [] d h e some is = absurd (omega (arith, some))
   first_taken first at calls ports answers low (c ∷ cs) d h e some is =
-      let taken = every_back (IsTaken accepts first ports) low (c ∷ cs) (subst (Every (IsTaken accepts first ports)) e h.taken) in
+      let taken = every_back (IsCallTaken accepts first ports) low (c ∷ cs) (subst (Every (IsCallTaken accepts first ports)) e h.taken) in
       let there = within ports taken.0.place taken.0.port taken.0.found in
       let place = taken.0.place_is in
       (omega (arith, is, place), omega (arith, is, place, there))
@@ -138,7 +138,7 @@ module _ {P C A : Type 0} (accepts : C → P → Type 0) where
 
 module _ {P C : Type 0} (accepts : C → P → Type 0) where
   low_taken : (first at : ℕ) (front back : List P) → first + length front ≡ at → (cs : List (ℕ × C)) → Every (λ c. c.0 < at) cs
-      → Every (IsTaken accepts first (front ++ back)) cs → Every (IsTaken accepts first front) cs
+      → Every (IsCallTaken accepts first (front ++ back)) cs → Every (IsCallTaken accepts first front) cs
   low_taken first at xs ys cut [] lt h = tt
   low_taken first at xs ys cut (c ∷ cs) lt h =
       let t = h.0 in
@@ -149,7 +149,7 @@ module _ {P C : Type 0} (accepts : C → P → Type 0) where
       )
 
   high_taken : (first at : ℕ) (front back : List P) → first + length front ≡ at → (cs : List (ℕ × C)) → Every (λ c. at ≤ c.0) cs
-      → Every (IsTaken accepts first (front ++ back)) cs → Every (IsTaken accepts at back) cs
+      → Every (IsCallTaken accepts first (front ++ back)) cs → Every (IsCallTaken accepts at back) cs
   high_taken first at xs ys cut [] le h = tt
   high_taken first at xs ys cut (c ∷ cs) le h =
       let t = h.0 in
@@ -167,20 +167,20 @@ module _ {P C : Type 0} (accepts : C → P → Type 0) where
 
 module _ {P C A : Type 0} (accepts : C → P → Type 0) where
   module _ (first at : ℕ) (calls : List (ℕ × C)) (ports : List P) (answers : List A) (low high : List (ℕ × C)) (front back : List P) (lows highs : List A) (h : IsPhase accepts first calls ports answers) (are : calls ≡ low ++ high) (split : ports ≡ front ++ back) (cut : IsCut first at low high front back) where
-    all_taken : Every (IsTaken accepts first (front ++ back)) (low ++ high)
-    all_taken = subst (Every (IsTaken accepts first (front ++ back))) are (subst (λ ps. Every (IsTaken accepts first ps) calls) split h.taken)
+    all_taken : Every (IsCallTaken accepts first (front ++ back)) (low ++ high)
+    all_taken = subst (Every (IsCallTaken accepts first (front ++ back))) are (subst (λ ps. Every (IsCallTaken accepts first ps) calls) split h.taken)
 
     pub low_phase : length lows ≡ length low → IsPhase accepts first low front lows
     low_phase room = record {
       rising = rising_front low high (subst (IsRising shard) are h.rising);
-      taken = low_taken accepts first at front back cut.cut low cut.below (every_front (IsTaken accepts first (front ++ back)) low high all_taken);
+      taken = low_taken accepts first at front back cut.cut low cut.below (every_front (IsCallTaken accepts first (front ++ back)) low high all_taken);
       room = room;
     }
 
     pub high_phase : length highs ≡ length high → IsPhase accepts at high back highs
     high_phase room = record {
       rising = rising_back low high (subst (IsRising shard) are h.rising);
-      taken = high_taken accepts first at front back cut.cut high cut.above (every_back (IsTaken accepts first (front ++ back)) low high all_taken);
+      taken = high_taken accepts first at front back cut.cut high cut.above (every_back (IsCallTaken accepts first (front ++ back)) low high all_taken);
       room = room;
     }
 
@@ -274,8 +274,8 @@ module _ {P C A : Type 0} (makes : C → P → P → A → Type 0) where
 -- ---- the first call, where it is alone
 
 module _ {P C A : Type 0} (accepts : C → P → Type 0) (first : ℕ) (calls : List (ℕ × C)) (ports : List P) (answers : List A) (c : ℕ × C) (rest : List (ℕ × C)) (h : IsPhase accepts first calls ports answers) (are : calls ≡ c ∷ rest) where
-  pub first_call : IsTaken accepts first ports c
-  first_call = (subst (Every (IsTaken accepts first ports)) are h.taken).0
+  pub first_call : IsCallTaken accepts first ports c
+  first_call = (subst (Every (IsCallTaken accepts first ports)) are h.taken).0
 
   pub inside : c.0 - first < length ports
   inside = let t = first_call in let e = t.place_is in omega (arith, e, within ports t.place t.port t.found)

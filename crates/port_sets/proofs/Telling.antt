@@ -13,13 +13,13 @@ use Rattle.lane_driver.specs.Told.{IsStillNode, KeepNodes}
 use Rattle.lane_driver.specs.Keeping.{KeepsShard, KeepsShards}
 use Rattle.lane_driver.proofs.Fitting.{nodes_same}
 use Rattle.node_ports.specs.Nodes.{no_node, sight_at}
-use Rattle.port_sets.specs.Phase.{IsTaken, IsMade, IsPhaseMade, Answered}
+use Rattle.port_sets.specs.Phase.{IsCallTaken, IsMade, IsPhaseMade, Answered}
 use Rattle.port_sets.proofs.Halves.{read}
 
 -- ---- before
 
 module _ {P C : Type 0} (sight : P → Sight) (accepts : C → P → Type 0) (fits : Sight → C → Type 0) (mine : C → P → Type 0) (accept : (c : C) (p : P) → fits (sight p) c → mine c p → accepts c p) (ps : List P) where
-  one_taken : (c : ℕ × C) → (p : P) → slice_get ps c.0 ≡ Some p → sight_at sight ps c.0 ≡ sight p → fits (sight_at sight ps c.0) c.1 → mine c.1 p → IsTaken accepts 0 ps c
+  one_taken : (c : ℕ × C) → (p : P) → slice_get ps c.0 ≡ Some p → sight_at sight ps c.0 ≡ sight p → fits (sight_at sight ps c.0) c.1 → mine c.1 p → IsCallTaken accepts 0 ps c
   one_taken c p found seen fit own = record {
     place = c.0;
     place_is = omega arith;
@@ -34,7 +34,7 @@ module _ {P C : Type 0} (sight : P → Sight) (accepts : C → P → Type 0) (fi
   there (x ∷ xs) (suc n) lt = there xs n (omega (arith, lt))
 
   -- each call is taken by the port of its shard
-  pub all_taken : (cs : List (ℕ × C)) → All (λ c. c.0 < length ps) cs → All (λ c. fits (sight_at sight ps c.0) c.1) cs → All (λ c. All (λ p. mine c.1 p) ps) cs → Every (IsTaken accepts 0 ps) cs
+  pub all_taken : (cs : List (ℕ × C)) → All (λ c. c.0 < length ps) cs → All (λ c. fits (sight_at sight ps c.0) c.1) cs → All (λ c. All (λ p. mine c.1 p) ps) cs → Every (IsCallTaken accepts 0 ps) cs
   all_taken [] inside fit own = tt
   all_taken (c ∷ cs) inside fit own =
       let lt = All-head (λ (d : ℕ × C). d.0 < length ps) c cs inside in

@@ -13,7 +13,7 @@ use Rattle.lane_driver.specs.Told.{IsLane, AreReplies}
 use Rattle.node_lock.specs.Moving.{of_lane}
 use Rattle.port_sets.specs.declared.coordinators.LogCall.{LogCall}
 use Rattle.port_sets.specs.declared.coordinators.LogCall.TheVariants.{Prepare, Decide, Discard, Done}
-use Rattle.port_sets.specs.Logs.{lane_of, txs_at, may_be_asked}
+use Rattle.port_sets.specs.Logs.{log_call_lane, txs_at, log_may_be_asked}
 
 -- what came between is of other lanes
 pub all_may : (lane : ℕ) (xs : List Record) → of_lane lane xs ≡ [] → AllMay false lane xs
@@ -39,7 +39,7 @@ found_by lane s t more is other = record { more = more; is = is; between = all_m
 
 -- whether a coordinator may be asked is not changed by it (lemmas: the second is cited where a coordinator is made a node of a lock, and rests on
 -- the first)
-pub still_asked : (c : LogCall) (s t : Sight) (more : List Record) → t.header ≡ s.header → t.seen ≡ more ++ s.seen → of_lane (lane_of c) more ≡ [] → may_be_asked c s → may_be_asked c t
+pub still_asked : (c : LogCall) (s t : Sight) (more : List Record) → t.header ≡ s.header → t.seen ≡ more ++ s.seen → of_lane (log_call_lane c) more ≡ [] → log_may_be_asked c s → log_may_be_asked c t
 still_asked (Prepare lane txs) s t more header seen other may =
     let f = found_by lane s t more seen other in
     (subst (λ h. IsLane h lane) (sym header) may.0, same_phase lane s.seen t.seen f Idle may.1, subst (λ h. HasSize h.shape txs.now) (sym header) may.2, may.3)

@@ -12,29 +12,29 @@ use Rattle.cbdc_model.specs.Sights.{Sight}
 use Rattle.lane_laws.specs.Answers.{DecideAnswer}
 use Rattle.lane_driver.specs.Told.{IsLane, IsPrepared, IsStamp, AreReplies}
 use Rattle.lane_driver.specs.Causes.{IsDecideCause}
-use Rattle.port_sets.specs.Giving.{Gives}
+use Rattle.port_sets.specs.Giving.{NodeGives}
 use Rattle.port_sets.specs.declared.coordinators.LogCall.{LogCall}
 use Rattle.port_sets.specs.declared.coordinators.LogCall.TheVariants.{Prepare, Decide, Discard, Done}
 use Rattle.port_sets.specs.declared.coordinators.LogReply.{LogReply}
 use Rattle.port_sets.specs.declared.coordinators.LogReply.TheVariants.{Prepared, Stamped}
 
 -- of a call at a shard, and of one at a coordinator: its lane
-abbrev pub lane_of : LogCall → ℕ
-lane_of (Prepare lane txs) = lane
-lane_of (Decide lane replies out) = lane
-lane_of (Discard lane cause) = lane
-lane_of (Done lane cause) = lane
+abbrev pub log_call_lane : LogCall → ℕ
+log_call_lane (Prepare lane txs) = lane
+log_call_lane (Decide lane replies out) = lane
+log_call_lane (Discard lane cause) = lane
+log_call_lane (Done lane cause) = lane
 
 -- the transactions of the lane's open batch
 abbrev pub txs_at : List Record → ℕ → List Compact
 txs_at J lane = txs_of J (open_batch J lane)
 
 -- whether it may be made where this is seen of the node
-abbrev pub may_be_asked : LogCall → Sight → Type 0
-may_be_asked (Prepare lane txs) s = IsLane s.header lane × ((slot s.seen lane).phase ≡ Idle) × HasSize s.header.shape txs.now × All IsCompact txs.now
-may_be_asked (Decide lane replies out) s = IsLane s.header lane × ((slot s.seen lane).phase ≡ InPrepare) × AreReplies s.header.shape replies.now × (length (txs_at s.seen lane) ≤ vec_capacity out.now)
-may_be_asked (Discard lane cause) s = IsLane s.header lane × ((slot s.seen lane).phase ≡ InCommit) × IsStamp cause
-may_be_asked (Done lane cause) s = IsLane s.header lane × ((slot s.seen lane).phase ≡ InDiscard) × IsStamp cause
+abbrev pub log_may_be_asked : LogCall → Sight → Type 0
+log_may_be_asked (Prepare lane txs) s = IsLane s.header lane × ((slot s.seen lane).phase ≡ Idle) × HasSize s.header.shape txs.now × All IsCompact txs.now
+log_may_be_asked (Decide lane replies out) s = IsLane s.header lane × ((slot s.seen lane).phase ≡ InPrepare) × AreReplies s.header.shape replies.now × (length (txs_at s.seen lane) ≤ vec_capacity out.now)
+log_may_be_asked (Discard lane cause) s = IsLane s.header lane × ((slot s.seen lane).phase ≡ InCommit) × IsStamp cause
+log_may_be_asked (Done lane cause) s = IsLane s.header lane × ((slot s.seen lane).phase ≡ InDiscard) × IsStamp cause
 
 -- `prepare_owed`, `discard_owed`, `done_owed`: what a coordinator owes a call, by its header
 abbrev pub prepare_owed : ℕ → List Compact → Header → ℕ → Option ℕ → List Record → Due (Batch × ℕ)
@@ -68,12 +68,12 @@ pub record Decides (lane : ℕ) (replies : List ShardReplies) (s t : Sight) (os 
   pub written : OnOk result (os ≡ outcomes_of t.seen (open_batch t.seen lane))
 
 -- the answer is of the call's kind
-abbrev pub gives_of : Sight → LogCall → Sight → LogCall → LogReply → Type 0
-gives_of s (Prepare lane txs) t c (Prepared r) = Gives lane true (prepare_owed lane txs.now) (good_prepare lane txs.now) s t r
-gives_of s (Prepare lane txs) t c (Stamped r) = ⊥
-gives_of s (Decide lane replies out) t (Decide l q new) (Stamped r) = Decides lane replies.now s t new.now.items r × (new.ghost_name ≡ out.ghost_name)
-gives_of s (Decide lane replies out) t other r = ⊥
-gives_of s (Discard lane cause) t c (Stamped r) = Gives lane false (discard_owed lane cause) (good_discard lane) s t r
-gives_of s (Discard lane cause) t c (Prepared r) = ⊥
-gives_of s (Done lane cause) t c (Stamped r) = Gives lane false (done_owed lane cause) (good_done lane) s t r
-gives_of s (Done lane cause) t c (Prepared r) = ⊥
+abbrev pub log_gives : Sight → LogCall → Sight → LogCall → LogReply → Type 0
+log_gives s (Prepare lane txs) t c (Prepared r) = NodeGives lane true (prepare_owed lane txs.now) (good_prepare lane txs.now) s t r
+log_gives s (Prepare lane txs) t c (Stamped r) = ⊥
+log_gives s (Decide lane replies out) t (Decide l q new) (Stamped r) = Decides lane replies.now s t new.now.items r × (new.ghost_name ≡ out.ghost_name)
+log_gives s (Decide lane replies out) t other r = ⊥
+log_gives s (Discard lane cause) t c (Stamped r) = NodeGives lane false (discard_owed lane cause) (good_discard lane) s t r
+log_gives s (Discard lane cause) t c (Prepared r) = ⊥
+log_gives s (Done lane cause) t c (Stamped r) = NodeGives lane false (done_owed lane cause) (good_done lane) s t r
+log_gives s (Done lane cause) t c (Prepared r) = ⊥

@@ -36,7 +36,7 @@ module _ {F P C A : Type 0} (g : Shared F (MutBor P × (Bor C × Unit {0})) (A �
     pub left : after_call.now ≡ q
 
 -- the call's shard has a port among these, which stand for the shards from `first` on, and the port accepts the call
-pub record IsTaken {P C : Type 0} (accepts : C → P → Type 0) (first : ℕ) (ports : List P) (c : ℕ × C) : Type 0 where
+pub record IsCallTaken {P C : Type 0} (accepts : C → P → Type 0) (first : ℕ) (ports : List P) (c : ℕ × C) : Type 0 where
   pub place : ℕ
   pub place_is : c.0 ≡ first + place
   pub port : P
@@ -46,7 +46,7 @@ pub record IsTaken {P C : Type 0} (accepts : C → P → Type 0) (first : ℕ) (
 -- the calls' shards rise, each is taken, and there is a place for each answer
 pub record IsPhase {P C A : Type 0} (accepts : C → P → Type 0) (first : ℕ) (calls : List (ℕ × C)) (ports : List P) (answers : List A) : Type 0 where
   pub rising : IsRising shard calls
-  pub taken : Every (IsTaken accepts first ports) calls
+  pub taken : Every (IsCallTaken accepts first ports) calls
   pub room : length answers ≡ length calls
 
 -- the call turned the port of its shard, and was answered
@@ -66,11 +66,11 @@ pub record IsPhaseMade {P C A : Type 0} (makes : C → P → P → A → Type 0)
   pub others : (n : ℕ) → NotAmong shard calls (first + n) → slice_get new n ≡ slice_get old n
 
 -- a shard that was seen so replies by hashes and batches of its shape
-abbrev pub IsLocked : Sight → Result Replied NodeFault → Type 0
-IsLocked s answer = IfOk answer (λ a. IsStamp a.stamp × All (IsReply s.header.shape) a.replies)
+abbrev pub IsRepliesAnswer : Sight → Result Replied NodeFault → Type 0
+IsRepliesAnswer s answer = IfOk answer (λ a. IsStamp a.stamp × All (IsReply s.header.shape) a.replies)
 
-abbrev pub IsStamped : Sight → Result ℕ NodeFault → Type 0
-IsStamped s answer = IfOk answer IsStamp
+abbrev pub IsStampAnswer : Sight → Result ℕ NodeFault → Type 0
+IsStampAnswer s answer = IfOk answer IsStamp
 
 -- what a port tells of a call, and what it keeps
 pub record Answered {P C A : Type 0} (told : ℕ × C → Sight → Sight → A → Type 0) (is : Sight → A → Type 0)
@@ -80,7 +80,7 @@ pub record Answered {P C A : Type 0} (told : ℕ × C → Sight → Sight → A 
   pub keeps : KeepsShard at sight faults holds serves p q
 
 -- the calls of a phase, as a set of ports is asked for them
-pub record IsAsked {P C A : Type 0} (fits : Header → C → Type 0) (lane_of : C → ℕ) (sight : P → Sight) (serves : P → ℕ → Type 0)
+pub record IsPhaseAsked {P C A : Type 0} (fits : Header → C → Type 0) (lane_of : C → ℕ) (sight : P → Sight) (serves : P → ℕ → Type 0)
     (calls : List (ℕ × C)) (out : Vec A) (ports : List P) : Type 0 where
   pub shards : AreShards shard (length ports) calls
   pub fit : All (λ c. fits (sight_at sight ports c.0).header c.1) calls
@@ -95,23 +95,23 @@ pub record IsToldAtOnce {P C A : Type 0} (makes : C → P → P → A → Type 0
 
 module _ {P : Type 0} (sight : P → Sight) (serves : P → ℕ → Type 0) where
   abbrev pub AsksLocks : List (ℕ × LockCall) → Vec (Result Replied NodeFault) → List P → Type 0
-  AsksLocks = IsAsked IsLockCall (λ c. c.batch.lane) sight serves
+  AsksLocks = IsPhaseAsked IsLockCall (λ c. c.batch.lane) sight serves
 
   abbrev pub AsksFinishes : List (ℕ × FinishCall) → Vec (Result ℕ NodeFault) → List P → Type 0
-  AsksFinishes = IsAsked IsFinishCall (λ c. c.batch.lane) sight serves
+  AsksFinishes = IsPhaseAsked IsFinishCall (λ c. c.batch.lane) sight serves
 
   abbrev pub AsksForgets : List (ℕ × ForgetCall) → Vec (Result ℕ NodeFault) → List P → Type 0
-  AsksForgets = IsAsked IsForgetCall (λ c. c.batch.lane) sight serves
+  AsksForgets = IsPhaseAsked IsForgetCall (λ c. c.batch.lane) sight serves
 
   module _ (alone : Bool) (at : P → ℕ) (faults : P → ℕ) (holds : P → Type 0) where
     abbrev pub Locks : LockCall → P → P → Result Replied NodeFault → Type 0
-    Locks = Answered (LockAnswer alone) IsLocked at sight faults holds serves
+    Locks = Answered (LockAnswer alone) IsRepliesAnswer at sight faults holds serves
 
     abbrev pub Finishes : FinishCall → P → P → Result ℕ NodeFault → Type 0
-    Finishes = Answered (FinishAnswer alone) IsStamped at sight faults holds serves
+    Finishes = Answered (FinishAnswer alone) IsStampAnswer at sight faults holds serves
 
     abbrev pub Forgets : ForgetCall → P → P → Result ℕ NodeFault → Type 0
-    Forgets = Answered (ForgetAnswer alone) IsStamped at sight faults holds serves
+    Forgets = Answered (ForgetAnswer alone) IsStampAnswer at sight faults holds serves
 
 module _ {F P C A : Type 0} (g : Shared F (Bor (List (ℕ × C)) × (MutBor (Vec A) × (MutBor (List P) × Unit {0}))) (Unit {0} × (MutBor (Vec A) × (MutBor (List P) × Unit {0})))) where
   -- f may be called with these calls, places and ports

@@ -10,23 +10,23 @@ use Rattle.cbdc_model.specs.Calls.{IsLockCall, IsFinishCall, IsForgetCall}
 use Rattle.cbdc_model.specs.Due.{Due, lock_due, finish_due, forget_due}
 use Rattle.cbdc_model.specs.Sights.{Sight}
 use Rattle.lane_driver.specs.Told.{IsStamp}
-use Rattle.port_sets.specs.Giving.{Gives}
+use Rattle.port_sets.specs.Giving.{NodeGives}
 use Rattle.port_sets.specs.declared.locking.ShardCall.{ShardCall}
 use Rattle.port_sets.specs.declared.locking.ShardCall.TheVariants.{Lock, Finish, Forget}
 use Rattle.port_sets.specs.declared.locking.ShardReply.{ShardReply}
 use Rattle.port_sets.specs.declared.locking.ShardReply.TheVariants.{Locked, Stamped}
 
 -- of a call at a shard, and of one at a coordinator: its lane
-abbrev pub lane_of : ShardCall → ℕ
-lane_of (Lock c) = c.now.batch.lane
-lane_of (Finish c) = c.now.batch.lane
-lane_of (Forget c) = c.now.batch.lane
+abbrev pub shard_call_lane : ShardCall → ℕ
+shard_call_lane (Lock c) = c.now.batch.lane
+shard_call_lane (Finish c) = c.now.batch.lane
+shard_call_lane (Forget c) = c.now.batch.lane
 
 -- whether it may be made where this is seen of the node
-abbrev pub may_be_asked : Header → ShardCall → Type 0
-may_be_asked h (Lock c) = IsLockCall h c.now
-may_be_asked h (Finish c) = IsFinishCall h c.now
-may_be_asked h (Forget c) = IsForgetCall h c.now
+abbrev pub shard_may_be_asked : Header → ShardCall → Type 0
+shard_may_be_asked h (Lock c) = IsLockCall h c.now
+shard_may_be_asked h (Finish c) = IsFinishCall h c.now
+shard_may_be_asked h (Forget c) = IsForgetCall h c.now
 
 -- `lock_owed`, `finish_owed`, `forget_owed`: what a shard owes a call, by its header
 abbrev pub lock_owed : LockCall → Header → ℕ → Option ℕ → List Record → Due Replied
@@ -46,10 +46,10 @@ abbrev pub good_stamp : Header → List Record → ℕ → Type 0
 good_stamp h J t = IsStamp t
 
 -- the answer is of the call's kind
-abbrev pub gives_of : Sight → ShardCall → Sight → ShardReply → Type 0
-gives_of s (Lock c) t (Locked r) = Gives c.now.batch.lane true (lock_owed c.now) good_reply s t r
-gives_of s (Lock c) t (Stamped r) = ⊥
-gives_of s (Finish c) t (Locked r) = ⊥
-gives_of s (Finish c) t (Stamped r) = Gives c.now.batch.lane false (finish_owed c.now) good_stamp s t r
-gives_of s (Forget c) t (Locked r) = ⊥
-gives_of s (Forget c) t (Stamped r) = Gives c.now.batch.lane false (forget_owed c.now) good_stamp s t r
+abbrev pub shard_gives : Sight → ShardCall → Sight → ShardReply → Type 0
+shard_gives s (Lock c) t (Locked r) = NodeGives c.now.batch.lane true (lock_owed c.now) good_reply s t r
+shard_gives s (Lock c) t (Stamped r) = ⊥
+shard_gives s (Finish c) t (Locked r) = ⊥
+shard_gives s (Finish c) t (Stamped r) = NodeGives c.now.batch.lane false (finish_owed c.now) good_stamp s t r
+shard_gives s (Forget c) t (Locked r) = ⊥
+shard_gives s (Forget c) t (Stamped r) = NodeGives c.now.batch.lane false (forget_owed c.now) good_stamp s t r

@@ -6,8 +6,8 @@ ghost use Rattle.lane_driver.specs.Told.{IsLane, IsStamp, AreReplies};
 ghost use Rattle.node_journal.specs.Nodes.{sight as log_sight};
 ghost use Rattle.node_ports.specs.Nodes.{IsNodeHeld};
 ghost use Rattle.node_lock.specs.Moving.{Moves};
-ghost use Rattle.port_sets.specs.Giving.{Gives};
-ghost use Rattle.port_sets.specs.Logs.{lane_of, txs_at, may_be_asked, gives_of, Decides, prepare_owed, discard_owed, done_owed, good_prepare, good_discard, good_done};
+ghost use Rattle.port_sets.specs.Giving.{NodeGives};
+ghost use Rattle.port_sets.specs.Logs.{log_call_lane, txs_at, log_may_be_asked, log_gives, Decides, prepare_owed, discard_owed, done_owed, good_prepare, good_discard, good_done};
 ghost use Rattle.port_sets.specs.Asking.{still_asked};
 
 use cbdc_types::{BatchId, CompactTx, LaneId, NodeFault, Outcome, Replies, Stamp};
@@ -49,7 +49,7 @@ fn prepare<D: Disk>(
     requires idle { (slot log.old.journal lane).phase ≡ Idle }
     requires size { HasSize log.old.header.shape txs.now }
     requires limits { All IsCompact txs.now }
-    ensures gives { Gives lane true (prepare_owed lane txs.now) (good_prepare lane txs.now) (log_sight log.old) (log_sight log.new) result }
+    ensures gives { NodeGives lane true (prepare_owed lane txs.now) (good_prepare lane txs.now) (log_sight log.old) (log_sight log.new) result }
     ensures moves { Moves lane (log_sight log.old) (log_sight log.new) }
     ensures goes { IsNodeHeld D.Disk log.old → IsNodeHeld D.Disk log.new }
 {
@@ -79,7 +79,7 @@ fn discard<D: Disk>(log: &mut CoordLog<D>, lane: LaneId, cause: Stamp) -> Result
     requires home { IsLane log.old.header lane }
     requires phase { (slot log.old.journal lane).phase ≡ InCommit }
     requires cause { IsStamp cause }
-    ensures gives { Gives lane false (discard_owed lane cause) (good_discard lane) (log_sight log.old) (log_sight log.new) result }
+    ensures gives { NodeGives lane false (discard_owed lane cause) (good_discard lane) (log_sight log.old) (log_sight log.new) result }
     ensures moves { Moves lane (log_sight log.old) (log_sight log.new) }
     ensures goes { IsNodeHeld D.Disk log.old → IsNodeHeld D.Disk log.new }
 {
@@ -91,7 +91,7 @@ fn done<D: Disk>(log: &mut CoordLog<D>, lane: LaneId, cause: Stamp) -> Result<St
     requires home { IsLane log.old.header lane }
     requires phase { (slot log.old.journal lane).phase ≡ InDiscard }
     requires cause { IsStamp cause }
-    ensures gives { Gives lane false (done_owed lane cause) (good_done lane) (log_sight log.old) (log_sight log.new) result }
+    ensures gives { NodeGives lane false (done_owed lane cause) (good_done lane) (log_sight log.old) (log_sight log.new) result }
     ensures moves { Moves lane (log_sight log.old) (log_sight log.new) }
     ensures goes { IsNodeHeld D.Disk log.old → IsNodeHeld D.Disk log.new }
 {
@@ -122,11 +122,11 @@ impl<'c, D: Disk> Node<'c> for SharedLog<D> {
 
     type Reply = LogReply;
 
-    ghost lane = { lane_of };
+    ghost lane = { log_call_lane };
 
-    ghost allowed = { may_be_asked };
+    ghost allowed = { log_may_be_asked };
 
-    ghost gives = { gives_of };
+    ghost gives = { log_gives };
 
     fn step(&mut self, call: &mut LogCall<'c>) -> LogReply {
         match call {

@@ -3,8 +3,8 @@ ghost use Rattle.std.specs.Prelude.{true, false};
 ghost use Rattle.cbdc_model.specs.Calls.{IsLockCall, IsFinishCall, IsForgetCall};
 ghost use Rattle.std.proofs.Common.{sym, subst};
 ghost use Rattle.node_lock.specs.Moving.{Moves};
-ghost use Rattle.port_sets.specs.Giving.{Gives};
-ghost use Rattle.port_sets.specs.Shards.{lane_of, may_be_asked, gives_of, lock_owed, finish_owed, forget_owed, good_reply, good_stamp};
+ghost use Rattle.port_sets.specs.Giving.{NodeGives};
+ghost use Rattle.port_sets.specs.Shards.{shard_call_lane, shard_may_be_asked, shard_gives, lock_owed, finish_owed, forget_owed, good_reply, good_stamp};
 
 use crate::nodes::Shard;
 use cbdc_types::{FinishCall, ForgetCall, LockCall, NodeFault, Replied, Stamp};
@@ -34,7 +34,7 @@ pub enum ShardReply {
 // The three calls, as a lock asks of them.
 fn lock<S: Shard>(node: &mut S, call: &LockCall) -> Result<Replied, NodeFault>
     requires { IsLockCall (S.sight node.old).header call.now }
-    ensures gives { Gives call.now.batch.lane true (lock_owed call.now) good_reply (S.sight node.old) (S.sight node.new) result }
+    ensures gives { NodeGives call.now.batch.lane true (lock_owed call.now) good_reply (S.sight node.old) (S.sight node.new) result }
     ensures moves { Moves call.now.batch.lane (S.sight node.old) (S.sight node.new) }
     ensures goes { S.goes node.old node.new }
 {
@@ -43,7 +43,7 @@ fn lock<S: Shard>(node: &mut S, call: &LockCall) -> Result<Replied, NodeFault>
 
 fn finish<S: Shard>(node: &mut S, call: &FinishCall) -> Result<Stamp, NodeFault>
     requires { IsFinishCall (S.sight node.old).header call.now }
-    ensures gives { Gives call.now.batch.lane false (finish_owed call.now) good_stamp (S.sight node.old) (S.sight node.new) result }
+    ensures gives { NodeGives call.now.batch.lane false (finish_owed call.now) good_stamp (S.sight node.old) (S.sight node.new) result }
     ensures moves { Moves call.now.batch.lane (S.sight node.old) (S.sight node.new) }
     ensures goes { S.goes node.old node.new }
 {
@@ -52,7 +52,7 @@ fn finish<S: Shard>(node: &mut S, call: &FinishCall) -> Result<Stamp, NodeFault>
 
 fn forget<S: Shard>(node: &mut S, call: &ForgetCall) -> Result<Stamp, NodeFault>
     requires { IsForgetCall (S.sight node.old).header call.now }
-    ensures gives { Gives call.now.batch.lane false (forget_owed call.now) good_stamp (S.sight node.old) (S.sight node.new) result }
+    ensures gives { NodeGives call.now.batch.lane false (forget_owed call.now) good_stamp (S.sight node.old) (S.sight node.new) result }
     ensures moves { Moves call.now.batch.lane (S.sight node.old) (S.sight node.new) }
     ensures goes { S.goes node.old node.new }
 {
@@ -82,11 +82,11 @@ impl<'c, S: Shard> Node<'c> for SharedShard<S> {
 
     type Reply = ShardReply;
 
-    ghost lane = { lane_of };
+    ghost lane = { shard_call_lane };
 
-    ghost allowed = { λ c s. may_be_asked s.header c };
+    ghost allowed = { λ c s. shard_may_be_asked s.header c };
 
-    ghost gives = { λ s c t d r. gives_of s c t r };
+    ghost gives = { λ s c t d r. shard_gives s c t r };
 
     fn step(&mut self, call: &mut ShardCall<'c>) -> ShardReply {
         match call {
@@ -96,5 +96,5 @@ impl<'c, S: Shard> Node<'c> for SharedShard<S> {
         }
     }
 
-    ghost others = { λ c s t more header seen other may. subst (λ h. may_be_asked h c) (sym header) may };
+    ghost others = { λ c s t more header seen other may. subst (λ h. shard_may_be_asked h c) (sym header) may };
 }

@@ -5,7 +5,7 @@ ghost use Rattle.cbdc_model.specs.Slots.{Phase, slot, InLock};
 ghost use Rattle.cbdc_model.specs.Due.{open_batch};
 ghost use Rattle.node_lock.specs.Seats.{knows, first_of, opening_of, table_of, IsSeatOf};
 ghost use Rattle.port_sets.specs.Nodes.{log_sight};
-ghost use Rattle.port_sets.specs.Seated.{seat_sight, seen_at, phase_at};
+ghost use Rattle.port_sets.specs.Seated.{seat_sight, seen_at, seat_phase};
 
 use crate::coordinators::{LogCall, LogReply, SharedLog};
 use crate::tables::Locks;
@@ -56,7 +56,7 @@ impl<'a, W: Wait, D: Disk, B: Locks> LogPort for LogSeat<'a, W, D, B> {
 
     ghost header = { λ p. (seat_sight log_sight p.seat).header };
 
-    ghost phase = { λ p lane. phase_at (knows p.seat).lane (seat_sight log_sight p.seat) lane };
+    ghost phase = { λ p lane. seat_phase (knows p.seat).lane (seat_sight log_sight p.seat) lane };
 
     ghost open_txs = { λ p lane. txs_of (knows p.seat).seen (open_batch (knows p.seat).seen lane) };
 

@@ -5,7 +5,7 @@ ghost use Rattle.cbdc_model.specs.Sights.{Sight};
 ghost use Rattle.cbdc_model.specs.Status.{status};
 ghost use Rattle.node_journal.specs.Nodes.{sight};
 ghost use Rattle.node_ports.specs.Nodes.{IsNodeHeld};
-ghost use Rattle.port_sets.specs.Giving.{Gives};
+ghost use Rattle.port_sets.specs.Giving.{NodeGives};
 ghost use Rattle.port_sets.specs.Shards.{lock_owed, finish_owed, forget_owed, good_reply, good_stamp};
 
 use cbdc_types::{
@@ -47,19 +47,19 @@ pub trait Shard {
     /// Locks a part for a batch, answers as before, or refuses and changes nothing.
     fn lock(&mut self, call: &LockCall) -> Result<Replied, NodeFault>
         requires { IsLockCall (sight self.old).header call.now }
-        ensures gives { Gives call.now.batch.lane true (lock_owed call.now) good_reply (sight self.old) (sight self.new) result }
+        ensures gives { NodeGives call.now.batch.lane true (lock_owed call.now) good_reply (sight self.old) (sight self.new) result }
         ensures goes { goes self.old self.new };
 
     /// Applies a locked batch, or answers as before. It wants neither room nor memory.
     fn finish(&mut self, call: &FinishCall) -> Result<Stamp, NodeFault>
         requires { IsFinishCall (sight self.old).header call.now }
-        ensures gives { Gives call.now.batch.lane false (finish_owed call.now) good_stamp (sight self.old) (sight self.new) result }
+        ensures gives { NodeGives call.now.batch.lane false (finish_owed call.now) good_stamp (sight self.old) (sight self.new) result }
         ensures goes { goes self.old self.new };
 
     /// Forgets an applied batch, or answers as before. It wants neither room nor memory.
     fn forget(&mut self, call: &ForgetCall) -> Result<Stamp, NodeFault>
         requires { IsForgetCall (sight self.old).header call.now }
-        ensures gives { Gives call.now.batch.lane false (forget_owed call.now) good_stamp (sight self.old) (sight self.new) result }
+        ensures gives { NodeGives call.now.batch.lane false (forget_owed call.now) good_stamp (sight self.old) (sight self.new) result }
         ensures goes { goes self.old self.new };
 
     /// Where nothing is asked of it, it stays.

@@ -16,14 +16,14 @@ use Rattle.run_laws.specs.Flights.{MayCome}
 use Rattle.run_laws.proofs.Flights.{flush_law}
 use Rattle.ledger_runs.specs.Flying.{AllMayCome}
 use Rattle.rack_ledgers.specs.Racked.{OfTold}
-use Rattle.rack_laws.specs.Shown.{node_count, AreLeft, OpenTo}
+use Rattle.rack_laws.specs.Shown.{node_count, AreImagesLeft, OpenTo}
 
 bodies_more : (r : Record) (J : List Record) → bodies_of (reverse J) ++ body_of r ∷ [] ≡ bodies_of (reverse (r ∷ J))
 bodies_more r J = sym (ap (λ rs. map body_of rs) (reverse_onto J r []) ∙ map-append body_of (reverse J) (r ∷ []))
 
 module _ {D : Type 0} (device : Ghosts D) (held : ℕ → Option D) (K : Shape) (mint : List Output) (submissions : List FullTx) (J : ℕ → List Record) (flights : ℕ → Option Record)
     (may : AllMayCome K mint submissions J flights) (keeps : (n : ℕ) → n < node_count K → OfTold (held n) (λ d. (c : List ℕ) → device.images d c → OpensToEither (reverse (J n)) (flights n) c))
-    (contents : ℕ → List ℕ) (left : AreLeft device held K contents) where
+    (contents : ℕ → List ℕ) (left : AreImagesLeft device held K contents) where
   -- the journal that a node's image opens to: it is that of the node, or stands before what may come next there
   record Left (n : ℕ) : Type 0 where
     now : List Record

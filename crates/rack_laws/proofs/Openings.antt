@@ -19,7 +19,7 @@ use Rattle.rack_ledgers.specs.Asked.{asked_of}
 use Rattle.rack_ledgers.specs.Places.{IsOpening}
 use Rattle.rack_ledgers.specs.Racked.{OfTold}
 use Rattle.rack_ledgers.specs.Refused.{IsNodeJournal}
-use Rattle.rack_ledgers.specs.Ledgers.{IsNodeAt, IsRefused, HasOtherMint, LacksLog, LacksShard, IsUnopenedBy}
+use Rattle.rack_ledgers.specs.Ledgers.{IsNodeAt, IsNodeRefused, HasOtherMint, LacksLog, LacksShard, IsUnopenedBy}
 use Rattle.rack_laws.specs.Shown.{node_count}
 use Rattle.rack_laws.specs.Ready.{limit_at, ShowsKept, HasKeptRoom, NoneRises}
 use Rattle.rack_laws.specs.Openings.{NodeOpensLaw}
@@ -82,7 +82,7 @@ module _ {D : Type 0} (device : Ghosts D) (held : ℕ → Option D) (before now 
   module _ (rooms : HasKeptRoom K E (λ n. limit_at device (held n))) (none : NoneRises K before now) where
     -- a node of the ledger is refused for memory alone
     refused_none : (Is : Header → Type 0) (ledger : Option Header) (n : ℕ) (answer : Answer) → n < node_count K → Is (H n) → H n ≡ asked_of n ledger (H n)
-        → IsRefused device held before now Is ledger n answer → answer ≡ answers.Memory
+        → IsNodeRefused device held before now Is ledger n answer → answer ≡ answers.Memory
     refused_none Is ledger n answer inside of asked refused =
         let s = ready.shown n inside in
         let room : used_of (E n) + kept_room K (E n) ≤ device.limit s.0 = subst (λ (o : Option D). used_of (E n) + kept_room K (E n) ≤ limit_at device o) s.1 (rooms n inside) in
@@ -116,7 +116,7 @@ module _ {D : Type 0} (device : Ghosts D) (held : ℕ → Option D) (before now 
         refused_none IsShardHeader (Some lacks.header) (lacks.header.shape.coordinators + length lacks.shards) answer (omega (arith, low, device.count)) (omega (arith, device.count), omega (arith, device.count, low))
         (same_asked lacks.header (lacks.header.shape.coordinators + length lacks.shards) lead.0 lead.1) lacks.refused
 
-    unled_none : (answer : Answer) → IsRefused device held before now IsCoord None 0 answer → answer ≡ answers.Memory
+    unled_none : (answer : Answer) → IsNodeRefused device held before now IsCoord None 0 answer → answer ≡ answers.Memory
     unled_none answer refused = let limits = ready.limits in refused_none IsCoord None 0 answer first_node (omega (arith, limits.some_coordinator)) refl refused
 
     -- whichever mint was asked for, where it is this one, or none

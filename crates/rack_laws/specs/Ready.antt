@@ -32,7 +32,7 @@ NoneRises K before now = (n : ℕ) → n < node_count K → Rose (before n) (now
 
 -- the disks show a kept ledger, have room and stamps for every record that is still to come of these files, of which these submissions are sound, and
 -- none of its nodes' counts of faults rises
-pub record IsReady {D : Type 0} (device : Ghosts D) (held : ℕ → Option D) (before now : ℕ → ℕ) (sound : FullTx → Bool) (files : List (List FullTx)) : Type 0 where
+pub record IsRackReady {D : Type 0} (device : Ghosts D) (held : ℕ → Option D) (before now : ℕ → ℕ) (sound : FullTx → Bool) (files : List (List FullTx)) : Type 0 where
   pub shape : Shape
   pub mint : List Output
   pub submissions : List FullTx

@@ -40,8 +40,8 @@ abbrev pub HoldsEach : {D : Type 0} → Ghosts D → (ℕ → Option D) → Shap
 HoldsEach device held K X = (n : ℕ) → n < node_count K → OfTold (held n) (λ d. (c : List ℕ) → device.images d c → OpensTo (reverse (X n)) c)
 
 -- one image of each node's disk that is told: what a crash may leave of them
-abbrev pub AreLeft : {D : Type 0} → Ghosts D → (ℕ → Option D) → Shape → (ℕ → List ℕ) → Type 0
-AreLeft device held K contents = (n : ℕ) → n < node_count K → OfTold (held n) (λ d. device.images d (contents n))
+abbrev pub AreImagesLeft : {D : Type 0} → Ghosts D → (ℕ → Option D) → Shape → (ℕ → List ℕ) → Type 0
+AreImagesLeft device held K contents = (n : ℕ) → n < node_count K → OfTold (held n) (λ d. device.images d (contents n))
 
 -- those open to these journals
 abbrev pub OpenTo : {D : Type 0} → (ℕ → Option D) → Shape → (ℕ → List ℕ) → (ℕ → List Record) → Type 0

@@ -15,16 +15,16 @@ use Rattle.audit.proofs.Single.{one_verdict}
 use Rattle.audit.proofs.Accounts.{account}
 use Rattle.rack_ledgers.specs.Racked.{OfTold}
 use Rattle.rack_ledgers.specs.Ledgers.{ByPlace, AreOpened}
-use Rattle.rack_ledgers.specs.Caused.{journals_of, AreMerged, IsToldHistory}
+use Rattle.rack_ledgers.specs.Caused.{listed_journals, AreMerged, IsToldHistory}
 use Rattle.rack_ledgers.proofs.OwnJournals.{each_room, each_holds}
 use Rattle.rack_ledgers.proofs.CausedTold.{log_journal, shard_journal, told_history}
 use Rattle.rack_ledgers.proofs.CausedOnce.{same_shape, same_rows}
-use Rattle.rack_ledgers.specs.Audited.{HasVerdict, IsAudited, HistoryHasRoom, HistoryIsHeld}
+use Rattle.rack_ledgers.specs.Audited.{HasAuditVerdict, IsAudited, HistoryHasRoom, HistoryIsHeld}
 use Rattle.rack_ledgers.specs.AccountLaws.{HasOneVerdict, VerdictsAccount}
 
 module _ {D : Type 0} (device : Ghosts D) (held : ℕ → Option D) (h : Header) (logs : List (NodeOf D)) (shards : List (NodeOf D))
     (are : AreOpened device held h logs shards) (mint : List Output) (minted : h.genesis ≡ genesis_id mint) (handed : List FullTx) where
-  pub is_audited : (v : Verdict) → HasVerdict h.shape (journals_of logs shards) mint handed v → IsAudited device held mint handed v
+  pub is_audited : (v : Verdict) → HasAuditVerdict h.shape (listed_journals logs shards) mint handed v → IsAudited device held mint handed v
   is_audited v has = record {
     shape = h.shape;
     rows = has.rows;
@@ -33,7 +33,7 @@ module _ {D : Type 0} (device : Ghosts D) (held : ℕ → Option D) (h : Header)
   }
 
   pub audited_room : (now : ℕ → Option D) → ByPlace (λ n l. OfTold (now n) (λ d. d ≡ l.disk)) logs → ByPlace (λ s x. OfTold (now (length logs + s)) (λ d. d ≡ x.disk)) shards
-      → (v : Verdict) → HasVerdict h.shape (journals_of logs shards) mint handed v
+      → (v : Verdict) → HasAuditVerdict h.shape (listed_journals logs shards) mint handed v
       → (was : IsAudited device held mint handed v) × HistoryHasRoom device held was.shape was.rows × HistoryIsHeld device held now was.shape (genesis_id mint) was.rows
   unfolding is_audited
   audited_room now closed_logs closed_shards v has =
@@ -48,7 +48,7 @@ module _ {D : Type 0} (device : Ghosts D) (held : ℕ → Option D) (h : Header)
 
 -- what the walk over the history says
 pub has_verdict : {E : Type 0} (K : Shape) (all js : List (List Record)) (h : List Place) (mint : List Output) (handed : List FullTx) → AreMerged js (rows_at all h) → (r : Result Verdict E)
-    → IfOk r (IsVerdict K mint handed (rows_at all h)) → IfOk r (HasVerdict K js mint handed)
+    → IfOk r (IsVerdict K mint handed (rows_at all h)) → IfOk r (HasAuditVerdict K js mint handed)
 has_verdict K all js h mint handed merged (Ok v) is = record { rows = rows_at all h; merged = merged; is = is }
 has_verdict K all js h mint handed merged (Err e) is = tt
 

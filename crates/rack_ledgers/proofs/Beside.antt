@@ -7,14 +7,14 @@ use Rattle.outside.specs.Images.{Tells}
 use Rattle.outside.specs.declared.disk.Disk.{Ghosts}
 use Rattle.cbdc_types.specs.declared.answer.Answer.{Answer}
 use Rattle.cbdc_model.specs.Records.{Header}
-use Rattle.rack_ledgers.specs.Places.{EachFrom, MayReturn, IsOutside}
-use Rattle.rack_ledgers.specs.Racked.{OfTold, IsOpened, IsReturned, IsBack, FailsFirst}
+use Rattle.rack_ledgers.specs.Places.{EachFrom, MayReturn, IsOutsideRange}
+use Rattle.rack_ledgers.specs.Racked.{OfTold, IsNodeOpened, IsReturned, IsDiskBack, FailsFirst}
 use Rattle.rack_ledgers.proofs.Each.{each_two}
 use Rattle.rack_ledgers.proofs.Range.{opening_later}
 use Rattle.rack_ledgers.proofs.Told.{back_opened, rose_not}
 use Rattle.rack_ledgers.specs.declared.slots.Slot.{Slot}
 use Rattle.rack_ledgers.specs.declared.slots.Slot.TheVariants as slots
-use Rattle.rack_ledgers.specs.Slots.{IsWaiting, nodes_in, AreOpen, AreNotRefused, IsFirstRefusal, faults_in, MayPut, HasDisk, IsDiskIn, IsTakenDisk, IsTaken, IsOpenOn, IsRefusedOn, CameOf, CameAt, OpensAt, FailsAt}
+use Rattle.rack_ledgers.specs.Slots.{IsWaitingSlot, nodes_in, AreNodesOpen, AreNotRefused, IsFirstNodeRefusal, faults_in, MayPut, HasDisk, IsDiskIn, IsTakenDisk, IsTakenSlot, IsOpenOn, IsRefusedOn, SlotCameOf, CameAt, OpensAt, FailsAt}
 
 -- what each place was says what it is
 pub each_came : {S : Type 0} (Goes : S → S → Type 0) (P Q : ℕ → S → Type 0) → ((n : ℕ) (s t : S) → Goes s t → P n s → Q n t) → (first : ℕ) (olds news : List S) → length news ≡ length olds
@@ -31,7 +31,7 @@ each_append P first [] ys front behind = subst (λ (k : ℕ). EachFrom P k ys) (
 each_append P first (x ∷ xs) ys front behind = (front.0, each_append P (suc first) xs ys front.1 (subst (λ (k : ℕ). EachFrom P k ys) (omega arith) behind))
 
 -- a place outside a range is outside a shorter one
-pub outside_less : (first end stop n : ℕ) → end ≤ stop → IsOutside first stop n → IsOutside first end n
+pub outside_less : (first end stop n : ℕ) → end ≤ stop → IsOutsideRange first stop n → IsOutsideRange first end n
 outside_less first end stop n le (inl below) = inl below
 outside_less first end stop n le (inr above) = inr (omega (arith, le, above))
 
@@ -41,7 +41,7 @@ each_both P Q first [] one other = tt
 each_both P Q first (x ∷ xs) one other = ((one.0, other.0), each_both P Q (suc first) xs one.1 other.1)
 
 -- as many nodes as places
-pub count_of : {D N : Type 0} (xs : List (Slot D N)) → AreOpen xs → length (nodes_in xs) ≡ length xs
+pub count_of : {D N : Type 0} (xs : List (Slot D N)) → AreNodesOpen xs → length (nodes_in xs) ≡ length xs
 count_of [] are = refl
 count_of (slots.Opened x ∷ xs) are = let e = count_of xs are in omega (arith, e)
 count_of (slots.Waiting m x ∷ xs) are = absurd are
@@ -49,9 +49,9 @@ count_of (slots.Refused x e ∷ xs) are = absurd are
 count_of (slots.Gone ∷ xs) are = absurd are
 
 -- the disks that were taken wait
-pub all_wait : {D N : Type 0} (device : Ghosts D) (held : ℕ → Option D) (before : ℕ → ℕ) (first : ℕ) (xs : List (Slot D N)) → EachFrom (IsTaken device held before) first xs → All IsWaiting xs
-all_wait device held before first [] taken = All-nil IsWaiting
-all_wait device held before first (slots.Waiting n d ∷ xs) taken = All-cons IsWaiting (slots.Waiting n d) xs tt (all_wait device held before (suc first) xs taken.1)
+pub all_wait : {D N : Type 0} (device : Ghosts D) (held : ℕ → Option D) (before : ℕ → ℕ) (first : ℕ) (xs : List (Slot D N)) → EachFrom (IsTakenSlot device held before) first xs → All IsWaitingSlot xs
+all_wait device held before first [] taken = All-nil IsWaitingSlot
+all_wait device held before first (slots.Waiting n d ∷ xs) taken = All-cons IsWaitingSlot (slots.Waiting n d) xs tt (all_wait device held before (suc first) xs taken.1)
 all_wait device held before first (slots.Opened x ∷ xs) taken = absurd taken.0
 all_wait device held before first (slots.Refused d e ∷ xs) taken = absurd taken.0
 all_wait device held before first (slots.Gone ∷ xs) taken = absurd taken.0
@@ -83,7 +83,7 @@ module _ {D N : Type 0} (device : Ghosts D) (disk_of : N → D) where
   may_still could can n slots.Gone keeps may = may
 
   -- so may the disks of the nodes
-  pub each_out : (can_put : ℕ → ℕ → Type 0) (first : ℕ) (xs : List (Slot D N)) → AreOpen xs → EachFrom (MayPut device disk_of can_put) first xs → EachFrom (MayReturn (λ y. device.count (disk_of y)) can_put) first (nodes_in xs)
+  pub each_out : (can_put : ℕ → ℕ → Type 0) (first : ℕ) (xs : List (Slot D N)) → AreNodesOpen xs → EachFrom (MayPut device disk_of can_put) first xs → EachFrom (MayReturn (λ y. device.count (disk_of y)) can_put) first (nodes_in xs)
   each_out can_put first [] are may = tt
   each_out can_put first (slots.Opened x ∷ xs) are may = (may.0, each_out can_put (suc first) xs are may.1)
   each_out can_put first (slots.Waiting m x ∷ xs) are may = absurd are
@@ -92,7 +92,7 @@ module _ {D N : Type 0} (device : Ghosts D) (disk_of : N → D) where
 
 module _ {D N : Type 0} (device : Ghosts D) (disk_of : N → D) (opens : N → List ℕ → Type 0) (fits : ℕ → Option Header → N → Type 0) (refusals : Answer → Type 0) (refused : ℕ → Option Header → ℕ → List ℕ → Answer → Type 0) (h : Header) where
   abbrev Came : Slot D N → Slot D N → Type 0
-  Came = CameOf device disk_of opens fits refusals refused h
+  Came = SlotCameOf device disk_of opens fits refusals refused h
 
   abbrev Opens : (ℕ → Option D) → (ℕ → ℕ) → ℕ → N → Type 0
   Opens = OpensAt device disk_of opens fits refusals refused h
@@ -104,7 +104,7 @@ module _ {D N : Type 0} (device : Ghosts D) (disk_of : N → D) (opens : N → L
   At = CameAt device disk_of opens fits refusals refused h
 
   -- of a disk that was taken
-  pub came_at : (held : ℕ → Option D) (before : ℕ → ℕ) (n : ℕ) (s t : Slot D N) → Came s t → IsTaken device held before n s → At held before n t
+  pub came_at : (held : ℕ → Option D) (before : ℕ → ℕ) (n : ℕ) (s t : Slot D N) → Came s t → IsTakenSlot device held before n s → At held before n t
   came_at held before n (slots.Waiting m d) t came taken = record { disk = d; taken = taken.1; came = subst (λ (k : ℕ). Came (slots.Waiting k d) t) taken.0 came }
   came_at held before n (slots.Opened x) t came taken = absurd taken
   came_at held before n (slots.Refused d e) t came taken = absurd taken
@@ -122,7 +122,7 @@ module _ {D N : Type 0} (device : Ghosts D) (disk_of : N → D) (opens : N → L
   -- a node that was opened, and one that was refused
   opens_at : (held : ℕ → Option D) (before : ℕ → ℕ) (n : ℕ) (x : N) (d : D) → IsTakenDisk device held before n d → IsOpenOn device disk_of opens fits refusals refused h n d x → Opens held before n x
   opens_at held before n x d taken is =
-      ((is.asked, le_trans taken.counted is.since), λ was told. subst (λ (y : D). IsOpened device disk_of opens y x) (taken.told was told) is.opened)
+      ((is.asked, le_trans taken.counted is.since), λ was told. subst (λ (y : D). IsNodeOpened device disk_of opens y x) (taken.told was told) is.opened)
 
   fails_at : (held : ℕ → Option D) (before now : ℕ → ℕ) (n : ℕ) (e : Answer) (was is : D) → IsTakenDisk device held before n was → IsRefusedOn device disk_of opens fits refusals refused h n was is e → device.count is ≤ now n → Fails held before now n e
   fails_at held before now n e was is taken why le = (
@@ -132,7 +132,7 @@ module _ {D N : Type 0} (device : Ghosts D) (disk_of : N → D) (opens : N → L
 
   -- its disk is back
   back_at : (held new : ℕ → Option D) (before now : ℕ → ℕ) (n : ℕ) (s : Slot D N) → At held before n s → OfTold (new n) (IsDiskIn disk_of s) × (faults_in device disk_of s ≤ now n)
-      → IsBack device (before n) (now n) (held n) (new n)
+      → IsDiskBack device (before n) (now n) (held n) (new n)
   back_at held new before now n (slots.Opened x) at put = back_opened device (before n) (now n) disk_of opens (held n) (new n) x (opens_at held before n x at.disk at.taken at.came).1 put.0
   back_at held new before now n (slots.Refused is e) at put = λ was told d is_now.
       let whole : IsReturned device (before n) (now n) at.disk is = record { read = at.came.back.read; same = λ none. at.came.back.same (rose_not at.taken.counted put.1 none) } in
@@ -141,20 +141,20 @@ module _ {D N : Type 0} (device : Ghosts D) (disk_of : N → D) (opens : N → L
   back_at held new before now n slots.Gone at put = absurd at.came
 
   pub each_back : (held new : ℕ → Option D) (before now : ℕ → ℕ) (first : ℕ) (xs : List (Slot D N)) → EachFrom (At held before) first xs → EachFrom (λ n s. OfTold (new n) (IsDiskIn disk_of s)) first xs → EachFrom (λ n s. faults_in device disk_of s ≤ now n) first xs
-      → (n : ℕ) → first ≤ n → n < first + length xs → IsBack device (before n) (now n) (held n) (new n)
+      → (n : ℕ) → first ≤ n → n < first + length xs → IsDiskBack device (before n) (now n) (held n) (new n)
   each_back held new before now first xs came put counted =
-      each_two (At held before) (λ n s. OfTold (new n) (IsDiskIn disk_of s) × (faults_in device disk_of s ≤ now n)) (λ n. IsBack device (before n) (now n) (held n) (new n)) first xs
+      each_two (At held before) (λ n s. OfTold (new n) (IsDiskIn disk_of s) × (faults_in device disk_of s ≤ now n)) (λ n. IsDiskBack device (before n) (now n) (held n) (new n)) first xs
       (λ n s at is. back_at held new before now n s at is) came (each_both (λ n s. OfTold (new n) (IsDiskIn disk_of s)) (λ n s. faults_in device disk_of s ≤ now n) first xs put counted)
 
   -- none was refused: all are open
-  pub are_open : (held : ℕ → Option D) (before : ℕ → ℕ) (first : ℕ) (xs : List (Slot D N)) → EachFrom (At held before) first xs → AreNotRefused xs → AreOpen xs
+  pub are_open : (held : ℕ → Option D) (before : ℕ → ℕ) (first : ℕ) (xs : List (Slot D N)) → EachFrom (At held before) first xs → AreNotRefused xs → AreNodesOpen xs
   are_open held before first [] came none = tt
   are_open held before first (slots.Opened x ∷ xs) came none = are_open held before (suc first) xs came.1 none
   are_open held before first (slots.Refused d e ∷ xs) came none = absurd none
   are_open held before first (slots.Waiting m d ∷ xs) came none = absurd came.0.came
   are_open held before first (slots.Gone ∷ xs) came none = absurd came.0.came
 
-  pub each_open : (held : ℕ → Option D) (before : ℕ → ℕ) (first : ℕ) (xs : List (Slot D N)) → EachFrom (At held before) first xs → AreOpen xs → EachFrom (Opens held before) first (nodes_in xs)
+  pub each_open : (held : ℕ → Option D) (before : ℕ → ℕ) (first : ℕ) (xs : List (Slot D N)) → EachFrom (At held before) first xs → AreNodesOpen xs → EachFrom (Opens held before) first (nodes_in xs)
   each_open held before first [] came are = tt
   each_open held before first (slots.Opened x ∷ xs) came are = (opens_at held before first x came.0.disk came.0.taken came.0.came, each_open held before (suc first) xs came.1 are)
   each_open held before first (slots.Refused d e ∷ xs) came are = absurd are
@@ -163,7 +163,7 @@ module _ {D N : Type 0} (device : Ghosts D) (disk_of : N → D) (opens : N → L
 
   -- the first that was refused
   pub refused_first : (held : ℕ → Option D) (before now : ℕ → ℕ) (first end : ℕ) (xs : List (Slot D N)) (e : Answer) → first + length xs ≤ end → EachFrom (At held before) first xs → EachFrom (λ n s. faults_in device disk_of s ≤ now n) first xs
-      → IsFirstRefusal xs e → FailsFirst (Opens held before) (Fails held before now) first end e
+      → IsFirstNodeRefusal xs e → FailsFirst (Opens held before) (Fails held before now) first end e
   refused_first held before now first end [] e inside came counted is = absurd is
   refused_first held before now first end (slots.Opened x ∷ xs) e inside came counted is =
       let later = refused_first held before now (suc first) end xs e (omega (arith, inside)) came.1 counted.1 is in
@@ -189,7 +189,7 @@ module _ {D N : Type 0} (device : Ghosts D) (disk_of : N → D) (opens : N → L
   refused_first held before now first end (slots.Gone ∷ xs) e inside came counted is = absurd came.0.came
 
   -- the one behind those that are open
-  pub fails_behind : (held : ℕ → Option D) (before now : ℕ → ℕ) (first end : ℕ) (xs : List (Slot D N)) (e : Answer) → first + length xs < end → EachFrom (At held before) first xs → AreOpen xs
+  pub fails_behind : (held : ℕ → Option D) (before now : ℕ → ℕ) (first end : ℕ) (xs : List (Slot D N)) (e : Answer) → first + length xs < end → EachFrom (At held before) first xs → AreNodesOpen xs
       → Fails held before now (first + length xs) e → FailsFirst (Opens held before) (Fails held before now) first end e
   fails_behind held before now first end xs e inside came are why = record {
     node = first + length xs;

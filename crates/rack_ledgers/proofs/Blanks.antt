@@ -5,16 +5,16 @@ use Rattle.outside.specs.Images.{Tells}
 use Rattle.outside.specs.declared.disk.Disk.{Ghosts}
 use Rattle.cbdc_types.specs.declared.answer.Answer.{Answer}
 use Rattle.cbdc_types.specs.declared.answer.Answer.TheVariants as answers
-use Rattle.rack_ledgers.specs.Blank.{AreWhole, IsInUse, IsUnused, IsNoBlank, IsBlankRefusal}
+use Rattle.rack_ledgers.specs.Blank.{AreWholeRecords, IsInUse, IsUnused, IsNoBlank, IsBlankRefusal}
 
-module _ {B D : Type 0} (node_of : B → ℕ) (disk_of : B → D) (told : Option (List ℕ)) (d : D) (node records : ℕ) (whole : (c : List ℕ) → told ≡ Some c → AreWhole records c) where
+module _ {B D : Type 0} (node_of : B → ℕ) (disk_of : B → D) (told : Option (List ℕ)) (d : D) (node records : ℕ) (whole : (c : List ℕ) → told ≡ Some c → AreWholeRecords records c) where
   pub blank_opens : (r : Result B (D × Answer)) → MatchResult r (λ b. (disk_of b ≡ d) × (node_of b ≡ node)) (λ e. (e.0 ≡ d) × (e.1 ≡ answers.NotEmpty node))
-      → ((c : List ℕ) → AreWhole records c → MatchResult r (λ _. IsUnused node c) (λ _. IsInUse node c)) → IfOk r (λ b. Tells told (λ c. IsUnused (node_of b) c))
+      → ((c : List ℕ) → AreWholeRecords records c → MatchResult r (λ _. IsUnused node c) (λ _. IsInUse node c)) → IfOk r (λ b. Tells told (λ c. IsUnused (node_of b) c))
   blank_opens (Ok b) is unused = λ c told_is. subst (λ (n : ℕ). IsUnused n c) (sym is.1) (unused c (whole c told_is))
   blank_opens (Err e) is unused = search rules
 
   pub blank_refused : (r : Result B (D × Answer)) → MatchResult r (λ b. (disk_of b ≡ d) × (node_of b ≡ node)) (λ e. (e.0 ≡ d) × (e.1 ≡ answers.NotEmpty node))
-      → ((c : List ℕ) → AreWhole records c → MatchResult r (λ _. IsUnused node c) (λ _. IsInUse node c)) → IfErr r (λ e. Tells told (λ c. IsNoBlank node c e.1))
+      → ((c : List ℕ) → AreWholeRecords records c → MatchResult r (λ _. IsUnused node c) (λ _. IsInUse node c)) → IfErr r (λ e. Tells told (λ c. IsNoBlank node c e.1))
   blank_refused (Ok b) is unused = search rules
   blank_refused (Err e) is unused = λ c told_is. subst (λ (a : Answer). IsNoBlank node c a) (sym is.1) (refl, unused c (whole c told_is))
 

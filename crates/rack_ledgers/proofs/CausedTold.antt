@@ -6,11 +6,11 @@ use Rattle.outside.specs.declared.disk.Disk.{Ghosts}
 use Rattle.cbdc_model.specs.Records.{Header, Record, Row, journal}
 use Rattle.node_journal.specs.Nodes.{NodeOf}
 use Rattle.rack_ledgers.specs.Ledgers.{AreOpened}
-use Rattle.rack_ledgers.specs.Caused.{journals_of, AreMerged, AreCaused, IsToldHistory, IsCausedLedger}
+use Rattle.rack_ledgers.specs.Caused.{listed_journals, AreMerged, AreCaused, IsToldHistory, IsCausedLedger}
 use Rattle.rack_ledgers.proofs.OwnJournals.{each_own, each_opens}
 use Rattle.rack_ledgers.proofs.Lists.{front_item, back_item, map_item, map_past}
 
-module _ {D : Type 0} (logs : List (NodeOf D)) (shards : List (NodeOf D)) (rows : List Row) (merged : AreMerged (journals_of logs shards) rows) where
+module _ {D : Type 0} (logs : List (NodeOf D)) (shards : List (NodeOf D)) (rows : List Row) (merged : AreMerged (listed_journals logs shards) rows) where
   abbrev shard_journals : List (List Record)
   shard_journals = map (λ (s : NodeOf D). reverse s.journal) shards
 
@@ -34,7 +34,7 @@ module _ {D : Type 0} (logs : List (NodeOf D)) (shards : List (NodeOf D)) (rows 
       ∙ ap reverse (back_item (λ (x : NodeOf D). reverse x.journal) shard_journals [] logs n k place ∙ map_past (λ (x : NodeOf D). reverse x.journal) [] shards k (omega (arith, past, place)))
 
 module _ {D : Type 0} (device : Ghosts D) (held : ℕ → Option D) (h : Header) (logs : List (NodeOf D)) (shards : List (NodeOf D))
-    (are : AreOpened device held h logs shards) (rows : List Row) (merged : AreMerged (journals_of logs shards) rows) where
+    (are : AreOpened device held h logs shards) (rows : List Row) (merged : AreMerged (listed_journals logs shards) rows) where
   -- the rows are the history of the ledger that the disks told
   pub told_history : IsToldHistory device held h.shape h.genesis rows
   told_history = record {
@@ -47,7 +47,7 @@ module _ {D : Type 0} (device : Ghosts D) (held : ℕ → Option D) (h : Header)
 
 module _ {D : Type 0} (device : Ghosts D) (held : ℕ → Option D) (h : Header) (logs : List (NodeOf D)) (shards : List (NodeOf D)) where
   -- opened nodes whose history is caused are a ledger that the disks told
-  pub caused_ledger : AreOpened device held h logs shards → AreCaused h.shape (journals_of logs shards) → IsCausedLedger device held
+  pub caused_ledger : AreOpened device held h logs shards → AreCaused h.shape (listed_journals logs shards) → IsCausedLedger device held
   caused_ledger are is = record {
     shape = h.shape;
     genesis = h.genesis;

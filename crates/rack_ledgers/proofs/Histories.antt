@@ -12,25 +12,25 @@ use Rattle.audit.specs.Rows.{read, journal_in, rows_at, newest_first, Rises}
 use Rattle.audit.specs.Walks.{AllCaused, IsFirstUncaused}
 use Rattle.node_journal.specs.Nodes.{NodeOf}
 use Rattle.rack_ledgers.specs.Ledgers.{ByPlace}
-use Rattle.rack_ledgers.specs.Caused.{journals_of, AreMerged, AreCaused, HasUncaused}
+use Rattle.rack_ledgers.specs.Caused.{listed_journals, AreMerged, AreCaused, HasUncaused}
 use Rattle.rack_ledgers.proofs.Rising.{each_rises, lent_rise}
 
 module _ {D : Type 0} (logs : List (NodeOf D)) (shards : List (NodeOf D)) where
   -- all that is lent
   pub lent_all : (start mid all slice : List (Bor (List Record))) (lent_logs : List (NodeOf D)) (lent_shards : List (NodeOf D)) → start ≡ [] → lent_logs ≡ logs → lent_shards ≡ shards
-      → read mid ≡ read start ++ map (λ l. reverse l.journal) lent_logs → read all ≡ read mid ++ map (λ s. reverse s.journal) lent_shards → slice ≡ all → read slice ≡ journals_of logs shards
+      → read mid ≡ read start ++ map (λ l. reverse l.journal) lent_logs → read all ≡ read mid ++ map (λ s. reverse s.journal) lent_shards → slice ≡ all → read slice ≡ listed_journals logs shards
   lent_all start mid all slice lent_logs lent_shards none are_logs are_shards first second same =
       ap read same ∙ second
       ∙ ap (λ (l : List (List Record)). l ++ map (λ (s : NodeOf D). reverse s.journal) lent_shards) (first ∙ ap (λ (l : List (Bor (List Record))). read l ++ map (λ (x : NodeOf D). reverse x.journal) lent_logs) none ∙ ap (map (λ (x : NodeOf D). reverse x.journal)) are_logs)
       ∙ ap (λ (l : List (NodeOf D)). map (λ (x : NodeOf D). reverse x.journal) logs ++ map (λ (s : NodeOf D). reverse s.journal) l) are_shards
 
-  pub lent_count : (slice : List (Bor (List Record))) → read slice ≡ journals_of logs shards → length slice ≡ length logs + length shards
+  pub lent_count : (slice : List (Bor (List Record))) → read slice ≡ listed_journals logs shards → length slice ≡ length logs + length shards
   lent_count slice same =
       sym (length-map slice (λ (j : Bor (List Record)). j.now)) ∙ ap length same ∙ length-append (map (λ (l : NodeOf D). reverse l.journal) logs) (map (λ (s : NodeOf D). reverse s.journal) shards)
       ∙ ap (λ (k : ℕ). k + length (map (λ (s : NodeOf D). reverse s.journal) shards)) (length-map logs (λ (l : NodeOf D). reverse l.journal))
       ∙ ap (λ (k : ℕ). length logs + k) (length-map shards (λ (s : NodeOf D). reverse s.journal))
 
-  pub all_rise : ByPlace (λ n l. IsJournal l.header l.journal) logs → ByPlace (λ n s. IsJournal s.header s.journal) shards → All Rises (journals_of logs shards)
+  pub all_rise : ByPlace (λ n l. IsJournal l.header l.journal) logs → ByPlace (λ n s. IsJournal s.header s.journal) shards → All Rises (listed_journals logs shards)
   all_rise logs_are shards_are =
       lent_rise (λ (l : NodeOf D). l.header) (λ (l : NodeOf D). l.journal) logs (map (λ (s : NodeOf D). reverse s.journal) shards) logs_are
       (subst (All Rises) (append-nil (map (λ (s : NodeOf D). reverse s.journal) shards)) (lent_rise (λ (s : NodeOf D). s.header) (λ (s : NodeOf D). s.journal) shards [] shards_are (All-nil Rises)))

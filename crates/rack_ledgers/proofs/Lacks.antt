@@ -13,14 +13,14 @@ use Rattle.rack_ledgers.specs.Places.{EachFrom, IsOpening}
 use Rattle.rack_ledgers.specs.Racked.{OfTold, FailsFirst}
 use Rattle.rack_ledgers.specs.Refused.{IsNoNode, IsNodeRefusal}
 use Rattle.rack_ledgers.proofs.Range.{opening_later}
-use Rattle.rack_ledgers.specs.Ledgers.{ByPlace, IsNodeAt, IsRefused, IsMintOf, IsOtherMint, LacksLog, LacksShard, IsUnopenedBy}
+use Rattle.rack_ledgers.specs.Ledgers.{ByPlace, IsNodeAt, IsNodeRefused, IsMintOf, IsOtherMint, LacksLog, LacksShard, IsUnopenedBy}
 use Rattle.rack_ledgers.proofs.Opened.{OpensNode, led_whole, nodes_at}
 
 -- want of memory may always be
 pub memory_refused : {D : Type 0} (device : Ghosts D) (held : ℕ → Option D) (before now : ℕ → ℕ) (Is : Header → Type 0) (ledger : Option Header) (place : ℕ) (e : Answer)
-    → e ≡ answers.Memory → IsRefused device held before now Is ledger place e
+    → e ≡ answers.Memory → IsNodeRefused device held before now Is ledger place e
 memory_refused device held before now Is ledger place e is =
-    subst (λ (a : Answer). IsRefused device held before now Is ledger place a) (sym is) (record { kind = tt; fault = tt; cause = λ was told c reads. tt })
+    subst (λ (a : Answer). IsNodeRefused device held before now Is ledger place a) (sym is) (record { kind = tt; fault = tt; cause = λ was told c reads. tt })
 
 other_mint_kind : (id : Option Digest) (h : Header) (e : Answer) → IsOtherMint id h e → IsNodeRefusal e
 other_mint_kind None h e is = absurd is
@@ -38,9 +38,9 @@ module _ {D : Type 0} (device : Ghosts D) where
   pub refused_later : (held mid : ℕ → Option D) (before between now after : ℕ → ℕ) (Is : Header → Type 0) (ledger : Option Header) (node place : ℕ) (e : Answer) → node ≡ place
       → mid node ≡ held node → before node ≤ between node → now node ≤ after node
       → (IsNodeRefusal e × IsOpening node (between node) (now node) e) × OfTold (mid node) (λ was. Tells (device.content was) (λ c. IsNoNode Is node ledger (device.limit was) c e))
-      → IsRefused device held before after Is ledger place e
+      → IsNodeRefused device held before after Is ledger place e
   refused_later held mid before between now after Is ledger node place e same kept later longer fails =
-      subst (λ (k : ℕ). IsRefused device held before after Is ledger k e) same
+      subst (λ (k : ℕ). IsNodeRefused device held before after Is ledger k e) same
       (record {
         kind = fails.0.0;
         fault = opening_later node (before node) (between node) (now node) (after node) e later longer fails.0.1;

@@ -2,10 +2,10 @@
 use Rattle.std.proofs.Common.{◌≢◌, ◌≤◌, ◌<◌, ℕ, arith, ⊎_elim}
 use Rattle.cbdc_types.specs.declared.answer.Answer.{Answer}
 use Rattle.cbdc_types.specs.declared.answer.Answer.TheVariants as answers
-use Rattle.rack_ledgers.specs.Places.{IsOutside, IsOpening}
+use Rattle.rack_ledgers.specs.Places.{IsOutsideRange, IsOpening}
 
 -- a place outside is none inside
-pub not_outside : {first end n m : ℕ} → IsOutside first end n → first ≤ m → m < end → n ≢ m
+pub not_outside : {first end n m : ℕ} → IsOutsideRange first end n → first ≤ m → m < end → n ≢ m
 not_outside outside ge lt same = ⊎_elim (λ below. absurd (omega arith)) (λ above. absurd (omega arith)) outside
 
 -- a fault's cause stands for a longer stretch of time

@@ -22,10 +22,10 @@ use Rattle.std.specs.Prelude.{IsTrue, ◌↔◌}
 use Rattle.std.proofs.lemmas.Bool.{false≢true}
 use Rattle.rack_ledgers.specs.Places.{IsOpening}
 use Rattle.rack_ledgers.specs.Asked.{asked_of}
-use Rattle.rack_ledgers.specs.Refused.{IsNodeJournal, IsNoNode, told_of}
+use Rattle.rack_ledgers.specs.Refused.{IsNodeJournal, IsNoNode, refusal_answer}
 
 -- a refusal is told as one of that node
-pub told_opening : (node before now : ℕ) (f : NodeOpenFault) → (f ≡ faults.DiskFault → Rose before now) → IsOpening node before now (told_of node f)
+pub told_opening : (node before now : ℕ) (f : NodeOpenFault) → (f ≡ faults.DiskFault → Rose before now) → IsOpening node before now (refusal_answer node f)
 told_opening node before now faults.DiskFault rose = (refl, rose refl)
 told_opening node before now faults.NotReady rose = refl
 told_opening node before now faults.OtherKind rose = refl
@@ -39,7 +39,7 @@ of_any Is h J bytes is = record { opens = is.opens; limits = is.limits; journal 
 
 module _ (Is : Header → Type 0) (node : ℕ) (ledger : Option Header) (limit : ℕ) (bytes : List ℕ) (Mine : Header → Type 0) where
   -- why a disk is no node of one kind, but for its kind, is why it is no node that is asked for
-  pub node_refused : (IsOther : Record → Type 0) (f : NodeOpenFault) → f ≢ faults.OtherKind → IsNoNodeOf Mine IsOther limit bytes f → IsNoNode Is node ledger limit bytes (told_of node f)
+  pub node_refused : (IsOther : Record → Type 0) (f : NodeOpenFault) → f ≢ faults.OtherKind → IsNoNodeOf Mine IsOther limit bytes f → IsNoNode Is node ledger limit bytes (refusal_answer node f)
   node_refused IsOther faults.DiskFault other is = refl
   node_refused IsOther faults.NotReady other is = (refl, is)
   node_refused IsOther faults.OtherKind other is = absurd (other refl)

@@ -14,14 +14,14 @@ use Rattle.coord_log.specs.Opening.{IsCoord}
 use Rattle.shard_node.specs.Opening.{IsShardHeader}
 use Rattle.rack_ledgers.specs.Asked.{asked_of}
 use Rattle.rack_ledgers.specs.Refused.{IsNodeJournal, IsNoNode}
-use Rattle.rack_ledgers.specs.Ledgers.{ByPlace, IsNodeAt, IsRefused, IsMintOf, HasOtherMint, LacksLog, LacksShard, IsUnopenedBy}
+use Rattle.rack_ledgers.specs.Ledgers.{ByPlace, IsNodeAt, IsNodeRefused, IsMintOf, HasOtherMint, LacksLog, LacksShard, IsUnopenedBy}
 use Rattle.rack_ledgers.proofs.Once.{opens_once_law}
 use Rattle.rack_ledgers.proofs.Fronts.{has_first, whole_fronts, whole_or_cut}
-use Rattle.rack_ledgers.specs.RefusalLaws.{AllTell, TellLedger, EachOpens, AllHaveRoom, IsOfBytes, IsOfRoom}
+use Rattle.rack_ledgers.specs.RefusalLaws.{AllTell, TellLedger, EachOpens, AllHaveRoom, IsAnswerOfBytes, IsOfRoom}
 
 -- a disk that holds the journal of the node that is asked for, with the room that this needs, is not refused for its bytes
 node_stands : (h : Header) (J : List Record) (Is : Header → Type 0) (ledger : Option Header) (limit : ℕ) (bytes : List ℕ) (a : Answer) → IsNodeJournal h J bytes → asked_of h.node ledger h ≡ h → Is h
-    → IsOfBytes a → (IsOfRoom a → used_of J + kept_room h.shape J ≤ limit) → IsNoNode Is h.node ledger limit bytes a → ⊥
+    → IsAnswerOfBytes a → (IsOfRoom a → used_of J + kept_room h.shape J ≤ limit) → IsNoNode Is h.node ledger limit bytes a → ⊥
 node_stands h J Is ledger limit bytes (answers.NotReady n) node asked is told room refused =
     refused.1 (has_first h J node.opens.rest bytes (whole_fronts h J bytes node.limits node.journal node.opens))
 node_stands h J Is ledger limit bytes (answers.Damaged n at) node asked is told room refused =
@@ -40,9 +40,9 @@ node_stands h J Is ledger limit bytes a node asked is told room refused = absurd
 
 module _ {D : Type 0} (device : Ghosts D) (held : ℕ → Option D) (before now : ℕ → ℕ) (K : Shape) (g : Digest) (J : ℕ → List Record)
     (tell : TellLedger device held K g J) where
-  module _ (a : Answer) (told : IsOfBytes a) (room : IsOfRoom a → AllHaveRoom device held K J) where
+  module _ (a : Answer) (told : IsAnswerOfBytes a) (room : IsOfRoom a → AllHaveRoom device held K J) where
     none_at : (n : ℕ) (Is : Header → Type 0) (ledger : Option Header) → n < K.coordinators + K.shards → asked_of n ledger (header_of K g n) ≡ header_of K g n → Is (header_of K g n)
-        → IsRefused device held before now Is ledger n a → ⊥
+        → IsNodeRefused device held before now Is ledger n a → ⊥
     none_at n Is ledger low asked is refused =
         let t = tell.each n low in
         node_stands (header_of K g n) (J n) Is ledger (device.limit t.0) t.2.0 a t.2.2 asked is told (λ full. room full n low t.0 t.1) (refused.cause t.0 t.1 t.2.0 t.2.1)

@@ -10,7 +10,7 @@ use Rattle.gate_journal.specs.Rows.{filling, row, rows, IsShut}
 use Rattle.gate_journal.proofs.Once.{tail_is, row_once, shut_is_no_row}
 use Rattle.record_log.specs.Held.{bodies_of, HasRow, HasNoRecord, CutsOff, OpensTo, MayHold, IsOpen}
 use Rattle.record_log.proofs.LogSizes.{first_small}
-use Rattle.rack_ledgers.specs.Blank.{HasFirst, HasSecond, AreWhole}
+use Rattle.rack_ledgers.specs.Blank.{HasFirst, HasSecond, AreWholeRecords}
 
 -- a body is that of one first record at most
 pub one_first : (q r : Record) → IsFirst q → IsFirst r → body_of q ≡ body_of r → q ≡ r
@@ -42,7 +42,7 @@ second_has_first bytes has = record {
   has = has.is.0;
 }
 
-pub none_whole : (bytes : List ℕ) → HasNoRecord bytes → AreWhole 0 bytes
+pub none_whole : (bytes : List ℕ) → HasNoRecord bytes → AreWholeRecords 0 bytes
 none_whole bytes none = record {
   first = (λ has. absurd (none has), λ le. absurd (omega (arith, le)));
   second = (λ has. absurd (none (second_has_first bytes has)), λ le. absurd (omega (arith, le)));
@@ -87,7 +87,7 @@ module _ (h : Header) (rest bytes : List ℕ) (some : 1 ≤ length rest) (none :
         };
       }
 
-  pub so_many_whole : (records : List Record) → MayHold h records → bytes ≡ rows (bodies_of records) ++ rest → AreWhole (length records) bytes
+  pub so_many_whole : (records : List Record) → MayHold h records → bytes ≡ rows (bodies_of records) ++ rest → AreWholeRecords (length records) bytes
   so_many_whole [] may parts = absurd may
   so_many_whole (r ∷ []) may parts = record {
     first = (λ has. omega arith, λ le. first_of r [] may parts);
@@ -110,10 +110,10 @@ open_len [] is = absurd is
 open_len (x ∷ rest) is = omega arith
 
 -- a journal that opens has as many whole records as it has
-pub opened_whole : (h : Header) (records : List Record) (bytes : List ℕ) → MayHold h records → OpensTo records bytes → AreWhole (length records) bytes
+pub opened_whole : (h : Header) (records : List Record) (bytes : List ℕ) → MayHold h records → OpensTo records bytes → AreWholeRecords (length records) bytes
 opened_whole h records bytes may opens =
     so_many_whole h opens.rest bytes (shut_len opens.rest opens.shut) (shut_has_no_row (IsInGrammar h) opens.rest opens.shut) records may opens.parts
 
 -- one that is cut off has those before the cut
-pub cut_whole : (h : Header) (records : List Record) (at : ℕ) (bytes : List ℕ) → MayHold h records → CutsOff (IsInGrammar h) records at bytes → AreWhole (length records) bytes
+pub cut_whole : (h : Header) (records : List Record) (at : ℕ) (bytes : List ℕ) → MayHold h records → CutsOff (IsInGrammar h) records at bytes → AreWholeRecords (length records) bytes
 cut_whole h records at bytes may cut = so_many_whole h cut.rest bytes (open_len cut.rest cut.opened) cut.none records may cut.parts

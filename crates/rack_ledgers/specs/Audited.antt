@@ -17,7 +17,7 @@ use Rattle.audit.specs.Journals.{BeginAs}
 use Rattle.audit.specs.Accounts.{EachSpends, IsAccounted}
 
 -- of the history of these journals an audit has this verdict
-pub record HasVerdict (K : Shape) (all : List (List Record)) (mint : List Output) (handed : List FullTx) (verdict : Verdict) : Type 0 where
+pub record HasAuditVerdict (K : Shape) (all : List (List Record)) (mint : List Output) (handed : List FullTx) (verdict : Verdict) : Type 0 where
   pub rows : List Row
   pub merged : AreMerged all rows
   pub is : IsVerdict K mint handed rows verdict

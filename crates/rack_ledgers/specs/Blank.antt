@@ -33,7 +33,7 @@ abbrev pub IsUnused : ℕ → List ℕ → Type 0
 IsUnused node bytes = IsInUse node bytes → ⊥
 
 -- so many records are whole, as far as two
-pub record AreWhole (count : ℕ) (bytes : List ℕ) : Type 0 where
+pub record AreWholeRecords (count : ℕ) (bytes : List ℕ) : Type 0 where
   pub first : HasFirst bytes ↔ (1 ≤ count)
   pub second : HasSecond bytes ↔ (2 ≤ count)
 

@@ -17,8 +17,8 @@ use Rattle.rack_ledgers.specs.Refused.{IsNodeJournal}
 use Rattle.rack_ledgers.specs.Ledgers.{AreOpened, IsUnopened}
 
 -- the journals of all nodes, the coordinators first, each with its oldest record first
-abbrev pub journals_of : {D : Type 0} → List (NodeOf D) → List (NodeOf D) → List (List Record)
-journals_of logs shards = map (λ l. reverse l.journal) logs ++ map (λ s. reverse s.journal) shards
+abbrev pub listed_journals : {D : Type 0} → List (NodeOf D) → List (NodeOf D) → List (List Record)
+listed_journals logs shards = map (λ l. reverse l.journal) logs ++ map (λ s. reverse s.journal) shards
 
 -- the rows, the oldest first, are the history of these journals
 pub record AreMerged (all : List (List Record)) (rows : List Row) : Type 0 where
@@ -62,7 +62,7 @@ pub record IsUnsound {D : Type 0} (device : Ghosts D) (held : ℕ → Option D) 
   pub opened : AreOpened device held header logs shards
   pub place : ℕ
   pub told : answer ≡ answers.Unsound place Cause
-  pub uncaused : HasUncaused header.shape (journals_of logs shards) place
+  pub uncaused : HasUncaused header.shape (listed_journals logs shards) place
 
 -- why the nodes of a ledger are not handed out: one can't be opened, or a record is not caused, or memory ran out
 abbrev pub IsUnresumed : {D : Type 0} → Ghosts D → (ℕ → Option D) → (ℕ → ℕ) → (ℕ → ℕ) → Answer → Type 0

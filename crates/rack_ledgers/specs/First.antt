@@ -14,8 +14,8 @@ abbrev pub IsBegun : (List ℕ → Type 0) → Record → List ℕ → Type 0
 IsBegun before first bytes = IsEmptied before bytes ⊎ OpensTo (first ∷ []) bytes
 
 -- no first record, or what a crash might have left before, or a journal of this body alone
-abbrev pub IsStored : (List ℕ → Type 0) → List ℕ → List ℕ → Type 0
-IsStored before body bytes = IsEmptied before bytes ⊎ Opens (body ∷ []) bytes
+abbrev pub IsFirstStored : (List ℕ → Type 0) → List ℕ → List ℕ → Type 0
+IsFirstStored before body bytes = IsEmptied before bytes ⊎ Opens (body ∷ []) bytes
 
 -- a body that has room is not stored: the disk failed, or memory ran out
 abbrev pub IsUnstored : ℕ → ℕ → ℕ → Answer → Type 0

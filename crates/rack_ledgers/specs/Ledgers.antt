@@ -15,7 +15,7 @@ use Rattle.coord_log.specs.Opening.{IsCoord}
 use Rattle.shard_node.specs.Opening.{IsShardHeader}
 use Rattle.rack_ledgers.specs.Fresh.{StandsNode}
 use Rattle.rack_ledgers.specs.Places.{IsOpening}
-use Rattle.rack_ledgers.specs.Racked.{OfTold, IsOpened}
+use Rattle.rack_ledgers.specs.Racked.{OfTold, IsNodeOpened}
 use Rattle.rack_ledgers.specs.Refused.{IsNoNode, IsNodeRefusal}
 
 -- each item has the property at its place
@@ -32,7 +32,7 @@ pub record IsNodeAt {D : Type 0} (device : Ghosts D) (held : ℕ → Option D) (
   pub faults : n.faults ≡ device.count n.disk
   pub capacity : n.capacity ≡ device.limit n.disk
   pub room : used_of n.journal + kept_room n.header.shape n.journal ≤ n.capacity
-  pub opened : OfTold (held place) (λ was. IsOpened device (λ x. x.disk) (StandsNode device Is) was n)
+  pub opened : OfTold (held place) (λ was. IsNodeOpened device (λ x. x.disk) (StandsNode device Is) was n)
 
 -- these are all coordinators and all shards of the ledger with this header, which is that of node 0
 pub record AreOpened {D : Type 0} (device : Ghosts D) (held : ℕ → Option D) (h : Header) (logs : List (NodeOf D)) (shards : List (NodeOf D)) : Type 0 where
@@ -44,7 +44,7 @@ pub record AreOpened {D : Type 0} (device : Ghosts D) (held : ℕ → Option D) 
   pub shards_at : ByPlace (λ s x. IsNodeAt device held IsShardHeader h (h.shape.coordinators + s) x) shards
 
 -- why the disk that was told of this node is no such node, and a fault of the disk has its cause
-pub record IsRefused {D : Type 0} (device : Ghosts D) (held : ℕ → Option D) (before now : ℕ → ℕ) (Is : Header → Type 0) (ledger : Option Header) (place : ℕ) (answer : Answer) : Type 0 where
+pub record IsNodeRefused {D : Type 0} (device : Ghosts D) (held : ℕ → Option D) (before now : ℕ → ℕ) (Is : Header → Type 0) (ledger : Option Header) (place : ℕ) (answer : Answer) : Type 0 where
   pub kind : IsNodeRefusal answer
   pub fault : IsOpening place (before place) (now place) answer
   pub cause : OfTold (held place) (λ was. Tells (device.content was) (λ c. IsNoNode Is place ledger (device.limit was) c answer))
@@ -77,7 +77,7 @@ pub record LacksLog {D : Type 0} (device : Ghosts D) (held : ℕ → Option D) (
   pub some : 1 ≤ length logs
   pub inside : length logs < header.shape.coordinators
   pub logs_at : ByPlace (IsNodeAt device held IsCoord header) logs
-  pub refused : IsRefused device held before now IsCoord (Some header) (length logs) answer
+  pub refused : IsNodeRefused device held before now IsCoord (Some header) (length logs) answer
 
 -- all coordinators and the shards before this one are opened, of a ledger that the mint with this id began, and why this one is not
 pub record LacksShard {D : Type 0} (device : Ghosts D) (held : ℕ → Option D) (before now : ℕ → ℕ) (id : Option Digest) (answer : Answer) : Type 0 where
@@ -91,13 +91,13 @@ pub record LacksShard {D : Type 0} (device : Ghosts D) (held : ℕ → Option D)
   pub inside : length shards < header.shape.shards
   pub logs_at : ByPlace (IsNodeAt device held IsCoord header) logs
   pub shards_at : ByPlace (λ s x. IsNodeAt device held IsShardHeader header (header.shape.coordinators + s) x) shards
-  pub refused : IsRefused device held before now IsShardHeader (Some header) (header.shape.coordinators + length shards) answer
+  pub refused : IsNodeRefused device held before now IsShardHeader (Some header) (header.shape.coordinators + length shards) answer
 
 -- why the first coordinator that can't be opened is not: node 0 by its own header, or another mint began its ledger; each other one by node
 -- 0's header, which this mint began
 abbrev pub IsUnledBy : {D : Type 0} → Ghosts D → (ℕ → Option D) → (ℕ → ℕ) → (ℕ → ℕ) → Option Digest → Answer → Type 0
 IsUnledBy device held before now id answer =
-    IsRefused device held before now IsCoord None 0 answer
+    IsNodeRefused device held before now IsCoord None 0 answer
     ⊎ (HasOtherMint device held id answer ⊎ LacksLog device held before now id answer)
 
 -- why the first node that can't be opened is not, where the mint with this id, if one is given, should have begun the ledger

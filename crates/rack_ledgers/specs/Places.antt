@@ -14,8 +14,8 @@ abbrev pub MayReturn : {N : Type 0} → (N → ℕ) → (ℕ → ℕ → Type 0)
 MayReturn faults can_put place node = (k : ℕ) → faults node ≤ k → can_put place k
 
 -- outside a range of places
-abbrev pub IsOutside : ℕ → ℕ → ℕ → Type 0
-IsOutside first end n = (n < first) ⊎ (end ≤ n)
+abbrev pub IsOutsideRange : ℕ → ℕ → ℕ → Type 0
+IsOutsideRange first end n = (n < first) ⊎ (end ≤ n)
 
 -- what may be answered where a node can't be opened: it names that node, and a disk's fault has its cause
 abbrev pub IsOpening : ℕ → ℕ → ℕ → Answer → Type 0

@@ -13,13 +13,13 @@ abbrev pub OfTold : {D : Type 0} → Option D → (D → Type 0) → Type 0
 OfTold held P = (d : _) → held ≡ Some d → P d
 
 -- a crash leaves nothing of the disk that it could not leave of the other, and there is as much room
-pub record IsRead {D : Type 0} (device : Ghosts D) (was now : D) : Type 0 where
+pub record IsOnlyRead {D : Type 0} (device : Ghosts D) (was now : D) : Type 0 where
   pub leaves : NoMore (device.images was) (device.images now)
   pub room : device.limit now ≡ device.limit was
 
 -- the disk that was told is back unchanged as the one that is told: it was only read, and reads as it did
 pub record IsSameDisk {D : Type 0} (device : Ghosts D) (was is : D) : Type 0 where
-  pub read : IsRead device was is
+  pub read : IsOnlyRead device was is
   pub same : device.content is ≡ device.content was
 
 -- of the disks that were told and are
@@ -32,16 +32,16 @@ AreUnchanged device old new = (n : ℕ) → IsUnchanged device (old n) (new n)
 
 -- the disk was only read, and unless its count of faults rose it reads as it did
 pub record IsReturned {D : Type 0} (device : Ghosts D) (before now : ℕ) (was is : D) : Type 0 where
-  pub read : IsRead device was is
+  pub read : IsOnlyRead device was is
   pub same : (Rose before now → ⊥) → device.content is ≡ device.content was
 
 -- the disk that was told is back as the one that is told
-abbrev pub IsBack : {D : Type 0} → Ghosts D → ℕ → ℕ → Option D → Option D → Type 0
-IsBack device before now old new = OfTold old (λ was. OfTold new (λ is. IsReturned device before now was is))
+abbrev pub IsDiskBack : {D : Type 0} → Ghosts D → ℕ → ℕ → Option D → Option D → Type 0
+IsDiskBack device before now old new = OfTold old (λ was. OfTold new (λ is. IsReturned device before now was is))
 
 -- the same of each place
 abbrev pub AreBack : {D : Type 0} → Ghosts D → (ℕ → ℕ) → (ℕ → ℕ) → (ℕ → Option D) → (ℕ → Option D) → Type 0
-AreBack device before now old new = (n : ℕ) → IsBack device (before n) (now n) (old n) (new n)
+AreBack device before now old new = (n : ℕ) → IsDiskBack device (before n) (now n) (old n) (new n)
 
 -- the disk that is told has as much room as the one that was told
 abbrev pub SameRoom : {D : Type 0} → Ghosts D → Option D → Option D → Type 0
@@ -52,13 +52,13 @@ abbrev pub StillHolds : {D : Type 0} → Ghosts D → Option D → Option D → 
 StillHolds device old new h J = OfTold old (λ was. IsSome (device.content was) → OfTold new (λ is. (c : List ℕ) → device.images is c → IsNodeJournal h J c))
 
 -- the node stands for what was told of its disk, which was only read and reads as it did
-pub record IsOpened {D N : Type 0} (device : Ghosts D) (disk_of : N → D) (opens : N → List ℕ → Type 0) (was : D) (node : N) : Type 0 where
+pub record IsNodeOpened {D N : Type 0} (device : Ghosts D) (disk_of : N → D) (opens : N → List ℕ → Type 0) (was : D) (node : N) : Type 0 where
   pub stands : Tells (device.content was) (opens node)
   pub same : device.content (disk_of node) ≡ device.content was
-  pub read : IsRead device was (disk_of node)
+  pub read : IsOnlyRead device was (disk_of node)
 
 -- a list goes on behind another one, and each item there has the property at its place
-pub record GoesOn {N : Type 0} (P : ℕ → N → Type 0) (first : ℕ) (front whole : List N) : Type 0 where
+pub record ListGoesOn {N : Type 0} (P : ℕ → N → Type 0) (first : ℕ) (front whole : List N) : Type 0 where
   pub more : List N
   pub parts : whole ≡ front ++ more
   pub each : EachFrom P (first + length front) more

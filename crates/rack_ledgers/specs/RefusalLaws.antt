@@ -32,12 +32,12 @@ abbrev pub AllHaveRoom : {D : Type 0} → Ghosts D → (ℕ → Option D) → Sh
 AllHaveRoom device held K J = (n : ℕ) → n < K.coordinators + K.shards → OfTold (held n) (λ d. used_of (J n) + kept_room K (J n) ≤ device.limit d)
 
 -- a node is refused for what its disk's bytes say, or for its disk's room, and not because the disk failed or memory ran out
-abbrev pub IsOfBytes : Answer → Type 0
-IsOfBytes (answers.NotReady n) = Unit {0}
-IsOfBytes (answers.Damaged n at) = Unit {0}
-IsOfBytes (answers.Full n used need capacity) = Unit {0}
-IsOfBytes (answers.Foreign n kept asked) = Unit {0}
-IsOfBytes other = ⊥
+abbrev pub IsAnswerOfBytes : Answer → Type 0
+IsAnswerOfBytes (answers.NotReady n) = Unit {0}
+IsAnswerOfBytes (answers.Damaged n at) = Unit {0}
+IsAnswerOfBytes (answers.Full n used need capacity) = Unit {0}
+IsAnswerOfBytes (answers.Foreign n kept asked) = Unit {0}
+IsAnswerOfBytes other = ⊥
 
 -- it is refused for its disk's room
 abbrev pub IsOfRoom : Answer → Type 0

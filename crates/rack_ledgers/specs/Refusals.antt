@@ -9,21 +9,21 @@ use Rattle.shard_node.specs.Opening.{IsShardJournal, IsNoShard}
 use Rattle.coord_log.specs.Opening.{IsCoordJournal, IsNoCoord}
 
 -- a refusal that the bytes and the capacity alone decide: not a fault of the disk, nor that memory ran out
-abbrev pub IsOfBytes : NodeOpenFault → Type 0
-IsOfBytes DiskFault = ⊥
-IsOfBytes Memory = ⊥
-IsOfBytes NotReady = Unit {0}
-IsOfBytes OtherKind = Unit {0}
-IsOfBytes (Damaged at) = Unit {0}
-IsOfBytes (Full used need capacity) = Unit {0}
+abbrev pub IsRefusalOfBytes : NodeOpenFault → Type 0
+IsRefusalOfBytes DiskFault = ⊥
+IsRefusalOfBytes Memory = ⊥
+IsRefusalOfBytes NotReady = Unit {0}
+IsRefusalOfBytes OtherKind = Unit {0}
+IsRefusalOfBytes (Damaged at) = Unit {0}
+IsRefusalOfBytes (Full used need capacity) = Unit {0}
 
 -- two such refusals of a disk are one, where this tells for what a disk with such room and bytes is refused
 abbrev pub OneRefusal : (ℕ → List ℕ → NodeOpenFault → Type 0) → Type 0
-OneRefusal IsNo = (limit : ℕ) (bytes : List ℕ) (e f : NodeOpenFault) → IsOfBytes e → IsOfBytes f → IsNo limit bytes e → IsNo limit bytes f → e ≡ f
+OneRefusal IsNo = (limit : ℕ) (bytes : List ℕ) (e f : NodeOpenFault) → IsRefusalOfBytes e → IsRefusalOfBytes f → IsNo limit bytes e → IsNo limit bytes f → e ≡ f
 
 -- a disk whose bytes are such a journal, with the room that it needs, has none
 abbrev pub NoRefusal : (Header → List Record → List ℕ → Type 0) → (ℕ → List ℕ → NodeOpenFault → Type 0) → Type 0
-NoRefusal Is IsNo = (h : Header) (J : List Record) (limit : ℕ) (bytes : List ℕ) (e : NodeOpenFault) → IsOfBytes e → Is h J bytes
+NoRefusal Is IsNo = (h : Header) (J : List Record) (limit : ℕ) (bytes : List ℕ) (e : NodeOpenFault) → IsRefusalOfBytes e → Is h J bytes
     → used_of J + kept_room h.shape J ≤ limit → IsNo limit bytes e → ⊥
 
 -- of shards and of coordinators

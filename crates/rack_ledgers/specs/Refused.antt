@@ -48,10 +48,10 @@ IsNodeRefusal answers.Memory = Unit {0}
 IsNodeRefusal other = ⊥
 
 -- a refusal to open a node, as it is answered
-abbrev pub told_of : ℕ → NodeOpenFault → Answer
-told_of node faults.DiskFault = answers.DiskFault node
-told_of node faults.NotReady = answers.NotReady node
-told_of node faults.OtherKind = answers.NotReady node
-told_of node (faults.Damaged at) = answers.Damaged node at
-told_of node (faults.Full used need capacity) = answers.Full node used need capacity
-told_of node faults.Memory = answers.Memory
+abbrev pub refusal_answer : ℕ → NodeOpenFault → Answer
+refusal_answer node faults.DiskFault = answers.DiskFault node
+refusal_answer node faults.NotReady = answers.NotReady node
+refusal_answer node faults.OtherKind = answers.NotReady node
+refusal_answer node (faults.Damaged at) = answers.Damaged node at
+refusal_answer node (faults.Full used need capacity) = answers.Full node used need capacity
+refusal_answer node faults.Memory = answers.Memory

@@ -6,45 +6,45 @@ use Rattle.cbdc_types.specs.declared.answer.Answer.{Answer}
 use Rattle.cbdc_types.specs.declared.answer.Answer.TheVariants as answers
 use Rattle.cbdc_model.specs.Records.{Header}
 use Rattle.rack_ledgers.specs.Places.{EachFrom, MayReturn, IsOpening}
-use Rattle.rack_ledgers.specs.Racked.{OfTold, IsOpened, IsReturned}
+use Rattle.rack_ledgers.specs.Racked.{OfTold, IsNodeOpened, IsReturned}
 use Rattle.rack_ledgers.specs.declared.slots.Slot.{Slot}
 use Rattle.rack_ledgers.specs.declared.slots.Slot.TheVariants as slots
 
 -- its disk waits
-abbrev pub IsWaiting : {D N : Type 0} → Slot D N → Type 0
-IsWaiting (slots.Waiting n d) = Unit {0}
-IsWaiting other = ⊥
+abbrev pub IsWaitingSlot : {D N : Type 0} → Slot D N → Type 0
+IsWaitingSlot (slots.Waiting n d) = Unit {0}
+IsWaitingSlot other = ⊥
 
--- `nodes_in`, `AreOpen`: the nodes that are open; and whether all are
+-- `nodes_in`, `AreNodesOpen`: the nodes that are open; and whether all are
 abbrev pub nodes_in : {D N : Type 0} → List (Slot D N) → List N
 nodes_in [] = []
 nodes_in (slots.Opened x ∷ more) = x ∷ nodes_in more
 nodes_in (other ∷ more) = nodes_in more
 
-abbrev pub AreOpen : {D N : Type 0} → List (Slot D N) → Type 0
-AreOpen [] = Unit {0}
-AreOpen (slots.Opened x ∷ more) = AreOpen more
-AreOpen (other ∷ more) = ⊥
+abbrev pub AreNodesOpen : {D N : Type 0} → List (Slot D N) → Type 0
+AreNodesOpen [] = Unit {0}
+AreNodesOpen (slots.Opened x ∷ more) = AreNodesOpen more
+AreNodesOpen (other ∷ more) = ⊥
 
--- `AreNotRefused`, `IsFirstRefusal`: none was refused; and else why the first was
+-- `AreNotRefused`, `IsFirstNodeRefusal`: none was refused; and else why the first was
 abbrev pub AreNotRefused : {D N : Type 0} → List (Slot D N) → Type 0
 AreNotRefused [] = Unit {0}
 AreNotRefused (slots.Refused d e ∷ more) = ⊥
 AreNotRefused (other ∷ more) = AreNotRefused more
 
-abbrev pub IsFirstRefusal : {D N : Type 0} → List (Slot D N) → Answer → Type 0
-IsFirstRefusal [] answer = ⊥
-IsFirstRefusal (slots.Refused d e ∷ more) answer = answer ≡ e
-IsFirstRefusal (other ∷ more) answer = IsFirstRefusal more answer
+abbrev pub IsFirstNodeRefusal : {D N : Type 0} → List (Slot D N) → Answer → Type 0
+IsFirstNodeRefusal [] answer = ⊥
+IsFirstNodeRefusal (slots.Refused d e ∷ more) answer = answer ≡ e
+IsFirstNodeRefusal (other ∷ more) answer = IsFirstNodeRefusal more answer
 
 -- why the first of so many nodes from a place on was not opened: it was refused, or else its disk could not be taken
-abbrev pub IsFirstFault : {D N : Type 0} → ℕ → ℕ → List (Slot D N) → Answer → Type 0
-IsFirstFault first count taken answer =
-    IsFirstRefusal taken answer
+abbrev pub IsFirstNodeFault : {D N : Type 0} → ℕ → ℕ → List (Slot D N) → Answer → Type 0
+IsFirstNodeFault first count taken answer =
+    IsFirstNodeRefusal taken answer
     ⊎ (AreNotRefused taken × (length taken < count) × (answer ≡ answers.DiskFault (first + length taken)))
 
 -- so many items from a place on came behind others
-pub record IsGrown {N : Type 0} (P : ℕ → N → Type 0) (first count : ℕ) (front whole : List N) : Type 0 where
+pub record IsListGrown {N : Type 0} (P : ℕ → N → Type 0) (first count : ℕ) (front whole : List N) : Type 0 where
   pub more : List N
   pub parts : whole ≡ front ++ more
   pub all : length more ≡ count
@@ -83,16 +83,16 @@ pub record IsTakenDisk {D : Type 0} (device : Ghosts D) (held : ℕ → Option D
   pub counted : before n ≤ device.count disk
 
 -- it waits to be opened as the node of its place
-abbrev pub IsTaken : {D N : Type 0} → Ghosts D → (ℕ → Option D) → (ℕ → ℕ) → ℕ → Slot D N → Type 0
-IsTaken device held before n (slots.Waiting m d) = (m ≡ n) × IsTakenDisk device held before n d
-IsTaken device held before n other = ⊥
+abbrev pub IsTakenSlot : {D N : Type 0} → Ghosts D → (ℕ → Option D) → (ℕ → ℕ) → ℕ → Slot D N → Type 0
+IsTakenSlot device held before n (slots.Waiting m d) = (m ≡ n) × IsTakenDisk device held before n d
+IsTakenSlot device held before n other = ⊥
 
 module _ {D N : Type 0} (device : Ghosts D) (disk_of : N → D) (opens : N → List ℕ → Type 0) (fits : ℕ → Option Header → N → Type 0) (refusals : Answer → Type 0) (refused : ℕ → Option Header → ℕ → List ℕ → Answer → Type 0) (h : Header) where
   -- this disk was opened as this node of the ledger with this header
   pub record IsOpenOn (n : ℕ) (was : D) (node : N) : Type 0 where
     pub asked : fits n (Some h) node
     pub since : device.count was ≤ device.count (disk_of node)
-    pub opened : IsOpened device disk_of opens was node
+    pub opened : IsNodeOpened device disk_of opens was node
 
   -- this disk was refused as this node, and it came back so
   pub record IsRefusedOn (n : ℕ) (was is : D) (answer : Answer) : Type 0 where
@@ -103,20 +103,20 @@ module _ {D N : Type 0} (device : Ghosts D) (disk_of : N → D) (opens : N → L
     pub back : IsReturned device (device.count was) (device.count is) was is
 
   -- what comes of a disk that waits
-  abbrev pub CameOf : Slot D N → Slot D N → Type 0
-  CameOf (slots.Waiting n was) (slots.Opened x) = IsOpenOn n was x
-  CameOf (slots.Waiting n was) (slots.Refused is e) = IsRefusedOn n was is e
-  CameOf old new = ⊥
+  abbrev pub SlotCameOf : Slot D N → Slot D N → Type 0
+  SlotCameOf (slots.Waiting n was) (slots.Opened x) = IsOpenOn n was x
+  SlotCameOf (slots.Waiting n was) (slots.Refused is e) = IsRefusedOn n was is e
+  SlotCameOf old new = ⊥
 
   -- what came of the disk of a place
   pub record CameAt (held : ℕ → Option D) (before : ℕ → ℕ) (n : ℕ) (slot : Slot D N) : Type 0 where
     pub disk : D
     pub taken : IsTakenDisk device held before n disk
-    pub came : CameOf (slots.Waiting n disk) slot
+    pub came : SlotCameOf (slots.Waiting n disk) slot
 
   -- `OpensAt`, `FailsAt`: what is known of the node of a place that is open; and of an answer where it can't be opened
   abbrev pub OpensAt : (ℕ → Option D) → (ℕ → ℕ) → ℕ → N → Type 0
-  OpensAt held before n x = (fits n (Some h) x × (before n ≤ device.count (disk_of x))) × OfTold (held n) (λ was. IsOpened device disk_of opens was x)
+  OpensAt held before n x = (fits n (Some h) x × (before n ≤ device.count (disk_of x))) × OfTold (held n) (λ was. IsNodeOpened device disk_of opens was x)
 
   abbrev pub FailsAt : (ℕ → Option D) → (ℕ → ℕ) → (ℕ → ℕ) → ℕ → Answer → Type 0
   FailsAt held before now n e = (refusals e × IsOpening n (before n) (now n) e) × OfTold (held n) (λ was. Tells (device.content was) (λ c. refused n (Some h) (device.limit was) c e))

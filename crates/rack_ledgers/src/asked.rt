@@ -1,8 +1,8 @@
 // The header that is asked of a node, and what a refusal to open it answers.
 ghost use Rattle.std.specs.Prelude.{◌≡◌, ◌↔◌, IsTrue};
 ghost use Rattle.std.specs.Option.{option_copied};
-ghost use Rattle.rack_ledgers.specs.Asked.{asked_of as header_asked, IsAsked};
-ghost use Rattle.rack_ledgers.specs.Refused.{told_of, IsNodeRefusal};
+ghost use Rattle.rack_ledgers.specs.Asked.{asked_of as header_asked, IsHeaderAsked};
+ghost use Rattle.rack_ledgers.specs.Refused.{refusal_answer, IsNodeRefusal};
 
 use cbdc_types::{Answer, Header, NodeId, NodeOpenFault};
 
@@ -26,7 +26,7 @@ fn asked_of(kept: &Header, node: NodeId, ledger: Option<&Header>) -> Header
 
 /// Whether a node has the header that it should have.
 pub(crate) fn is_asked(kept: &Header, node: NodeId, ledger: Option<&Header>) -> bool
-    ensures { IsTrue result ↔ IsAsked node (option_copied ledger.entry) kept.now }
+    ensures { IsTrue result ↔ IsHeaderAsked node (option_copied ledger.entry) kept.now }
 {
     *kept == asked_of(kept, node, ledger)
 }
@@ -44,7 +44,7 @@ pub(crate) fn foreign(kept: &Header, node: NodeId, ledger: Option<&Header>) -> A
 
 /// What a refusal to open a node answers. A disk that is of neither kind has no whole first record.
 pub(crate) fn answer_of(node: NodeId, fault: NodeOpenFault) -> Answer
-    ensures told { result ≡ told_of node fault }
+    ensures told { result ≡ refusal_answer node fault }
     ensures kind { IsNodeRefusal result }
 {
     match fault {

@@ -5,8 +5,8 @@ ghost use Rattle.cbdc_model.specs.Coins.{genesis_id as mint_id};
 ghost use Rattle.rack_ledgers.specs.Racked.{AreUnchanged, AreBack};
 ghost use Rattle.rack_ledgers.specs.Refused.{IsNodeRefusal};
 ghost use Rattle.rack_ledgers.specs.Ledgers.{ByPlace, IsUnopenedBy};
-ghost use Rattle.rack_ledgers.specs.Caused.{journals_of};
-ghost use Rattle.rack_ledgers.specs.Audited.{HasVerdict, IsAudited, HistoryHasRoom, HistoryIsHeld, Accounts};
+ghost use Rattle.rack_ledgers.specs.Caused.{listed_journals};
+ghost use Rattle.rack_ledgers.specs.Audited.{HasAuditVerdict, IsAudited, HistoryHasRoom, HistoryIsHeld, Accounts};
 
 use crate::{Nodes, close_nodes, lend_logs, lend_shards, open_minted};
 use audit::{Verdict, audit, merge};
@@ -27,7 +27,7 @@ fn verdict_of<W: Threads + Sync, D: Disk>(
     requires few { length nodes.now.logs.items + length nodes.now.shards.items < 2 ^ 32 }
     requires logs { ByPlace (λ n l. IsJournal l.header l.journal) nodes.now.logs.items }
     requires shards { ByPlace (λ n s. IsJournal s.header s.journal) nodes.now.shards.items }
-    ensures { IfOk result (HasVerdict nodes.now.header.shape (journals_of nodes.now.logs.items nodes.now.shards.items) mint.now handed.now) }
+    ensures { IfOk result (HasAuditVerdict nodes.now.header.shape (listed_journals nodes.now.logs.items nodes.now.shards.items) mint.now handed.now) }
 {
     let mut all = Vec::new(alloc);
     lend_logs(nodes.logs.as_slice(), &mut all)?;

@@ -3,7 +3,7 @@ ghost use Rattle.std.specs.Prelude.{◌≡◌, ◌≢◌, ◌≤◌, ℕ, List, 
 ghost use Rattle.outside.specs.Counts.{Rose};
 ghost use Rattle.record_log.specs.LogReading.{IsNoLog};
 ghost use Rattle.rack_ledgers.specs.Places.{IsOpening};
-ghost use Rattle.rack_ledgers.specs.Blank.{AreWhole, IsInUse, IsUnused, IsNoBlank, IsBlankRefusal};
+ghost use Rattle.rack_ledgers.specs.Blank.{AreWholeRecords, IsInUse, IsUnused, IsNoBlank, IsBlankRefusal};
 
 use crate::OnDisk;
 use cbdc_types::{Answer, Header, NodeId, NodeOpenFault};
@@ -19,7 +19,7 @@ pub struct Blank<D> {
 
 // Whether a node with so many records may be made anew.
 fn is_blank(node: NodeId, records: usize) -> bool
-    ensures { (c : List ℕ) → AreWhole records c → MatchBool result (IsUnused node c) (IsInUse node c) }
+    ensures { (c : List ℕ) → AreWholeRecords records c → MatchBool result (IsUnused node c) (IsInUse node c) }
 {
     if node.0 == 0 {
         records == 0
@@ -30,7 +30,7 @@ fn is_blank(node: NodeId, records: usize) -> bool
 
 // How many records a disk has that did not open into a journal, or why that can't be told.
 fn records_of(node: NodeId, refused: NoLog) -> Result<usize, Answer>
-    ensures whole { IfOk result (λ n. (c : List ℕ) → IsNoLog c refused → AreWhole n c) }
+    ensures whole { IfOk result (λ n. (c : List ℕ) → IsNoLog c refused → AreWholeRecords n c) }
     ensures kept { IfOk result (λ _. refused ≢ NoLog.Fault NodeOpenFault.DiskFault) }
     ensures fault { IfErr result (λ e. (before now : _) → (refused ≡ NoLog.Fault NodeOpenFault.DiskFault → Rose before now) → IsOpening node before now e) }
     ensures free { IfErr result (λ e. (c : List ℕ) → IsNoBlank node c e) }
@@ -50,7 +50,7 @@ fn records_of(node: NodeId, refused: NoLog) -> Result<usize, Answer>
 // A disk with so many records as a blank one, where it is.
 fn blank_of<D: Disk>(node: NodeId, disk: D, records: usize) -> Result<Blank<D>, (D, Answer)>
     ensures blank { MatchResult result (λ b. (b.disk ≡ disk) × (b.node ≡ node)) (λ e. (e.0 ≡ disk) × (e.1 ≡ Answer.NotEmpty node)) }
-    ensures unused { (c : List ℕ) → AreWhole records c → MatchResult result (λ _. IsUnused node c) (λ _. IsInUse node c) }
+    ensures unused { (c : List ℕ) → AreWholeRecords records c → MatchResult result (λ _. IsUnused node c) (λ _. IsInUse node c) }
 {
     if is_blank(node, records) {
         Ok(Blank { node, disk })

@@ -4,7 +4,7 @@ ghost use Rattle.cbdc_model.specs.After.{IsJournal};
 ghost use Rattle.rack_ledgers.specs.Places.{EachFrom, MayReturn};
 ghost use Rattle.rack_ledgers.specs.Racked.{AreBack};
 ghost use Rattle.rack_ledgers.specs.Ledgers.{ByPlace, AreOpened};
-ghost use Rattle.rack_ledgers.specs.Caused.{journals_of, AreCaused, HasUncaused, IsUnresumed};
+ghost use Rattle.rack_ledgers.specs.Caused.{listed_journals, AreCaused, HasUncaused, IsUnresumed};
 
 use crate::lent::{lend_logs, lend_shards};
 use crate::{Nodes, close_nodes, open_nodes};
@@ -20,8 +20,8 @@ fn first_uncaused<D: Disk>(alloc: Global, nodes: &Nodes<D>) -> Result<Option<u64
     requires logs { ByPlace (λ n l. IsJournal l.header l.journal) nodes.now.logs.items }
     requires shards { ByPlace (λ n s. IsJournal s.header s.journal) nodes.now.shards.items }
     ensures { IfOk result (λ first. MatchOption first
-        (AreCaused nodes.now.header.shape (journals_of nodes.now.logs.items nodes.now.shards.items))
-        (HasUncaused nodes.now.header.shape (journals_of nodes.now.logs.items nodes.now.shards.items))) }
+        (AreCaused nodes.now.header.shape (listed_journals nodes.now.logs.items nodes.now.shards.items))
+        (HasUncaused nodes.now.header.shape (listed_journals nodes.now.logs.items nodes.now.shards.items))) }
 {
     let mut all = Vec::new(alloc);
     lend_logs(nodes.logs.as_slice(), &mut all)?;
@@ -45,7 +45,7 @@ where
     ensures opened { IfOk result (λ l. AreOpened R.Disk.Disk (R.held rack.old) l.header l.logs.items l.shards.items) }
     ensures logs_since { IfOk result (λ l. ByPlace (λ n x. R.count rack.old n ≤ R.Disk.count x.disk) l.logs.items) }
     ensures shards_since { IfOk result (λ l. ByPlace (λ s x. R.count rack.old (l.header.shape.coordinators + s) ≤ R.Disk.count x.disk) l.shards.items) }
-    ensures caused { IfOk result (λ l. AreCaused l.header.shape (journals_of l.logs.items l.shards.items)) }
+    ensures caused { IfOk result (λ l. AreCaused l.header.shape (listed_journals l.logs.items l.shards.items)) }
 
     // Why they are not, and the disks are back.
     ensures refusal { IfErr result (IsUnresumed R.Disk.Disk (R.held rack.old) (R.count rack.old) (R.count rack.new)) }

@@ -9,7 +9,7 @@ ghost use Rattle.gate_journal.specs.Shown.{disk_of, gate_of, broken_of};
 ghost use Rattle.record_log.specs.Bodies.{body_of as spelled};
 ghost use Rattle.record_log.specs.Held.{Holds};
 ghost use Rattle.rack_ledgers.specs.Places.{IsOpening};
-ghost use Rattle.rack_ledgers.specs.First.{IsBegun, IsUnwritten, IsUnstored, IsStored, first_need};
+ghost use Rattle.rack_ledgers.specs.First.{IsBegun, IsUnwritten, IsUnstored, IsFirstStored, first_need};
 
 use cbdc_types::{Answer, Header, NodeId, Record};
 use gate_journal::{AppendFault, FormatFault, Journal};
@@ -89,7 +89,7 @@ fn write_body<D: Disk>(alloc: Global, node: NodeId, disk: D, body: &[u8]) -> Wro
     ensures fault { IfErr result.result (IsUnstored node (D.count disk) (D.count result.disk)) }
     ensures later { D.count disk ≤ D.count result.disk }
     ensures limit { D.limit result.disk ≡ D.limit disk }
-    ensures leaves { IsSome (D.content disk) → Leaves D.tells_past D.moment D.images_since D.images disk result.disk (IsStored (D.images disk) body.now) }
+    ensures leaves { IsSome (D.content disk) → Leaves D.tells_past D.moment D.images_since D.images disk result.disk (IsFirstStored (D.images disk) body.now) }
     ensures unwritten { IfErr result.result (λ e. e ≢ Answer.DiskFault node → IsSome (D.content disk) → (c : List ℕ) → D.images result.disk c → IsEmptied (D.images disk) c) }
 {
     match Journal::format(alloc, disk) {

@@ -4,7 +4,7 @@ ghost use Rattle.std.specs.Option.{option_copied};
 ghost use Rattle.cbdc_types.specs.Limits.{IsWithinLimits};
 ghost use Rattle.coord_log.specs.Opening.{IsCoord};
 ghost use Rattle.rack_ledgers.specs.Places.{EachFrom, MayReturn};
-ghost use Rattle.rack_ledgers.specs.Racked.{OfTold, IsBack, AreBack};
+ghost use Rattle.rack_ledgers.specs.Racked.{OfTold, IsDiskBack, AreBack};
 ghost use Rattle.rack_ledgers.specs.Refused.{IsNodeRefusal};
 ghost use Rattle.rack_ledgers.specs.Ledgers.{ByPlace, IsNodeAt, AreOpened, IsMintOf, IsOtherMint, IsUnledBy, IsUnopened, IsUnopenedBy};
 
@@ -48,7 +48,7 @@ fn open_lead<R: Rack>(
     ensures since { IfOk result (λ l. R.count rack.old 0 ≤ R.Disk.count l.disk) }
     ensures refusal { IfErr result (IsUnledBy R.Disk.Disk (R.held rack.old) (R.count rack.old) (R.count rack.new) (option_copied id.entry)) }
     ensures kind { IfErr result IsNodeRefusal }
-    ensures held { OnErr result (IsBack R.Disk.Disk (R.count rack.old 0) (R.count rack.new 0) (R.held rack.old 0) (R.held rack.new 0)) }
+    ensures held { OnErr result (IsDiskBack R.Disk.Disk (R.count rack.old 0) (R.count rack.new 0) (R.held rack.old 0) (R.held rack.new 0)) }
     ensures others_held { (n : ℕ) → n ≢ 0 → R.held rack.new n ≡ R.held rack.old n }
     ensures out { IfOk result (MayReturn (λ x. R.Disk.count x.disk) (R.can_put rack.new) 0) }
     ensures back { OnErr result (R.can_take rack.new 0) }

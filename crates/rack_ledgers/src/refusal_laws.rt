@@ -5,7 +5,7 @@ ghost use Rattle.cbdc_types.specs.declared.answer.Answer.{Answer as Told};
 ghost use Rattle.cbdc_model.specs.Records.{Digest, Shape, Record};
 ghost use Rattle.rack_ledgers.specs.Ledgers.{IsUnopened, IsUnopenedBy};
 ghost use Rattle.rack_ledgers.specs.Caused.{IsCausedLedger, IsUnsound};
-ghost use Rattle.rack_ledgers.specs.RefusalLaws.{AllTell, TellLedger, EachOpens, AllHaveRoom, IsOfBytes, IsOfRoom};
+ghost use Rattle.rack_ledgers.specs.RefusalLaws.{AllTell, TellLedger, EachOpens, AllHaveRoom, IsAnswerOfBytes, IsOfRoom};
 
 use outside::Rack;
 
@@ -30,11 +30,11 @@ pub fn none_uncaused_law<R: Rack>(rack: &R)
 pub fn none_refused_law<R: Rack>(rack: &R)
     // Where no mint is asked for.
     ensures opened { (K : Shape) (genesis : Digest) (J : ℕ → List Record) (before now : ℕ → ℕ) (answer : Told) → TellLedger R.Disk.Disk (R.held rack.now) K genesis J
-        → IsOfBytes answer → (IsOfRoom answer → AllHaveRoom R.Disk.Disk (R.held rack.now) K J)
+        → IsAnswerOfBytes answer → (IsOfRoom answer → AllHaveRoom R.Disk.Disk (R.held rack.now) K J)
         → IsUnopened R.Disk.Disk (R.held rack.now) before now answer → ⊥ }
     // Where the mint that is asked for began it.
     ensures minted { (K : Shape) (genesis : Digest) (J : ℕ → List Record) (before now : ℕ → ℕ) (answer : Told) → TellLedger R.Disk.Disk (R.held rack.now) K genesis J
-        → IsOfBytes answer → (IsOfRoom answer → AllHaveRoom R.Disk.Disk (R.held rack.now) K J)
+        → IsAnswerOfBytes answer → (IsOfRoom answer → AllHaveRoom R.Disk.Disk (R.held rack.now) K J)
         → IsUnopenedBy R.Disk.Disk (R.held rack.now) before now (Some genesis) answer → ⊥ }
     // Disks that are told, with their contents, tell the ledger to whose journals whatever is told of them opens.
     ensures told { (K : Shape) (genesis : Digest) (J : ℕ → List Record) → IsWithinLimits K → EachOpens R.Disk.Disk (R.held rack.now) K genesis J → AllTell R.Disk.Disk (R.held rack.now) K

@@ -1,6 +1,6 @@
 // The place of a node that is opened beside others.
 ghost use Rattle.std.specs.Prelude.{◌≡◌, None, Some, MatchOption, [], ◌∷◌};
-ghost use Rattle.rack_ledgers.specs.Slots.{IsWaiting, CameOf, HasDisk, IsDiskIn, AreNotRefused, IsFirstRefusal};
+ghost use Rattle.rack_ledgers.specs.Slots.{IsWaitingSlot, SlotCameOf, HasDisk, IsDiskIn, AreNotRefused, IsFirstNodeRefusal};
 
 use crate::OnDisk;
 use cbdc_types::{Answer, Header, NodeId};
@@ -23,7 +23,7 @@ fn come_of<D: Disk, N: OnDisk<D>>(
     ledger: &Header,
     disk: D,
 ) -> Slot<D, N>
-    ensures { CameOf D.Disk N.disk_of N.opens N.fits N.refusals N.refused ledger.now (Slot.Waiting node disk) result }
+    ensures { SlotCameOf D.Disk N.disk_of N.opens N.fits N.refusals N.refused ledger.now (Slot.Waiting node disk) result }
 {
     match N::open_disk(alloc, node, Some(ledger), disk) {
         Ok(node) => Slot::Opened(node),
@@ -34,8 +34,8 @@ fn come_of<D: Disk, N: OnDisk<D>>(
 impl<D: Disk, N: OnDisk<D>> Slot<D, N> {
     /// Opens the disk that waits.
     pub(crate) fn open(&mut self, alloc: Global, ledger: &Header)
-        requires { IsWaiting self.old }
-        ensures { CameOf D.Disk N.disk_of N.opens N.fits N.refusals N.refused ledger.now self.old self.new }
+        requires { IsWaitingSlot self.old }
+        ensures { SlotCameOf D.Disk N.disk_of N.opens N.fits N.refusals N.refused ledger.now self.old self.new }
     {
         let (node, disk) = match mem::replace(self, Slot::Gone) {
             Slot::Waiting(node, disk) => (node, disk),
@@ -62,7 +62,7 @@ impl<D: Disk, N: OnDisk<D>> Slot<D, N> {
 
     /// Why the disk is no node, if it was refused.
     pub(crate) fn refusal(&self) -> Option<Answer>
-        ensures { MatchOption result (AreNotRefused (self.now ∷ [])) (IsFirstRefusal (self.now ∷ [])) }
+        ensures { MatchOption result (AreNotRefused (self.now ∷ [])) (IsFirstNodeRefusal (self.now ∷ [])) }
     {
         match self {
             Slot::Refused(_, fault) => Some(*fault),

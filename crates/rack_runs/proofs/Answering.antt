@@ -14,12 +14,12 @@ use Rattle.lane_driver.specs.declared.fault.LaneFaultKind.TheVariants.{DiskFault
 use Rattle.node_journal.specs.Nodes.{NodeOf}
 use Rattle.rack_ledgers.specs.Racked.{OfTold, SameRoom}
 use Rattle.rack_ledgers.specs.Ledgers.{ByPlace, AreOpened}
-use Rattle.rack_ledgers.specs.Caused.{journals_of as lent_journals, AreCaused}
+use Rattle.rack_ledgers.specs.Caused.{listed_journals as lent_journals, AreCaused}
 use Rattle.rack_ledgers.proofs.CausedTold.{told_history}
 use Rattle.ledger_runs.specs.Turning.{IsLaneOf}
-use Rattle.ledger_runs.specs.Faults.{IsCauseOf, IsSomeCauseOf, IsRunCause, HaveFailed, MayHold, Nothing, RestsSince, AllRestSince}
+use Rattle.ledger_runs.specs.Faults.{IsCauseOf, IsSomeCauseOf, IsRunCause, HaveFailed, MayHoldBytes, Nothing, RestsSince, AllRestSince}
 use Rattle.ledger_runs.specs.Least.{IsLeastOpen}
-use Rattle.file_runs.specs.Ledgers.{IsLedger, journals_of, flights_of, faults_of, opened_of, capacity_of, AreChecked, AreStored, AreQuiet}
+use Rattle.file_runs.specs.Ledgers.{IsLedger, node_journals, flights_of, faults_of, opened_of, capacity_of, HaveCheckedJournals, AreStored, AreQuiet}
 use Rattle.rack_laws.specs.Shown.{OfShown, HoldsEach, HaveRoom, node_count}
 use Rattle.rack_runs.proofs.Behind.{are_quiet, is_ledger, none_fly, keeps_flights, holds_each, rooms_each, told_stored, may_hold, have_risen}
 use Rattle.rack_runs.specs.Kinds.{answer_at, answer_to, IsLaneAnswer, MayComeNext}
@@ -151,7 +151,7 @@ module _ {D : Type 0} (device : Ghosts D) (held back : ℕ → Option D) (h g : 
   abbrev History : List Row
   History = reverse caused.rows
 
-  entry : journals_of h.shape logs shards ≡ (λ n. journal n History)
+  entry : node_journals h.shape logs shards ≡ (λ n. journal n History)
   entry = λ i n. same_journals device held h logs shards are caused n i
 
   -- what is known at exit of the disks' counts since entry, and of what they may hold
@@ -164,16 +164,16 @@ module _ {D : Type 0} (device : Ghosts D) (held back : ℕ → Option D) (h g : 
   risen : (n : ℕ) → n < node_count h.shape → HaveFailed (opened_of h.shape logs shards) (faults_of h.shape now after) n → Rises n
   risen = have_risen device held h logs now shards after are g shape is seen before behind logs_since shards_since logs_counted shards_counted
 
-  may : (n c : ℕ) → n < node_count h.shape → MayHold (capacity_of h.shape logs shards) n c → Holds n c
+  may : (n c : ℕ) → n < node_count h.shape → MayHoldBytes (capacity_of h.shape logs shards) n c → Holds n c
   may n c inside is_so = may_hold device held h logs shards are n c inside is_so
 
   -- what the disks that are back have room for
-  rooms_back : HaveRoom device back h.shape (journals_of h.shape now after)
-  rooms_back = subst (λ k. HaveRoom device back k (journals_of k now after)) shape (rooms_each device back g now after is logs_back shards_back seen)
+  rooms_back : HaveRoom device back h.shape (node_journals h.shape now after)
+  rooms_back = subst (λ k. HaveRoom device back k (node_journals k now after)) shape (rooms_each device back g now after is logs_back shards_back seen)
 
   -- what was taken, and how it was left
-  pub took : HaveRoom device held h.shape (journals_of h.shape logs shards) → ((n : ℕ) → n < node_count h.shape → SameRoom device (held n) (back n)) → ((n : ℕ) → node_count h.shape ≤ n → back n ≡ held n)
-      → ((n : ℕ) → IsEnd (journals_of h.shape logs shards n) (journals_of h.shape now after n)) → AreChecked h.shape now after → AreQuiet now after → TookLedger device held back
+  pub took : HaveRoom device held h.shape (node_journals h.shape logs shards) → ((n : ℕ) → n < node_count h.shape → SameRoom device (held n) (back n)) → ((n : ℕ) → node_count h.shape ≤ n → back n ≡ held n)
+      → ((n : ℕ) → IsEnd (node_journals h.shape logs shards n) (node_journals h.shape now after n)) → HaveCheckedJournals h.shape now after → AreQuiet now after → TookLedger device held back
   took room same_room spared grows checked quiet = record {
     ledger = record {
       shape = h.shape;
@@ -183,11 +183,11 @@ module _ {D : Type 0} (device : Ghosts D) (held back : ℕ → Option D) (h g : 
       caused = caused.caused;
     };
     room = subst (λ L. HaveRoom device held h.shape L) entry room;
-    exit = journals_of h.shape now after;
-    grows = subst (λ L. (n : ℕ) → IsEnd (L n) (journals_of h.shape now after n)) entry grows;
+    exit = node_journals h.shape now after;
+    grows = subst (λ L. (n : ℕ) → IsEnd (L n) (node_journals h.shape now after n)) entry grows;
     caused = stays_caused device h g logs now shards after (is_ledger device held h logs shards are) is shape checked grows;
     disks = λ tells.
-        subst (λ k. HoldsEach device back k (journals_of k now after)) shape
+        subst (λ k. HoldsEach device back k (node_journals k now after)) shape
         (holds_each device back g now after is logs_back shards_back (stored (told_stored device held h logs shards are tells)) quiet);
     rooms = rooms_back;
     same_room = same_room;
@@ -198,22 +198,22 @@ module _ {D : Type 0} (device : Ghosts D) (held back : ℕ → Option D) (h g : 
   abbrev Flown : Type 0
   Flown = (n : ℕ) (r : Record) → flights_of h.shape now after n ≡ Some r → HaveFailed (opened_of h.shape logs shards) (faults_of h.shape now after) n
 
-  pub lane_fault : {Done : Type 0} (d : Deed Done) → ((lane : ℕ) (txs : List Compact) → d.next h.shape (journals_of h.shape logs shards) (journals_of h.shape now after) lane txs → FitsBatch h.shape txs)
-      → LeavesAll d h.shape (journals_of h.shape logs shards) (journals_of h.shape now after) (flights_of h.shape logs shards) (flights_of h.shape now after)
+  pub lane_fault : {Done : Type 0} (d : Deed Done) → ((lane : ℕ) (txs : List Compact) → d.next h.shape (node_journals h.shape logs shards) (node_journals h.shape now after) lane txs → FitsBatch h.shape txs)
+      → LeavesAll d h.shape (node_journals h.shape logs shards) (node_journals h.shape now after) (flights_of h.shape logs shards) (flights_of h.shape now after)
       (HaveFailed (opened_of h.shape logs shards) (faults_of h.shape now after)) → Flown → (a : Answer)
-      → IsLaneAnswer h.shape (d.next h.shape (journals_of h.shape logs shards) (journals_of h.shape now after)) (journals_of h.shape logs shards) (journals_of h.shape now after)
-      (HaveFailed (opened_of h.shape logs shards) (faults_of h.shape now after)) (MayHold (capacity_of h.shape logs shards)) a
-      → IsLeastAnswer (EndsWork d h.shape (journals_of h.shape logs shards) (journals_of h.shape now after)
-      (HaveFailed (opened_of h.shape logs shards) (faults_of h.shape now after)) (MayHold (capacity_of h.shape logs shards))) a
-      → HaveRoom device held h.shape (journals_of h.shape logs shards) → ((n : ℕ) → n < node_count h.shape → SameRoom device (held n) (back n)) → AreChecked h.shape now after
-      → OfShown device held (IsCutShort device back d.handed (journals_of h.shape now after)) → ((n : ℕ) → node_count h.shape ≤ n → back n ≡ held n)
+      → IsLaneAnswer h.shape (d.next h.shape (node_journals h.shape logs shards) (node_journals h.shape now after)) (node_journals h.shape logs shards) (node_journals h.shape now after)
+      (HaveFailed (opened_of h.shape logs shards) (faults_of h.shape now after)) (MayHoldBytes (capacity_of h.shape logs shards)) a
+      → IsLeastAnswer (EndsWork d h.shape (node_journals h.shape logs shards) (node_journals h.shape now after)
+      (HaveFailed (opened_of h.shape logs shards) (faults_of h.shape now after)) (MayHoldBytes (capacity_of h.shape logs shards))) a
+      → HaveRoom device held h.shape (node_journals h.shape logs shards) → ((n : ℕ) → n < node_count h.shape → SameRoom device (held n) (back n)) → HaveCheckedJournals h.shape now after
+      → OfShown device held (IsCutShort device back d.handed (node_journals h.shape now after)) → ((n : ℕ) → node_count h.shape ≤ n → back n ≡ held n)
       → IsLaneFault device held back before behind d.next (EndsWork d) (BeginsWork d) d.handed a
   lane_fault d fits leaves flown a cause least room same_room checked kept spared =
       let K : Shape = h.shape in
-      let E : ℕ → List Record = journals_of h.shape logs shards in
-      let X : ℕ → List Record = journals_of h.shape now after in
+      let E : ℕ → List Record = node_journals h.shape logs shards in
+      let X : ℕ → List Record = node_journals h.shape now after in
       let failed : ℕ → Type 0 = HaveFailed (opened_of h.shape logs shards) (faults_of h.shape now after) in
-      let holds : ℕ → ℕ → Type 0 = MayHold (capacity_of h.shape logs shards) in
+      let holds : ℕ → ℕ → Type 0 = MayHoldBytes (capacity_of h.shape logs shards) in
       record {
         ledger = record {
           shape = h.shape;
@@ -232,7 +232,7 @@ module _ {D : Type 0} (device : Ghosts D) (held back : ℕ → Option D) (h g : 
             (λ n t b txs inside there. none_before (flights_of h.shape logs shards n) (Prepare t b txs)
             (none_fly h.shape logs shards (are_quiet device held h logs shards are) n) (leaves.launches n t b txs there));
         disks = λ tells.
-            subst (λ k. KeepsFlights device back k (journals_of k now after) (flights_of k now after)) shape
+            subst (λ k. KeepsFlights device back k (node_journals k now after) (flights_of k now after)) shape
             (keeps_flights device back g now after is logs_back shards_back (stored (told_stored device held h logs shards are tells)));
         cause = subst (λ L. IsLaneAnswer K (d.next K L X) L X Rises Holds a) entry (answer_by K failed Rises holds Holds risen may (d.next K E X) E X a cause);
         may_come = subst (λ L. MayComeNext K h.genesis (d.next K L X) L X) entry

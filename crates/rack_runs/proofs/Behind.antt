@@ -20,7 +20,7 @@ use Rattle.rack_ledgers.specs.Ledgers.{ByPlace, AreOpened}
 use Rattle.rack_laws.specs.Shown.{KeepsEach, HoldsEach, HaveRoom, node_count}
 use Rattle.rack_laws.proofs.Opened.{at_place, sight_there, all_by}
 use Rattle.rack_runs.specs.Works.{IsSeen, AreSeen}
-use Rattle.file_runs.specs.Ledgers.{IsLedger, journals_of, flights_of, faults_of, opened_of, capacity_of, AreStored, AreQuiet}
+use Rattle.file_runs.specs.Ledgers.{IsLedger, node_journals, flights_of, faults_of, opened_of, capacity_of, AreStored, AreQuiet}
 
 -- nodes whose disks' counts have not fallen may be put back where those before might
 pub returns : {N : Type 0} (f : N → ℕ) (can : ℕ → ℕ → Type 0) (i : ℕ) (xs ys : List N) → length ys ≡ length xs
@@ -73,15 +73,15 @@ module _ {D X : Type 0} (f : Sight → X) (K : Shape) (logs shards : List (NodeO
       ∙ ap f (sight_there sight shards s x there))
 
 module _ {D : Type 0} (K : Shape) (logs shards : List (NodeOf D)) where
-  pub log_journal : (n : ℕ) (l : NodeOf D) → n < K.coordinators → slice_get logs n ≡ Some l → journals_of K logs shards n ≡ l.journal
+  pub log_journal : (n : ℕ) (l : NodeOf D) → n < K.coordinators → slice_get logs n ≡ Some l → node_journals K logs shards n ≡ l.journal
   log_journal = of_log (λ s. s.seen) K logs shards
 
-  pub shard_journal : (s : ℕ) (x : NodeOf D) → slice_get shards s ≡ Some x → journals_of K logs shards (K.coordinators + s) ≡ x.journal
+  pub shard_journal : (s : ℕ) (x : NodeOf D) → slice_get shards s ≡ Some x → node_journals K logs shards (K.coordinators + s) ≡ x.journal
   shard_journal = of_shard (λ s. s.seen) K logs shards
 
   -- what the ledger tells of a number is so of this node
   pub record IsThere (n : ℕ) (x : NodeOf D) : Type 0 where
-    pub journal : journals_of K logs shards n ≡ x.journal
+    pub journal : node_journals K logs shards n ≡ x.journal
     pub flight : flights_of K logs shards n ≡ x.flight
     pub faults : faults_of K logs shards n ≡ x.faults
     pub opened : opened_of K logs shards n ≡ x.opened
@@ -198,19 +198,19 @@ module _ {D : Type 0} (device : Ghosts D) where
 
     -- disks that are back keep the journals, with the record that is in flight at their nodes, or without
     pub keeps_flights : AreStored device logs shards
-        → (n : ℕ) → n < node_count h.shape → OfTold (held n) (λ d. (c : List ℕ) → device.images d c → OpensToEither (reverse (journals_of h.shape logs shards n)) (flights_of h.shape logs shards n) c)
+        → (n : ℕ) → n < node_count h.shape → OfTold (held n) (λ d. (c : List ℕ) → device.images d c → OpensToEither (reverse (node_journals h.shape logs shards n)) (flights_of h.shape logs shards n) c)
     keeps_flights stored n inside d told c image =
         let x = put_back (HoldsJournal device) stored.logs_are stored.shards_are n inside in
-        subst (λ o. OpensToEither (reverse (journals_of h.shape logs shards n)) o c) (sym x.2.flight)
+        subst (λ o. OpensToEither (reverse (node_journals h.shape logs shards n)) o c) (sym x.2.flight)
         (subst (λ J. OpensToEither (reverse J) x.0.flight c) (sym x.2.journal) (x.1.has.each c (subst (λ y. device.images y c) (x.1.back d told) image)))
 
-    pub keeps_each : AreStored device logs shards → KeepsEach device held h.shape (journals_of h.shape logs shards)
+    pub keeps_each : AreStored device logs shards → KeepsEach device held h.shape (node_journals h.shape logs shards)
     keeps_each stored n inside = (flights_of h.shape logs shards n, keeps_flights stored n inside)
 
     -- and hold nothing else, where nothing is in flight
-    pub holds_each : AreStored device logs shards → AreQuiet logs shards → HoldsEach device held h.shape (journals_of h.shape logs shards)
+    pub holds_each : AreStored device logs shards → AreQuiet logs shards → HoldsEach device held h.shape (node_journals h.shape logs shards)
     holds_each stored quiet n inside d told c image =
-        subst (λ o. OpensToEither (reverse (journals_of h.shape logs shards n)) o c) (none_fly h.shape logs shards quiet n) (keeps_flights stored n inside d told c image)
+        subst (λ o. OpensToEither (reverse (node_journals h.shape logs shards n)) o c) (none_fly h.shape logs shards quiet n) (keeps_flights stored n inside d told c image)
 
     module _ (seen : AreSeen device logs shards) where
       seen_back : (n : ℕ) → n < node_count h.shape → (x : NodeOf D) × IsPutBack held (λ x. IsSeen device x × (x.header.shape ≡ h.shape)) n x × IsThere h.shape logs shards n x
@@ -229,7 +229,7 @@ module _ {D : Type 0} (device : Ghosts D) where
           })
 
       -- disks that are back have room for what is kept for their open batches
-      pub rooms_each : HaveRoom device held h.shape (journals_of h.shape logs shards)
+      pub rooms_each : HaveRoom device held h.shape (node_journals h.shape logs shards)
       rooms_each n inside d told =
           let x = seen_back n inside in
           let s = x.1.has.0 in
@@ -239,14 +239,14 @@ module _ {D : Type 0} (device : Ghosts D) where
 
       -- and what is in flight had room
       pub fits_each : (n : ℕ) → n < node_count h.shape
-          → OfTold (held n) (λ d. IfSome (flights_of h.shape logs shards n) (λ r. used_of (journals_of h.shape logs shards n) + need_of h.shape (journals_of h.shape logs shards n) r ≤ device.limit d))
+          → OfTold (held n) (λ d. IfSome (flights_of h.shape logs shards n) (λ r. used_of (node_journals h.shape logs shards n) + need_of h.shape (node_journals h.shape logs shards n) r ≤ device.limit d))
       fits_each n inside d told =
           let x = seen_back n inside in
           let s = x.1.has.0 in
           let own : IfSome x.0.flight (λ r. used_of x.0.journal + need_of h.shape x.0.journal r ≤ x.0.capacity) =
           subst (λ k. IfSome x.0.flight (λ r. used_of x.0.journal + need_of k x.0.journal r ≤ x.0.capacity)) x.1.has.1 s.fits in
           let size : x.0.capacity ≡ device.limit d = s.capacity ∙ ap device.limit (sym (x.1.back d told)) in
-          subst (λ f. IfSome f (λ r. used_of (journals_of h.shape logs shards n) + need_of h.shape (journals_of h.shape logs shards n) r ≤ device.limit d)) (sym x.2.flight)
+          subst (λ f. IfSome f (λ r. used_of (node_journals h.shape logs shards n) + need_of h.shape (node_journals h.shape logs shards n) r ≤ device.limit d)) (sym x.2.flight)
           (subst (λ J. IfSome x.0.flight (λ r. used_of J + need_of h.shape J r ≤ device.limit d)) (sym x.2.journal)
           (subst (λ m. IfSome x.0.flight (λ r. used_of x.0.journal + need_of h.shape x.0.journal r ≤ m)) size own))
 

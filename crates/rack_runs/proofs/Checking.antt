@@ -12,9 +12,9 @@ use Rattle.node_ports.specs.Nodes.{sight_at}
 use Rattle.rack_ledgers.specs.Ledgers.{AreOpened}
 use Rattle.rack_laws.proofs.Opened.{at_place}
 use Rattle.rack_runs.proofs.Behind.{log_journal as log_seen, shard_journal as shard_seen}
-use Rattle.rack_ledgers.specs.Caused.{journals_of as lent_journals, AreCaused}
+use Rattle.rack_ledgers.specs.Caused.{listed_journals as lent_journals, AreCaused}
 use Rattle.rack_ledgers.proofs.CausedTold.{log_journal as log_told, shard_journal as shard_told, no_journal as none_told}
-use Rattle.file_runs.specs.Ledgers.{journals_of, AreChecked}
+use Rattle.file_runs.specs.Ledgers.{node_journals, HaveCheckedJournals}
 use Rattle.audit.specs.Journals.{AreJournals}
 use Rattle.audit.proofs.Begun.{begun, caused_lists}
 use Rattle.ledger_laws.proofs.Ledger.{steady_lists}
@@ -42,12 +42,12 @@ module _ {D : Type 0} (device : Ghosts D) (held : ℕ → Option D) (h : Header)
   History = reverse caused.rows
 
   -- the journals are those of the history
-  at_log : (n : ℕ) → n < h.shape.coordinators → journals_of h.shape logs shards n ≡ journal n History
+  at_log : (n : ℕ) → n < h.shape.coordinators → node_journals h.shape logs shards n ≡ journal n History
   at_log n low =
       let l = at_place logs n (omega (arith, low, are.coordinators)) in
       log_seen h.shape logs shards n l.0 low l.1 ∙ log_told logs shards caused.rows caused.merged n l.0 l.1
 
-  at_shard : (s : ℕ) → s < h.shape.shards → journals_of h.shape logs shards (h.shape.coordinators + s) ≡ journal (h.shape.coordinators + s) History
+  at_shard : (s : ℕ) → s < h.shape.shards → node_journals h.shape logs shards (h.shape.coordinators + s) ≡ journal (h.shape.coordinators + s) History
   at_shard s low =
       let x = at_place shards s (omega (arith, low, are.shards_are)) in
       shard_seen h.shape logs shards s x.0 x.1 ∙ shard_told logs shards caused.rows caused.merged s x.0 x.1 ∙ ap (λ k. journal (k + s) History) are.coordinators
@@ -55,7 +55,7 @@ module _ {D : Type 0} (device : Ghosts D) (held : ℕ → Option D) (h : Header)
   no_node : (n : ℕ) → h.shape.coordinators + h.shape.shards ≤ n → journal n History ≡ []
   no_node n past = none_told logs shards caused.rows caused.merged n (omega (arith, past, are.coordinators, are.shards_are))
 
-  past_all : (n : ℕ) → h.shape.coordinators + h.shape.shards ≤ n → journals_of h.shape logs shards n ≡ journal n History
+  past_all : (n : ℕ) → h.shape.coordinators + h.shape.shards ≤ n → node_journals h.shape logs shards n ≡ journal n History
   past_all n past =
       ap (λ b. if b then (sight_at sight logs n).seen else (sight_at sight shards (n - h.shape.coordinators)).seen) (high past)
       ∙ beyond_all sight shards (n - h.shape.coordinators) (omega (arith, past, are.shards_are)) ∙ sym (no_node n past)
@@ -63,13 +63,13 @@ module _ {D : Type 0} (device : Ghosts D) (held : ℕ → Option D) (h : Header)
       high : h.shape.coordinators + h.shape.shards ≤ n → nat_lt n h.shape.coordinators ≡ false
       high p = grind (arith, p)
 
-  pub same_journals : (n : ℕ) → journals_of h.shape logs shards n ≡ journal n History
+  pub same_journals : (n : ℕ) → node_journals h.shape logs shards n ≡ journal n History
   same_journals n = elim (cases_lt n h.shape.coordinators) [
     | inl low ↦ at_log n low
     | inr high ↦ elim (cases_lt n (h.shape.coordinators + h.shape.shards)) [
       | inl inside ↦
           let place : h.shape.coordinators + (n - h.shape.coordinators) ≡ n = omega (arith, high) in
-          subst (λ k. journals_of h.shape logs shards k ≡ journal k History) place (at_shard (n - h.shape.coordinators) (omega (arith, high, inside)))
+          subst (λ k. node_journals h.shape logs shards k ≡ journal k History) place (at_shard (n - h.shape.coordinators) (omega (arith, high, inside)))
       | inr past ↦ past_all n past
     ]
   ]
@@ -96,8 +96,8 @@ module _ {D : Type 0} (device : Ghosts D) (held : ℕ → Option D) (h : Header)
         subst (λ k. IsJournal (header_of h.shape h.genesis k) (journal k History)) place (shard_is (n - h.shape.coordinators) (omega (arith, high, inside)))
   ]
 
-  pub opened_checked : AreChecked h.shape logs shards
+  pub opened_checked : HaveCheckedJournals h.shape logs shards
   opened_checked =
       let c = checked_rows h.shape h.genesis are.limits.some_shard History caused.caused (record { nodes = each_is; others = no_node }) in
-      let all : (λ n. journal n History) ≡ journals_of h.shape logs shards = λ i n. sym (same_journals n) i in
+      let all : (λ n. journal n History) ≡ node_journals h.shape logs shards = λ i n. sym (same_journals n) i in
       (c.0, subst (λ J. CheckedJournals h.shape c.0 J) all c.1)

@@ -13,14 +13,14 @@ use Rattle.recovery.specs.declared.resumed.ResumedBatch.{ResumedBatch}
 use Rattle.rack_ledgers.specs.Places.{EachFrom, MayReturn}
 use Rattle.rack_ledgers.specs.Racked.{OfTold, SameRoom}
 use Rattle.rack_ledgers.specs.Ledgers.{ByPlace, AreOpened}
-use Rattle.rack_ledgers.specs.Caused.{journals_of as lent_journals, AreCaused}
-use Rattle.ledger_runs.specs.Faults.{HaveFailed, MayHold}
-use Rattle.file_runs.specs.Ledgers.{LedgerOf, IsLedger, journals_of, flights_of, faults_of, opened_of, capacity_of, AreChecked, AreStored, AreQuiet}
+use Rattle.rack_ledgers.specs.Caused.{listed_journals as lent_journals, AreCaused}
+use Rattle.ledger_runs.specs.Faults.{HaveFailed, MayHoldBytes}
+use Rattle.file_runs.specs.Ledgers.{LedgerOf, IsLedger, node_journals, flights_of, faults_of, opened_of, capacity_of, HaveCheckedJournals, AreStored, AreQuiet}
 use Rattle.file_runs.proofs.Whole.{when_whole, of_whole}
 use Rattle.rack_laws.specs.Shown.{HaveRoom, node_count}
 use Rattle.rack_runs.specs.Kinds.{answer_to}
 use Rattle.rack_runs.specs.Telling.{CountAll}
-use Rattle.rack_runs.specs.Works.{Deed, AllFit, LeavesAll, AllWell, AllBadly, HasRun, AreSeen, AtEntry, entry_ledger, IsOpen, HasCome, HasDone}
+use Rattle.rack_runs.specs.Works.{Deed, AllNextFit, LeavesAll, AllWell, AllBadly, HasRunWork, AreSeen, AtEntry, entry_ledger, IsLedgerOpened, HasOpenedAndRun, HasDoneWork}
 use Rattle.rack_runs.specs.declared.told.Told.{Told}
 use Rattle.rack_runs.proofs.Lent.{ledger_of}
 use Rattle.rack_runs.specs.Resuming.{HasResumed}
@@ -32,15 +32,15 @@ use Rattle.rack_runs.proofs.Ledgers.{opened_room, ended, cut_short}
 
 module _ {D Done : Type 0} (device : Ghosts D) (held : ℕ → Option D) (h g : Header) (logs now : List (NodeOf D)) (shards after : List (NodeOf D))
     (deed : Deed Done) (resumed : List ResumedBatch) (came : Result Done LaneFault) (are : AreOpened device held h logs shards) (is : IsLedger g now after) (seen : AreSeen device now after)
-    (ran : HasRun device deed (ledger_of h logs shards) (ledger_of g now after) resumed came) where
+    (ran : HasRunWork device deed (ledger_of h logs shards) (ledger_of g now after) resumed came) where
   shape : g.shape ≡ h.shape
   shape = ran.keeps_ledger.shape_same
 
   abbrev E : ℕ → List Record
-  E = journals_of h.shape logs shards
+  E = node_journals h.shape logs shards
 
   abbrev X : ℕ → List Record
-  X = journals_of h.shape now after
+  X = node_journals h.shape now after
 
   abbrev F : ℕ → Option Record
   F = flights_of h.shape logs shards
@@ -49,7 +49,7 @@ module _ {D Done : Type 0} (device : Ghosts D) (held : ℕ → Option D) (h g : 
   failed = HaveFailed (opened_of h.shape logs shards) (faults_of h.shape now after)
 
   abbrev holds : ℕ → ℕ → Type 0
-  holds = MayHold (capacity_of h.shape logs shards)
+  holds = MayHoldBytes (capacity_of h.shape logs shards)
 
   -- by what was known of the nodes before
   opened_at : (n : ℕ) → opened_of h.shape now after n ≡ opened_of h.shape logs shards n
@@ -66,18 +66,18 @@ module _ {D Done : Type 0} (device : Ghosts D) (held : ℕ → Option D) (h g : 
 
   leaves : LeavesAll deed h.shape E X F (flights_of h.shape now after) failed
   leaves = subst (λ o. LeavesAll deed h.shape E X F (flights_of h.shape now after) (HaveFailed o (faults_of h.shape now after))) opened_is
-      (subst (λ k. LeavesAll deed h.shape E (journals_of k now after) F (flights_of k now after) (HaveFailed (opened_of k now after) (faults_of k now after))) shape ran.leaves)
+      (subst (λ k. LeavesAll deed h.shape E (node_journals k now after) F (flights_of k now after) (HaveFailed (opened_of k now after) (faults_of k now after))) shape ran.leaves)
 
   well : IfOk came (AllWell deed h.shape E X resumed)
-  well = subst (λ k. IfOk came (AllWell deed h.shape E (journals_of k now after) resumed)) shape ran.well
+  well = subst (λ k. IfOk came (AllWell deed h.shape E (node_journals k now after) resumed)) shape ran.well
 
   badly : IfErr came (AllBadly deed h.shape E X failed holds)
-  badly = subst (λ c. IfErr came (AllBadly deed h.shape E X failed (MayHold c))) capacity_is
-      (subst (λ o. IfErr came (AllBadly deed h.shape E X (HaveFailed o (faults_of h.shape now after)) (MayHold (capacity_of h.shape now after)))) opened_is
-      (subst (λ k. IfErr came (AllBadly deed h.shape E (journals_of k now after) (HaveFailed (opened_of k now after) (faults_of k now after)) (MayHold (capacity_of k now after)))) shape ran.badly))
+  badly = subst (λ c. IfErr came (AllBadly deed h.shape E X failed (MayHoldBytes c))) capacity_is
+      (subst (λ o. IfErr came (AllBadly deed h.shape E X (HaveFailed o (faults_of h.shape now after)) (MayHoldBytes (capacity_of h.shape now after)))) opened_is
+      (subst (λ k. IfErr came (AllBadly deed h.shape E (node_journals k now after) (HaveFailed (opened_of k now after) (faults_of k now after)) (MayHoldBytes (capacity_of k now after)))) shape ran.badly))
 
-  checked : AreChecked h.shape now after
-  checked = subst (λ k. AreChecked k now after) shape ran.checked
+  checked : HaveCheckedJournals h.shape now after
+  checked = subst (λ k. HaveCheckedJournals k now after) shape ran.checked
 
   later : (n : ℕ) → faults_of h.shape logs shards n ≤ faults_of h.shape now after n
   later = subst (λ k. (n : ℕ) → faults_of h.shape logs shards n ≤ faults_of k now after n) shape ran.keeps_ledger.later
@@ -118,7 +118,7 @@ module _ {D Done : Type 0} (device : Ghosts D) (held : ℕ → Option D) (h g : 
 
     -- what came of it, and what that leaves of the disks
     pub done : (told : Result (Told Done) Answer) → IfErr told (λ a. (a ≡ answers.Memory) ⊎ ((e : LaneFault) × (came ≡ Err e) × (a ≡ answer_to e))) → IfOk told (λ t. (t.resumed.items ≡ resumed) × (came ≡ Ok t.done))
-        → IfOk told (λ t. CountAll (map (λ s. s.journal) after) t.unspent) → AllFit deed → HasDone device held back before behind deed told
+        → IfOk told (λ t. CountAll (map (λ s. s.journal) after) t.unspent) → AllNextFit deed → HasDoneWork device held back before behind deed told
     done (Ok t) fault same unspent fits =
         let quiet : AreQuiet logs shards → AreQuiet now after = when_whole came t.done same.1 ran.quiet in
         record {
@@ -143,9 +143,9 @@ module _ {D Done : Type 0} (device : Ghosts D) (held : ℕ → Option D) (h g : 
 -- the same from what a rack told at entry
 module _ {D Done : Type 0} (device : Ghosts D) (deed : Deed Done) (e : AtEntry D) (middle : ℕ → Option D) (can_put : ℕ → ℕ → Type 0) (can_take : ℕ → Type 0)
     (g : Header) (now : List (NodeOf D)) (after : List (NodeOf D)) (is : IsLedger g now after) (seen : AreSeen device now after) (behind : LedgerOf D) (same : behind ≡ ledger_of g now after)
-    (resumed : List ResumedBatch) (came : Result Done LaneFault) (has : HasCome device deed e middle can_put can_take behind resumed came) where
-  there : HasRun device deed (ledger_of e.header e.logs e.shards) (ledger_of g now after) resumed came
-  there = subst (λ l. HasRun device deed (ledger_of e.header e.logs e.shards) l resumed came) same has.ran
+    (resumed : List ResumedBatch) (came : Result Done LaneFault) (has : HasOpenedAndRun device deed e middle can_put can_take behind resumed came) where
+  there : HasRunWork device deed (ledger_of e.header e.logs e.shards) (ledger_of g now after) resumed came
+  there = subst (λ l. HasRunWork device deed (ledger_of e.header e.logs e.shards) l resumed came) same has.ran
 
   as_many : (length now ≡ length e.logs) × (length after ≡ length e.shards)
   as_many = (
@@ -168,7 +168,7 @@ module _ {D Done : Type 0} (device : Ghosts D) (deed : Deed Done) (e : AtEntry D
   pub closed : (back : ℕ → Option D) → ByPlace (λ n l. OfTold (back n) (λ d. d ≡ l.disk)) now → ByPlace (λ s x. OfTold (back (length now + s)) (λ d. d ≡ x.disk)) after → (counts : ℕ → ℕ)
       → ByPlace (λ n l. device.count l.disk ≤ counts n) now → ByPlace (λ s x. device.count x.disk ≤ counts (length now + s)) after → ((n : ℕ) → length now + length after ≤ n → back n ≡ middle n)
       → (told : Result (Told Done) Answer) → IfErr told (λ a. (a ≡ answers.Memory) ⊎ ((f : LaneFault) × (came ≡ Err f) × (a ≡ answer_to f))) → IfOk told (λ t. (t.resumed.items ≡ resumed) × (came ≡ Ok t.done))
-      → IfOk told (λ t. CountAll (map (λ s. s.journal) after) t.unspent) → AllFit deed → HasDone device e.held back e.before counts deed told
+      → IfOk told (λ t. CountAll (map (λ s. s.journal) after) t.unspent) → AllNextFit deed → HasDoneWork device e.held back e.before counts deed told
   closed back logs_back shards_back counts logs_counted shards_counted others_put told fault same unspent fits =
       done device e.held e.header g e.logs now e.shards after deed resumed came has.begun.nodes is seen there has.begun.caused middle back logs_back shards_back e.before counts
       has.begun.logs_since has.begun.shards_since logs_counted shards_counted has.begun.others others_put told fault same unspent fits
@@ -182,7 +182,7 @@ module _ {D : Type 0} (device : Ghosts D) (e : AtEntry D) (middle : ℕ → Opti
   pub is_open : AreOpened device e.held e.header e.logs e.shards → AreCaused e.header.shape (lent_journals e.logs e.shards) → length e.logs + length e.shards < 2 ^ 32
       → ByPlace (λ n x. e.before n ≤ device.count x.disk) e.logs → ByPlace (λ s x. e.before (e.header.shape.coordinators + s) ≤ device.count x.disk) e.shards
       → EachFrom (MayReturn (λ x. device.count x.disk) can_put) 0 e.logs → EachFrom (MayReturn (λ x. device.count x.disk) can_put) (length e.logs) e.shards
-      → ((n : ℕ) → length e.logs + length e.shards ≤ n → middle n ≡ e.held n) → ((n : ℕ) → length e.logs + length e.shards ≤ n → can_take n) → IsOpen device e middle can_put can_take
+      → ((n : ℕ) → length e.logs + length e.shards ≤ n → middle n ≡ e.held n) → ((n : ℕ) → length e.logs + length e.shards ≤ n → can_take n) → IsLedgerOpened device e middle can_put can_take
   is_open nodes caused few logs_since shards_since logs shards others others_in = record {
     nodes = nodes;
     caused = caused;
@@ -196,8 +196,8 @@ module _ {D : Type 0} (device : Ghosts D) (e : AtEntry D) (middle : ℕ → Opti
   }
 
   -- a lane met a fault as open batches were brought to their end
-  pub stopped_come : {Done : Type 0} (deed : Deed Done) → IsOpen device e middle can_put can_take → (first ledger : LedgerOf D) → first ≡ entry_ledger e → (came : Result (Vec ResumedBatch) LaneFault) (f : LaneFault)
-      → came ≡ Err f → HasResumed device first ledger came → HasCome device deed e middle can_put can_take ledger [] (Err f)
+  pub stopped_come : {Done : Type 0} (deed : Deed Done) → IsLedgerOpened device e middle can_put can_take → (first ledger : LedgerOf D) → first ≡ entry_ledger e → (came : Result (Vec ResumedBatch) LaneFault) (f : LaneFault)
+      → came ≡ Err f → HasResumed device first ledger came → HasOpenedAndRun device deed e middle can_put can_take ledger [] (Err f)
   stopped_come deed begun first ledger same came f is resumed = record {
     begun = begun;
     ran = stopped_run device deed (entry_ledger e) ledger [] came f is (subst (λ l. HasResumed device l ledger came) same resumed);

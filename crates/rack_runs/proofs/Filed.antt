@@ -18,25 +18,25 @@ use Rattle.submissions.proofs.Telling.{is_sound_law}
 use Rattle.ledger_runs.specs.Turning.{IsLaneOf, OfKept, StaysKept}
 use Rattle.ledger_runs.specs.Flying.{Launches}
 use Rattle.ledger_runs.specs.Telling.{SamePrepared, TellResumed}
-use Rattle.ledger_runs.specs.Faults.{IsRunCause, HaveFailed, MayHold, AllRest}
+use Rattle.ledger_runs.specs.Faults.{IsRunCause, HaveFailed, MayHoldBytes, LanesRest}
 use Rattle.ledger_runs.specs.Least.{IsLeastFault, IsLeastOpen}
 use Rattle.ledger_runs.proofs.Launching.{launches_begin}
 use Rattle.ledger_runs.proofs.Keeping.{ledger_same}
-use Rattle.file_runs.specs.Ledgers.{LedgerOf, journals, flights, faults, opened, IsChecked}
+use Rattle.file_runs.specs.Ledgers.{LedgerOf, ledger_journals, ledger_flights, ledger_faults, ledger_opened, IsChecked}
 use Rattle.file_runs.specs.declared.waves.Wave.{Wave}
 use Rattle.file_runs.specs.declared.ran.Ran.{Ran}
 use Rattle.file_runs.specs.Runs.{joined, IsSentPiece, HaveBegunFiles, IsFilesPiece, FliesWith}
-use Rattle.file_runs.specs.Endings.{EndsFirst, EndsFiles, AreCut}
+use Rattle.file_runs.specs.Endings.{EndsFirst, EndsFiles, AreRunOrCut}
 use Rattle.file_runs.specs.Telling.{TellFiles}
 use Rattle.file_runs.proofs.Filing.{stays_more}
 use Rattle.file_runs.proofs.Flying.{flies_none}
 use Rattle.file_runs.proofs.Pieces.{files_unbegun}
 use Rattle.printed_lines.specs.Unspent.{IsUnspentCount}
 use Rattle.rack_laws.specs.Shown.{node_count}
-use Rattle.rack_runs.specs.Endings.{EndsRun, IsCut}
+use Rattle.rack_runs.specs.Endings.{EndsRun, IsRunOrCut}
 use Rattle.rack_runs.specs.Runs.{IsCutWaves, NonePrepared, NothingNext, PieceNext, PiecesPrepared}
-use Rattle.rack_runs.specs.Telling.{IsTold}
-use Rattle.rack_runs.specs.Works.{LeavesWork, EndsWell, EndsBadly, HasWorked, BeginsWork, EndsWork, HasEnded}
+use Rattle.rack_runs.specs.Telling.{IsRunTold}
+use Rattle.rack_runs.specs.Works.{LeavesWork, WorkEndsWell, EndsBadly, HasWorked, BeginsWork, EndsWork, HasEndedWork}
 use Rattle.rack_runs.specs.Deeds.{files_deed, no_deed}
 use Rattle.rack_runs.specs.declared.told.Told.{Told}
 use Rattle.rack_runs.proofs.Answering.{cause_by}
@@ -61,17 +61,17 @@ over_keeps K H files I M J e one two mint submissions kept =
 
 -- files behind the open batches, run or cut short
 over_cuts : (K H : Shape) (verdicts : VerdictsOf) (files : List (List FullTx)) (I M J : ℕ → List Record) → H ≡ K → 0 < length files → OfKept K I (StaysKept K I M) → OfKept K I (λ _ _. IsResumed K I M)
-    → OfKept H M (λ mint _. (sound : FullTx → Bool) (E : ℕ → List Record) → TellsSound verdicts sound → IsResumed H E M → AreCut H sound files mint E J)
-    → OfKept K I (λ mint _. (sound : FullTx → Bool) → TellsSound verdicts sound → IsCut K sound files mint I J)
+    → OfKept H M (λ mint _. (sound : FullTx → Bool) (E : ℕ → List Record) → TellsSound verdicts sound → IsResumed H E M → AreRunOrCut H sound files mint E J)
+    → OfKept K I (λ mint _. (sound : FullTx → Bool) → TellsSound verdicts sound → IsRunOrCut K sound files mint I J)
 over_cuts K H verdicts files I M J e some one resumed two mint submissions kept sound tells = inr (
   some,
-  subst (λ k. OfKept k M (λ mint _. (test : FullTx → Bool) (E : ℕ → List Record) → TellsSound verdicts test → IsResumed k E M → AreCut k test files mint E J)) e two mint submissions (one mint submissions kept).kept
+  subst (λ k. OfKept k M (λ mint _. (test : FullTx → Bool) (E : ℕ → List Record) → TellsSound verdicts test → IsResumed k E M → AreRunOrCut k test files mint E J)) e two mint submissions (one mint submissions kept).kept
       sound I tells (resumed mint submissions kept),
 )
 
 -- kept journals that were cut short have grown in the order of open batches and files
 cut_waves : (K : Shape) (verdicts : VerdictsOf) (files : List (List FullTx)) (E X : ℕ → List Record) → 0 < K.shards → 0 < K.lanes → OfKept K E (λ mint submissions. StaysKept K E X mint (submissions ++ joined files))
-    → OfKept K E (λ mint _. (sound : FullTx → Bool) → TellsSound verdicts sound → IsCut K sound files mint E X) → OfKept K E (λ _ _. (sound : FullTx → Bool) → TellsSound verdicts sound → IsCutWaves K sound files E X)
+    → OfKept K E (λ mint _. (sound : FullTx → Bool) → TellsSound verdicts sound → IsRunOrCut K sound files mint E X) → OfKept K E (λ _ _. (sound : FullTx → Bool) → TellsSound verdicts sound → IsCutWaves K sound files E X)
 cut_waves K verdicts files E X shards lanes keeps cut mint submissions kept sound tells = elim (cut mint submissions kept sound tells) [
   | inl same ↦ inl (open_batches K mint submissions (submissions ++ joined files) E X shards kept stays.kept stays.grows same)
   | inr c ↦
@@ -120,7 +120,7 @@ none_leave verdicts files K M F failed idle = record {
 }
 
 pub none_end : (verdicts : VerdictsOf) (files : List (List FullTx)) (K : Shape) (M : ℕ → List Record) (waves : Vec Wave) → files ≡ [] → waves.items ≡ [] → AreIdle K M
-    → EndsWell (files_deed verdicts files) K M M waves
+    → WorkEndsWell (files_deed verdicts files) K M M waves
 none_end verdicts files K M waves none nothing idle = record {
   idle = idle;
   did = λ mint submissions kept. (
@@ -132,8 +132,8 @@ none_end verdicts files K M waves none nothing idle = record {
 -- where there are some
 pub files_leave : (verdicts : VerdictsOf) (files : List (List FullTx)) (K : Shape) (M X : ℕ → List Record) (F G : ℕ → Option Record) (failed : ℕ → Type 0) → 0 < length files
     → ((n : ℕ) → IsEnd (M n) (X n)) → OfKept K M (λ mint submissions. StaysKept K M X mint (submissions ++ joined files)) → OfKept K M (FliesWith K (joined files) M X F G)
-    → Launches K (IsFilesPiece K verdicts files M X) M X F G → AllRest K X failed → (0 < K.batch → HaveBegunFiles K verdicts files M X)
-    → OfKept K M (λ mint _. (sound : FullTx → Bool) (E : ℕ → List Record) → TellsSound verdicts sound → IsResumed K E M → AreCut K sound files mint E X)
+    → Launches K (IsFilesPiece K verdicts files M X) M X F G → LanesRest K X failed → (0 < K.batch → HaveBegunFiles K verdicts files M X)
+    → OfKept K M (λ mint _. (sound : FullTx → Bool) (E : ℕ → List Record) → TellsSound verdicts sound → IsResumed K E M → AreRunOrCut K sound files mint E X)
     → LeavesWork (files_deed verdicts files) K M X F G failed
 files_leave verdicts files K M X F G failed some grows keeps flies launches rests begun cut = record {
   grows = grows;
@@ -151,7 +151,7 @@ files_leave verdicts files K M X F G failed some grows keeps flies launches rest
 
 pub files_end : (verdicts : VerdictsOf) (files : List (List FullTx)) (K : Shape) (M X : ℕ → List Record) (came : Result (Vec Wave) LaneFault) → OnOk came (AreIdle K X)
     → OnOk came (OfKept K M (λ _ _. (sound : FullTx → Bool) (E : ℕ → List Record) → TellsSound verdicts sound → IsResumed K E M → Waves K sound files E X))
-    → IfOk came (λ ws. OfKept K M (λ _ _. TellFiles K verdicts files M X ws.items)) → IfOk came (EndsWell (files_deed verdicts files) K M X)
+    → IfOk came (λ ws. OfKept K M (λ _ _. TellFiles K verdicts files M X ws.items)) → IfOk came (WorkEndsWell (files_deed verdicts files) K M X)
 files_end verdicts files K M X (Ok ws) idle waves told = record { idle = idle; did = λ mint submissions kept. (waves mint submissions kept, told mint submissions kept) }
 files_end verdicts files K M X (Err e) idle waves told = tt
 
@@ -199,7 +199,7 @@ ends_run verdicts files K E X failed holds e (inr (middle, grows, unprepared, id
   grows,
   unprepared,
   idle,
-  files_by K (HaveFailed by.opened_at by.faults_at) failed (MayHold by.capacity_at) holds by.fails by.holds verdicts files middle X e by.ends,
+  files_by K (HaveFailed by.opened_at by.faults_at) failed (MayHoldBytes by.capacity_at) holds by.fails by.holds verdicts files middle X e by.ends,
 )
 
 pub begun_run : (verdicts : VerdictsOf) (files : List (List FullTx)) (K : Shape) (E X : ℕ → List Record) → BeginsWork (files_deed verdicts files) K E X → PiecesPrepared verdicts files K E X
@@ -223,7 +223,7 @@ begun_none K E X (inr alone, order) = (λ lane inside. alone.unprepared lane, al
 pub told_run : {D : Type 0} (device : Ghosts D) (held : ℕ → Option D) (verdicts : VerdictsOf) (files : List (List FullTx)) (told : Told (Vec Wave)) (ran : Ran)
     → (ran.resumed ≡ told.resumed) × (ran.waves ≡ told.done) × (ran.unspent ≡ told.unspent)
     → (K : Shape) (mint : List Output) (submissions : List FullTx) (E : ℕ → List Record) → KeptJournals K mint submissions E
-    → HasEnded device held (files_deed verdicts files) told K mint submissions E → IsTold device held verdicts files ran K mint submissions E
+    → HasEndedWork device held (files_deed verdicts files) told K mint submissions E → IsRunTold device held verdicts files ran K mint submissions E
 told_run device held verdicts files told ran same K mint submissions E kept h =
     let w = h.well in
     let did = w.well.did mint submissions (w.behind.keeps mint submissions kept).kept in
@@ -254,7 +254,7 @@ told_run device held verdicts files told ran same K mint submissions E kept h =
 pub told_none : {D : Type 0} (device : Ghosts D) (held : ℕ → Option D) (verdicts : VerdictsOf) (told : Told (Unit {0})) (ran : Ran)
     → (ran.resumed ≡ told.resumed) × (ran.waves.items ≡ []) × (ran.unspent ≡ told.unspent)
     → (K : Shape) (mint : List Output) (submissions : List FullTx) (E : ℕ → List Record) → KeptJournals K mint submissions E
-    → HasEnded device held no_deed told K mint submissions E → IsTold device held verdicts [] ran K mint submissions E
+    → HasEndedWork device held no_deed told K mint submissions E → IsRunTold device held verdicts [] ran K mint submissions E
 told_none device held verdicts told ran same K mint submissions E kept h =
     let w = h.well in
     let ends : w.middle ≡ h.exit = λ i n. sym (w.well.did n) i in
@@ -293,13 +293,13 @@ nothing_leaves K M F failed idle = record {
 }
 
 -- and that is a work
-pub nothing_worked : {D : Type 0} (device : Ghosts D) (l : LedgerOf D) → AreIdle l.header.shape (journals l) → IsChecked l
+pub nothing_worked : {D : Type 0} (device : Ghosts D) (l : LedgerOf D) → AreIdle l.header.shape (ledger_journals l) → IsChecked l
     → HasWorked device no_deed l l (Ok tt)
 nothing_worked device l idle checked = record {
   keeps_ledger = ledger_same l;
   checked = checked;
   quiet = λ was. was;
-  leaves = nothing_leaves l.header.shape (journals l) (flights l) (HaveFailed (opened l) (faults l)) idle;
+  leaves = nothing_leaves l.header.shape (ledger_journals l) (ledger_flights l) (HaveFailed (ledger_opened l) (ledger_faults l)) idle;
   well = record { idle = idle; did = λ n. refl };
   badly = tt;
 }

@@ -11,10 +11,10 @@ use Rattle.rack_ledgers.proofs.Told.{same_back}
 use Rattle.rack_ledgers.specs.Ledgers.{ByPlace}
 use Rattle.rack_ledgers.proofs.CausedTold.{told_history}
 use Rattle.rack_ledgers.proofs.Closed.{all_same}
-use Rattle.file_runs.specs.Ledgers.{LedgerOf, journals_of, journals}
+use Rattle.file_runs.specs.Ledgers.{LedgerOf, node_journals, ledger_journals}
 use Rattle.rack_laws.specs.Shown.{OfShown}
 use Rattle.rack_laws.proofs.Opened.{same_shape, same_journals as shown_journals}
-use Rattle.rack_runs.specs.Works.{Deed, AtEntry, entry_ledger, IsOpen}
+use Rattle.rack_runs.specs.Works.{Deed, AtEntry, entry_ledger, IsLedgerOpened}
 use Rattle.rack_runs.specs.Tests.{Test, IsTestRefused, WhyNotBegun}
 use Rattle.rack_runs.proofs.Checking.{same_journals}
 use Rattle.rack_runs.proofs.Ledgers.{beyond}
@@ -26,7 +26,7 @@ pub record ArePut {D : Type 0} (middle back : ℕ → Option D) (l : LedgerOf D)
   pub others : (n : ℕ) → length l.logs + length l.shards ≤ n → back n ≡ middle n
 
 module _ {D : Type 0} (device : Ghosts D) (e : AtEntry D) (middle : ℕ → Option D) (can_put : ℕ → ℕ → Type 0) (can_take : ℕ → Type 0)
-    (begun : IsOpen device e middle can_put can_take) where
+    (begun : IsLedgerOpened device e middle can_put can_take) where
   -- the nodes as they were opened, taken apart
   module _ (first l : LedgerOf D) (made : first ≡ entry_ledger e) (apart : first ≡ l) where
     same : l ≡ entry_ledger e
@@ -54,9 +54,9 @@ module _ {D : Type 0} (device : Ghosts D) (e : AtEntry D) (middle : ℕ → Opti
       are_back : (now : ℕ → ℕ) → AreBack device e.before now e.held back
       are_back now n = same_back device (e.before n) (now n) (e.held n) (back n) (unchanged n)
 
-      refused : (test : Test) (answer : Answer) → test.refuses first.header.shape (journals first) answer → IsTestRefused device e.held back test answer
+      refused : (test : Test) (answer : Answer) → test.refuses first.header.shape (ledger_journals first) answer → IsTestRefused device e.held back test answer
       refused test answer told =
-          let own : test.refuses e.header.shape (journals (entry_ledger e)) answer = subst (λ (x : LedgerOf D). test.refuses x.header.shape (journals x) answer) made told in
+          let own : test.refuses e.header.shape (ledger_journals (entry_ledger e)) answer = subst (λ (x : LedgerOf D). test.refuses x.header.shape (ledger_journals x) answer) made told in
           record {
             ledger = record {
               shape = e.header.shape;
@@ -70,14 +70,14 @@ module _ {D : Type 0} (device : Ghosts D) (e : AtEntry D) (middle : ℕ → Opti
           }
 
       -- the test refused the ledger, or there was no memory for it
-      pub not_begun : {Done : Type 0} (d : Deed Done) (test : Test) (now : ℕ → ℕ) (answer : Answer) → (answer ≡ answers.Memory) ⊎ test.refuses first.header.shape (journals first) answer
+      pub not_begun : {Done : Type 0} (d : Deed Done) (test : Test) (now : ℕ → ℕ) (answer : Answer) → (answer ≡ answers.Memory) ⊎ test.refuses first.header.shape (ledger_journals first) answer
           → WhyNotBegun device e.held back e.before now d test answer
       not_begun d test now answer (inl memory) = inl (inl (inr (inr memory), are_back now))
       not_begun d test now answer (inr told) = inr (refused test answer told)
 
   -- what holds of the opened ledger holds of whatever kept ledger the rack showed
-  pub passed_shown : (P : Shape → (ℕ → List Record) → Type 0) → P e.header.shape (journals (entry_ledger e)) → OfShown device e.held (λ K mint submissions E. P K E)
+  pub passed_shown : (P : Shape → (ℕ → List Record) → Type 0) → P e.header.shape (ledger_journals (entry_ledger e)) → OfShown device e.held (λ K mint submissions E. P K E)
   passed_shown P told K mint submissions E within shows kept =
-      let there : P K (journals_of K e.logs e.shards) =
-      subst (λ S. P S (journals_of S e.logs e.shards)) (same_shape device e.held e.header e.logs e.shards begun.nodes K (genesis_id mint) E within shows) told in
+      let there : P K (node_journals K e.logs e.shards) =
+      subst (λ S. P S (node_journals S e.logs e.shards)) (same_shape device e.held e.header e.logs e.shards begun.nodes K (genesis_id mint) E within shows) told in
       subst (P K) (λ i n. shown_journals device e.held e.header e.logs e.shards begun.nodes K (genesis_id mint) E within shows (beyond K mint submissions E kept) n i) there

@@ -24,7 +24,7 @@ use Rattle.cbdc_model.specs.Sights.{Sight}
 use Rattle.node_journal.specs.Nodes.{NodeOf, sight}
 use Rattle.node_ports.specs.Nodes.{sight_at}
 use Rattle.run_laws.proofs.Seen.{seen_shard}
-use Rattle.file_runs.specs.Ledgers.{IsLedger, journals_of}
+use Rattle.file_runs.specs.Ledgers.{IsLedger, node_journals}
 use Rattle.printed_lines.specs.Unspent.{IsUnspentCount}
 use Rattle.rack_runs.specs.Telling.{CountAll}
 
@@ -234,7 +234,7 @@ module _ {D : Type 0} (h : Header) (logs shards : List (NodeOf D)) (ledger : IsL
   K = h.shape
 
   abbrev J : ℕ → List Record
-  J = journals_of h.shape logs shards
+  J = node_journals h.shape logs shards
 
   its_own : (s : NodeOf D) (from : ℕ) → IsJournal s.header s.journal → s.header ≡ header_of h.shape h.genesis (shard_node h.shape from) → (x : Digest) → status s.journal x ≡ Unspent → shard_of K.shards x ≡ from
   its_own s from journal header x u =

@@ -43,7 +43,7 @@ use Rattle.file_runs.specs.Runs.{AreFilesPieces, IsFilesPiece}
 use Rattle.rack_runs.specs.Kinds.{MayComeNext, StaysCaused}
 use Rattle.rack_runs.specs.Works.{FitsBatch}
 use Rattle.node_journal.specs.Nodes.{NodeOf, sight}
-use Rattle.file_runs.specs.Ledgers.{IsLedger, journals_of, AreChecked}
+use Rattle.file_runs.specs.Ledgers.{IsLedger, node_journals, HaveCheckedJournals}
 use Rattle.rack_laws.specs.Shown.{node_count}
 use Rattle.rack_laws.proofs.Opened.{at_place, sight_there}
 use Rattle.rack_runs.proofs.Behind.{by_all, log_journal, shard_journal}
@@ -276,7 +276,7 @@ wants_next K genesis m next E X limits checked were are fits lane node front r l
 
 module _ {D : Type 0} (device : Ghosts D) where
   -- each node's journal has its header of the ledger
-  node_header : (h : Header) (logs shards : List (NodeOf D)) → IsLedger h logs shards → (n : ℕ) → n < node_count h.shape → IsJournal (header_of h.shape h.genesis n) (journals_of h.shape logs shards n)
+  node_header : (h : Header) (logs shards : List (NodeOf D)) → IsLedger h logs shards → (n : ℕ) → n < node_count h.shape → IsJournal (header_of h.shape h.genesis n) (node_journals h.shape logs shards n)
   node_header h logs shards is n inside = elim (cases_lt n h.shape.coordinators) [
     | inl low ↦
         let l = at_place logs n (omega (arith, low, is.coordinators)) in
@@ -289,27 +289,27 @@ module _ {D : Type 0} (device : Ghosts D) where
         let place : h.shape.coordinators + s ≡ n = omega (arith, high) in
         let x = at_place shards s (omega (arith, lt, is.shards_are)) in
         let head : x.0.header ≡ header_of h.shape h.genesis (h.shape.coordinators + s) = sym (ap (λ t. t.header) (sight_there sight shards s x.0 x.1)) ∙ is.shard_headers s lt in
-        subst (λ k. IsJournal (header_of h.shape h.genesis k) (journals_of h.shape logs shards k)) place
+        subst (λ k. IsJournal (header_of h.shape h.genesis k) (node_journals h.shape logs shards k)) place
         (subst (λ J. IsJournal (header_of h.shape h.genesis (h.shape.coordinators + s)) J) (sym (shard_journal h.shape logs shards s x.0 x.1))
         (subst (λ k. IsJournal k x.0.journal) head (by_all (λ y. IsJournal y.header y.journal) shards is.shard_journals s x.0 x.1)))
   ]
 
-  pub wants_there : (h g : Header) (logs now : List (NodeOf D)) (shards after : List (NodeOf D)) → IsLedger h logs shards → IsLedger g now after → g.shape ≡ h.shape → AreChecked h.shape now after
+  pub wants_there : (h g : Header) (logs now : List (NodeOf D)) (shards after : List (NodeOf D)) → IsLedger h logs shards → IsLedger g now after → g.shape ≡ h.shape → HaveCheckedJournals h.shape now after
       → (next : ℕ → List Compact → Type 0) → ((lane : ℕ) (txs : List Compact) → next lane txs → FitsBatch h.shape txs)
-      → MayComeNext h.shape h.genesis next (journals_of h.shape logs shards) (journals_of h.shape now after)
+      → MayComeNext h.shape h.genesis next (node_journals h.shape logs shards) (node_journals h.shape now after)
   wants_there h g logs now shards after was is shape checked next fits =
-      wants_next h.shape h.genesis checked.0 next (journals_of h.shape logs shards)
-      (journals_of h.shape now after) was.limits checked.1 (node_header h logs shards was)
-      (λ n inside. subst (λ k. n < node_count k → (j : Header) × IsJournal j (journals_of k now after n)) shape (λ i. (header_of g.shape g.genesis n, node_header g now after is n i)) inside)
+      wants_next h.shape h.genesis checked.0 next (node_journals h.shape logs shards)
+      (node_journals h.shape now after) was.limits checked.1 (node_header h logs shards was)
+      (λ n inside. subst (λ k. n < node_count k → (j : Header) × IsJournal j (node_journals k now after n)) shape (λ i. (header_of g.shape g.genesis n, node_header g now after is n i)) inside)
       fits
 
   -- journals at exit are those of a ledger with this genesis, each record of which is caused
-  pub stays_caused : (h g : Header) (logs now : List (NodeOf D)) (shards after : List (NodeOf D)) → IsLedger h logs shards → IsLedger g now after → g.shape ≡ h.shape → AreChecked h.shape now after
-      → ((n : ℕ) → IsEnd (journals_of h.shape logs shards n) (journals_of h.shape now after n)) → StaysCaused h.shape h.genesis (journals_of h.shape now after)
+  pub stays_caused : (h g : Header) (logs now : List (NodeOf D)) (shards after : List (NodeOf D)) → IsLedger h logs shards → IsLedger g now after → g.shape ≡ h.shape → HaveCheckedJournals h.shape now after
+      → ((n : ℕ) → IsEnd (node_journals h.shape logs shards n) (node_journals h.shape now after n)) → StaysCaused h.shape h.genesis (node_journals h.shape now after)
   stays_caused h g logs now shards after was is shape checked grows =
       let first : 0 < node_count h.shape = omega (arith, was.limits.some_shard) in (
         checked.0,
-        same_genesis h.shape h.genesis checked.0 (journals_of h.shape logs shards) (journals_of h.shape now after) 0 first checked.1 (node_header h logs shards was 0 first)
-            (header_of g.shape g.genesis 0) (subst (λ k. IsJournal (header_of g.shape g.genesis 0) (journals_of k now after 0)) shape (node_header g now after is 0 (subst (λ k. 0 < node_count k) (sym shape) first))) (grows 0),
+        same_genesis h.shape h.genesis checked.0 (node_journals h.shape logs shards) (node_journals h.shape now after) 0 first checked.1 (node_header h logs shards was 0 first)
+            (header_of g.shape g.genesis 0) (subst (λ k. IsJournal (header_of g.shape g.genesis 0) (node_journals k now after 0)) shape (node_header g now after is 0 (subst (λ k. 0 < node_count k) (sym shape) first))) (grows 0),
         checked.1,
       )

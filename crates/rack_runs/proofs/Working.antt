@@ -11,18 +11,18 @@ use Rattle.recovery.specs.declared.resumed.ResumedBatch.{ResumedBatch}
 use Rattle.ledger_runs.specs.Turning.{IsLaneOf, OfKept, StaysKept}
 use Rattle.ledger_runs.specs.Flying.{FliesOn, Launches}
 use Rattle.ledger_runs.specs.Telling.{SamePrepared}
-use Rattle.ledger_runs.specs.Faults.{TakesInOrder, HaveFailed, MayHold, Nothing}
+use Rattle.ledger_runs.specs.Faults.{TakesInOrder, HaveFailed, MayHoldBytes, Nothing}
 use Rattle.ledger_runs.proofs.Faulting.{run_moves}
 use Rattle.ledger_runs.proofs.Keeping.{ledger_on}
 use Rattle.ledger_runs.proofs.Launching.{launches_by, launches_on}
 use Rattle.ledger_runs.proofs.Onward.{rests_told}
-use Rattle.file_runs.specs.Ledgers.{LedgerOf, journals, flights, faults, opened, capacity}
+use Rattle.file_runs.specs.Ledgers.{LedgerOf, ledger_journals, ledger_flights, ledger_faults, ledger_opened, ledger_capacity}
 use Rattle.file_runs.specs.Runs.{joined}
 use Rattle.file_runs.proofs.Filing.{kept_more}
 use Rattle.file_runs.proofs.Flying.{may_more}
 use Rattle.file_runs.proofs.Whole.{when_whole, of_whole, of_fault}
 use Rattle.rack_runs.specs.Resuming.{HasResumed}
-use Rattle.rack_runs.specs.Works.{Deed, IsBehind, IsOpenOnly, LeavesWork, EndsWell, EndsBadly, HasWorked, LeavesAll, AllWell, AllBadly, HasRun}
+use Rattle.rack_runs.specs.Works.{Deed, IsBehind, IsOpenOnly, LeavesWork, WorkEndsWell, EndsBadly, HasWorked, LeavesAll, AllWell, AllBadly, HasRunWork}
 use Rattle.rack_runs.proofs.Lent.{on_ok_by, if_ok_by, if_err_by}
 
 -- where nothing was prepared newly, all new records of kept journals are of batches that were open
@@ -52,9 +52,9 @@ module _ {Done : Type 0} (d : Deed Done) (K : Shape) (E M X : ℕ → List Recor
 
   -- and its fault is one of all
   badly_on : (opens counts holds : ℕ → ℕ) (e : LaneFault) → ((lane : ℕ) (txs : List Compact) → IsLaneOf K lane → d.next K M X lane txs → d.next K E X lane txs)
-      → EndsBadly d K M X (HaveFailed opens counts) (MayHold holds) e → AllBadly d K E X (HaveFailed opens counts) (MayHold holds) e
+      → EndsBadly d K M X (HaveFailed opens counts) (MayHoldBytes holds) e → AllBadly d K E X (HaveFailed opens counts) (MayHoldBytes holds) e
   badly_on opens counts holds e since b = record {
-    cause = run_moves K (d.next K M X) (d.next K E X) M E X (HaveFailed opens counts) (HaveFailed opens counts) (MayHold holds) (MayHold holds) behind.grows since (λ n did. did) (λ n c may. may) e b.cause;
+    cause = run_moves K (d.next K M X) (d.next K E X) M E X (HaveFailed opens counts) (HaveFailed opens counts) (MayHoldBytes holds) (MayHoldBytes holds) behind.grows since (λ n did. did) (λ n c may. may) e b.cause;
     ends = inr (
       M,
       behind.grows,
@@ -67,15 +67,15 @@ module _ {Done : Type 0} (d : Deed Done) (K : Shape) (E M X : ℕ → List Recor
 module _ {D Done : Type 0} (device : Ghosts D) (d : Deed Done) where
   -- a lane met a fault as open batches were brought to their end: no work was begun
   pub stopped_run : (before now : LedgerOf D) (resumed : List ResumedBatch) (came : Result (Vec ResumedBatch) LaneFault) (e : LaneFault) → came ≡ Err e
-      → HasResumed device before now came → HasRun device d before now resumed (Err e)
+      → HasResumed device before now came → HasRunWork device d before now resumed (Err e)
   stopped_run before now resumed came e is r =
       let K : Shape = before.header.shape in
-      let E : ℕ → List Record = journals before in
-      let M : ℕ → List Record = journals now in
-      let F : ℕ → Option Record = flights before in
-      let G : ℕ → Option Record = flights now in
-      let failed : ℕ → Type 0 = HaveFailed (opened now) (faults now) in
-      let holds : ℕ → ℕ → Type 0 = MayHold (capacity now) in
+      let E : ℕ → List Record = ledger_journals before in
+      let M : ℕ → List Record = ledger_journals now in
+      let F : ℕ → Option Record = ledger_flights before in
+      let G : ℕ → Option Record = ledger_flights now in
+      let failed : ℕ → Type 0 = HaveFailed (ledger_opened now) (ledger_faults now) in
+      let holds : ℕ → ℕ → Type 0 = MayHoldBytes (ledger_capacity now) in
       record {
         keeps_ledger = r.keeps_ledger;
         checked = r.checked;
@@ -101,18 +101,18 @@ module _ {D Done : Type 0} (device : Ghosts D) (d : Deed Done) where
   -- open batches are at their end, and the work was done behind that
   pub worked_run : (before middle now : LedgerOf D) (rs : Vec ResumedBatch) (came : Result (Vec ResumedBatch) LaneFault) (did : Result Done LaneFault) → came ≡ Ok rs
       → HasResumed device before middle came → HasWorked device d middle now did
-      → HasRun device d before now rs.items did
+      → HasRunWork device d before now rs.items did
   worked_run before middle now rs came did is r w =
       let K : Shape = before.header.shape in
-      let E : ℕ → List Record = journals before in
-      let M : ℕ → List Record = journals middle in
-      let X : ℕ → List Record = journals now in
-      let F : ℕ → Option Record = flights before in
-      let G : ℕ → Option Record = flights middle in
-      let L : ℕ → Option Record = flights now in
-      let opens : ℕ → ℕ = opened now in
-      let counts : ℕ → ℕ = faults now in
-      let holds : ℕ → ℕ = capacity now in
+      let E : ℕ → List Record = ledger_journals before in
+      let M : ℕ → List Record = ledger_journals middle in
+      let X : ℕ → List Record = ledger_journals now in
+      let F : ℕ → Option Record = ledger_flights before in
+      let G : ℕ → Option Record = ledger_flights middle in
+      let L : ℕ → Option Record = ledger_flights now in
+      let opens : ℕ → ℕ = ledger_opened now in
+      let counts : ℕ → ℕ = ledger_faults now in
+      let holds : ℕ → ℕ = ledger_capacity now in
       let same : middle.header.shape ≡ K = r.keeps_ledger.shape_same in
       let behind : IsBehind K E M = record {
         grows = r.grows;
@@ -127,8 +127,8 @@ module _ {D Done : Type 0} (device : Ghosts D) (d : Deed Done) where
         checked = w.checked;
         quiet = on_ok_by did (λ q was. q (when_whole came rs is r.quiet was)) w.quiet;
         leaves = leaves_on d K E M X (HaveFailed opens counts) behind F G L r.order r.flies r.launches leaves;
-        well = if_ok_by (EndsWell d middle.header.shape M X) (AllWell d K E X rs.items) did w.well
-            (λ a ends. record { middle = M; behind = behind; batches = of_whole _ came rs is r.told; well = subst (λ k. EndsWell d k M X a) same ends });
-        badly = if_err_by (EndsBadly d middle.header.shape M X (HaveFailed opens counts) (MayHold holds)) (AllBadly d K E X (HaveFailed opens counts) (MayHold holds)) did
-            (λ e ends. badly_on d K E M X (HaveFailed opens counts) behind opens counts holds e (leaves.since E behind) (subst (λ k. EndsBadly d k M X (HaveFailed opens counts) (MayHold holds) e) same ends)) w.badly;
+        well = if_ok_by (WorkEndsWell d middle.header.shape M X) (AllWell d K E X rs.items) did w.well
+            (λ a ends. record { middle = M; behind = behind; batches = of_whole _ came rs is r.told; well = subst (λ k. WorkEndsWell d k M X a) same ends });
+        badly = if_err_by (EndsBadly d middle.header.shape M X (HaveFailed opens counts) (MayHoldBytes holds)) (AllBadly d K E X (HaveFailed opens counts) (MayHoldBytes holds)) did
+            (λ e ends. badly_on d K E M X (HaveFailed opens counts) behind opens counts holds e (leaves.since E behind) (subst (λ k. EndsBadly d k M X (HaveFailed opens counts) (MayHoldBytes holds) e) same ends)) w.badly;
       }

@@ -11,7 +11,7 @@ use Rattle.submissions.specs.Checks.{VerdictsOf}
 use Rattle.ledger_runs.specs.Telling.{SamePrepared}
 use Rattle.ledger_runs.specs.Faults.{TakesInOrder}
 use Rattle.ledger_runs.specs.Least.{IsLeastOpen}
-use Rattle.file_runs.specs.Endings.{EndsFiles, AreCut}
+use Rattle.file_runs.specs.Endings.{EndsFiles, AreRunOrCut}
 use Rattle.rack_runs.specs.Kinds.{answer_to}
 
 -- from journals E at entry to X: nothing was prepared newly, and it is the least lane's that met one as open batches were brought to their end; or these
@@ -30,5 +30,5 @@ abbrev pub IsInOrder : Shape → (ℕ → List Record) → (ℕ → List Record)
 IsInOrder K E X = (middle : ℕ → List Record) × TakesInOrder K E middle × (((n : ℕ) → X n ≡ middle n) ⊎ (AreIdle K middle × ((n : ℕ) → IsEnd (middle n) (X n))))
 
 -- from kept journals E to X a run came through or was cut short: nothing was prepared newly; or there are files, and they were run or cut short
-abbrev pub IsCut : Shape → (FullTx → Bool) → List (List FullTx) → List Output → (ℕ → List Record) → (ℕ → List Record) → Type 0
-IsCut K sound files mint E X = SamePrepared K E X ⊎ ((0 < length files) × AreCut K sound files mint E X)
+abbrev pub IsRunOrCut : Shape → (FullTx → Bool) → List (List FullTx) → List Output → (ℕ → List Record) → (ℕ → List Record) → Type 0
+IsRunOrCut K sound files mint E X = SamePrepared K E X ⊎ ((0 < length files) × AreRunOrCut K sound files mint E X)

@@ -12,7 +12,7 @@ use Rattle.cbdc_model.specs.Headline.{Headline}
 use Rattle.cbdc_model.specs.Waves.{Adds, has_prepare, has_done, IsResumed, Waves}
 use Rattle.lane_driver.specs.declared.fault.LaneFault.{LaneFault}
 use Rattle.record_log.specs.Held.{OpensToEither}
-use Rattle.rack_laws.specs.Shown.{OfShown, KeepsEach, HoldsEach, AreLeft, OpenTo, HaveRoom, node_count}
+use Rattle.rack_laws.specs.Shown.{OfShown, KeepsEach, HoldsEach, AreImagesLeft, OpenTo, HaveRoom, node_count}
 use Rattle.submissions.specs.Checks.{VerdictsOf, TellsSound}
 use Rattle.submissions.specs.SoundTest.{sound_by}
 use Rattle.rack_ledgers.specs.Racked.{OfTold, SameRoom}
@@ -20,7 +20,7 @@ use Rattle.rack_ledgers.specs.Caused.{IsCausedLedger}
 use Rattle.rack_ledgers.specs.RefusalLaws.{AllTell}
 use Rattle.ledger_runs.specs.Turning.{IsLaneOf, OfKept}
 use Rattle.ledger_runs.specs.Faults.{AllRestSince}
-use Rattle.ledger_runs.specs.Pieces.{HasPrepared}
+use Rattle.ledger_runs.specs.Pieces.{HasPreparedPieces}
 use Rattle.file_runs.specs.Runs.{joined, HaveBegunFiles, IsFilesPiece}
 use Rattle.file_runs.specs.Endings.{HasBegunFirst}
 use Rattle.rack_runs.specs.Kinds.{IsLaneAnswer, MayComeNext, StaysCaused}
@@ -45,7 +45,7 @@ pub record IsRun {D : Type 0} (device : Ghosts D) (held : ℕ → Option D) (ver
 
 -- a recovery: the open batches are brought to their end, lane by lane in rising order, nothing else is done, each disk holds its journal and no record more and
 -- has room for it and for what is kept, and the sentence holds of the journals
-pub record IsRecovered {D : Type 0} (device : Ghosts D) (held : ℕ → Option D) (K : Shape) (mint : List Output) (submissions : List FullTx) (E : ℕ → List Record) : Type 0 where
+pub record IsRecovery {D : Type 0} (device : Ghosts D) (held : ℕ → Option D) (K : Shape) (mint : List Output) (submissions : List FullTx) (E : ℕ → List Record) : Type 0 where
   pub exit : ℕ → List Record
   pub grown : IsGrown K mint submissions E exit
   pub disks : HoldsEach device held K exit
@@ -58,7 +58,7 @@ pub record IsRecovered {D : Type 0} (device : Ghosts D) (held : ℕ → Option D
 -- and for what is kept for the batches that are open there
 abbrev pub SurvivesCrashes : {D : Type 0} → Ghosts D → (ℕ → Option D) → Shape → List Output → List FullTx → (ℕ → List Record) → Type 0
 SurvivesCrashes device held K mint submissions E =
-    (contents : ℕ → List ℕ) → AreLeft device held K contents → (X : ℕ → List Record) × OpenTo held K contents X × IsGrown K mint submissions E X × HaveRoom device held K X
+    (contents : ℕ → List ℕ) → AreImagesLeft device held K contents → (X : ℕ → List Record) × OpenTo held K contents X × IsGrown K mint submissions E X × HaveRoom device held K X
 
 -- a run that a lane's fault cut short: each disk keeps its journal at exit, with one record more or without, and has room for it and for what is kept
 -- for the batches that are open there; and whatever a crash leaves of the disks is kept
@@ -144,7 +144,7 @@ IsCutWaves K sound files E X =
 -- no lane has prepared anything, and where the journals at entry are kept all new records are of batches that were open; these are taken up in the
 -- order of their lanes
 abbrev pub NonePrepared : Shape → (ℕ → List Record) → (ℕ → List Record) → Type 0
-NonePrepared K E X = ((lane : ℕ) → IsLaneOf K lane → HasPrepared K lane [] E X) × OfKept K E (λ _ _. AddsOpen K E X) × IsInOrder K E X
+NonePrepared K E X = ((lane : ℕ) → IsLaneOf K lane → HasPreparedPieces K lane [] E X) × OfKept K E (λ _ _. AddsOpen K E X) × IsInOrder K E X
 
 -- no lane has prepared anything but the first pieces of what these files send it, and where the journals at entry are kept the new records keep the
 -- order of open batches and files; the open batches are taken up in the order of their lanes

@@ -18,12 +18,12 @@ use Rattle.ledger_runs.specs.Turning.{IsLaneOf, OfKept, StaysKept}
 use Rattle.ledger_runs.specs.Flying.{Launches}
 use Rattle.ledger_runs.specs.Telling.{SamePrepared, TellResumed}
 use Rattle.ledger_runs.specs.Least.{IsLeastOpen}
-use Rattle.ledger_runs.specs.Faults.{IsRunCause, HaveFailed, MayHold, AllRest, AllRestSince}
-use Rattle.file_runs.specs.Ledgers.{LedgerOf, journals, flights, faults, opened, capacity, IsChecked, IsQuiet, KeepsLedgerOf}
+use Rattle.ledger_runs.specs.Faults.{IsRunCause, HaveFailed, MayHoldBytes, LanesRest, AllRestSince}
+use Rattle.file_runs.specs.Ledgers.{LedgerOf, ledger_journals, ledger_flights, ledger_faults, ledger_opened, ledger_capacity, IsChecked, IsLedgerQuiet, KeepsLedgerOf}
 use Rattle.file_runs.specs.Runs.{joined, FliesWith}
 use Rattle.rack_ledgers.specs.Places.{EachFrom, MayReturn}
 use Rattle.rack_ledgers.specs.Ledgers.{ByPlace, AreOpened}
-use Rattle.rack_ledgers.specs.Caused.{journals_of as told_journals, AreCaused}
+use Rattle.rack_ledgers.specs.Caused.{listed_journals as told_journals, AreCaused}
 use Rattle.rack_laws.specs.Shown.{OfShown, HoldsEach, NodeHasRoom, NodeFits, HaveRoom, node_count}
 use Rattle.printed_lines.specs.Unspent.{IsUnspentCount}
 use Rattle.rack_runs.specs.Kinds.{FliesBroken}
@@ -47,8 +47,8 @@ abbrev pub FitsBatch : Shape → List Compact → Type 0
 FitsBatch K txs = HasSize K txs × All IsCompact txs
 
 -- whatever may be next for a lane fits a batch
-abbrev pub AllFit : {Done : Type 0} → Deed Done → Type 0
-AllFit d = (K : Shape) (E X : ℕ → List Record) (lane : ℕ) (txs : List Compact) → d.next K E X lane txs → FitsBatch K txs
+abbrev pub AllNextFit : {Done : Type 0} → Deed Done → Type 0
+AllNextFit d = (K : Shape) (E X : ℕ → List Record) (lane : ℕ) (txs : List Compact) → d.next K E X lane txs → FitsBatch K txs
 
 -- ---- the resuming, and the work behind it
 
@@ -69,12 +69,12 @@ pub record LeavesWork {Done : Type 0} (d : Deed Done) (K : Shape) (M X : ℕ →
   pub keeps : OfKept K M (λ mint submissions. StaysKept K M X mint (submissions ++ joined d.handed))
   pub flies : OfKept K M (FliesWith K (joined d.handed) M X before after)
   pub launches : Launches K (d.next K M X) M X before after
-  pub rests : AllRest K X failed
+  pub rests : LanesRest K X failed
   pub since : (E : ℕ → List Record) → IsBehind K E M → (lane : ℕ) (txs : List Compact) → IsLaneOf K lane → d.next K M X lane txs → d.next K E X lane txs
   pub begun : IsWithinLimits K → (E : ℕ → List Record) → IsBehind K E M → d.begun K E X
 
 -- it came through
-pub record EndsWell {Done : Type 0} (d : Deed Done) (K : Shape) (M X : ℕ → List Record) (done : Done) : Type 0 where
+pub record WorkEndsWell {Done : Type 0} (d : Deed Done) (K : Shape) (M X : ℕ → List Record) (done : Done) : Type 0 where
   pub idle : AreIdle K X
   pub did : d.did K M X done
 
@@ -88,12 +88,12 @@ pub record HasWorked {D Done : Type 0} (device : Ghosts D) (d : Deed Done)
     (before now : LedgerOf D) (came : Result Done LaneFault) : Type 0 where
   pub keeps_ledger : KeepsLedgerOf device before now
   pub checked : IsChecked now
-  pub quiet : OnOk came (IsQuiet before → IsQuiet now)
-  pub leaves : LeavesWork d before.header.shape (journals before) (journals now) (flights before) (flights now)
-      (HaveFailed (opened now) (faults now))
-  pub well : IfOk came (EndsWell d before.header.shape (journals before) (journals now))
-  pub badly : IfErr came (EndsBadly d before.header.shape (journals before) (journals now)
-      (HaveFailed (opened now) (faults now)) (MayHold (capacity now)))
+  pub quiet : OnOk came (IsLedgerQuiet before → IsLedgerQuiet now)
+  pub leaves : LeavesWork d before.header.shape (ledger_journals before) (ledger_journals now) (ledger_flights before) (ledger_flights now)
+      (HaveFailed (ledger_opened now) (ledger_faults now))
+  pub well : IfOk came (WorkEndsWell d before.header.shape (ledger_journals before) (ledger_journals now))
+  pub badly : IfErr came (EndsBadly d before.header.shape (ledger_journals before) (ledger_journals now)
+      (HaveFailed (ledger_opened now) (ledger_faults now)) (MayHoldBytes (ledger_capacity now)))
 
 -- ---- the resuming and the work, from journals E at entry to X
 
@@ -108,20 +108,20 @@ abbrev pub BeginsWork : {Done : Type 0} → Deed Done → Shape → (ℕ → Lis
 BeginsWork d K E X = (IsOpenOnly K E X ⊎ d.begun K E X) × IsInOrder K E X
 
 -- the fault ended the work, by counts of faults and by capacities that tell no more than what is known of the disks
-pub record EndsBy {Done : Type 0} (d : Deed Done) (K : Shape) (M X : ℕ → List Record) (failed : ℕ → Type 0) (may_hold : ℕ → ℕ → Type 0) (e : LaneFault) : Type 0 where
+pub record WorkEndsBy {Done : Type 0} (d : Deed Done) (K : Shape) (M X : ℕ → List Record) (failed : ℕ → Type 0) (may_hold : ℕ → ℕ → Type 0) (e : LaneFault) : Type 0 where
   pub opened_at : ℕ → ℕ
   pub faults_at : ℕ → ℕ
   pub capacity_at : ℕ → ℕ
   pub fails : (n : ℕ) → n < node_count K → HaveFailed opened_at faults_at n → failed n
-  pub holds : (n c : ℕ) → n < node_count K → MayHold capacity_at n c → may_hold n c
-  pub ends : d.ends K M X (HaveFailed opened_at faults_at) (MayHold capacity_at) e
+  pub holds : (n c : ℕ) → n < node_count K → MayHoldBytes capacity_at n c → may_hold n c
+  pub ends : d.ends K M X (HaveFailed opened_at faults_at) (MayHoldBytes capacity_at) e
 
 -- nothing was prepared newly, and it is the least lane's that met one as open batches were brought to their end; or these are at their end, nothing was
 -- prepared newly meanwhile, and it ended the work behind that
 abbrev pub EndsWork : {Done : Type 0} → Deed Done → Shape → (ℕ → List Record) → (ℕ → List Record) → (ℕ → Type 0) → (ℕ → ℕ → Type 0) → LaneFault → Type 0
 EndsWork d K E X failed may_hold e =
     (SamePrepared K E X × IsLeastOpen K E X failed may_hold e)
-    ⊎ ((middle : ℕ → List Record) × ((n : ℕ) → IsEnd (E n) (middle n)) × SamePrepared K E middle × AreIdle K middle × EndsBy d K middle X failed may_hold e)
+    ⊎ ((middle : ℕ → List Record) × ((n : ℕ) → IsEnd (E n) (middle n)) × SamePrepared K E middle × AreIdle K middle × WorkEndsBy d K middle X failed may_hold e)
 
 -- whatever came: as `LeavesWork`, from the journals at entry
 pub record LeavesAll {Done : Type 0} (d : Deed Done) (K : Shape) (E X : ℕ → List Record) (before after : ℕ → Option Record) (failed : ℕ → Type 0) : Type 0 where
@@ -137,7 +137,7 @@ pub record AllWell {Done : Type 0} (d : Deed Done) (K : Shape) (E X : ℕ → Li
   pub middle : ℕ → List Record
   pub behind : IsBehind K E middle
   pub batches : OfKept K E (λ _ _. TellResumed K E middle (K.coordinators * K.lanes) resumed)
-  pub well : EndsWell d K middle X done
+  pub well : WorkEndsWell d K middle X done
 
 -- a lane's fault ended it
 pub record AllBadly {Done : Type 0} (d : Deed Done) (K : Shape) (E X : ℕ → List Record) (failed : ℕ → Type 0) (may_hold : ℕ → ℕ → Type 0) (e : LaneFault) : Type 0 where
@@ -145,16 +145,16 @@ pub record AllBadly {Done : Type 0} (d : Deed Done) (K : Shape) (E X : ℕ → L
   pub ends : EndsWork d K E X failed may_hold e
 
 -- The open batches of a ledger were brought to their end, and a work was done: what the ledger is behind it, and what came of it.
-pub record HasRun {D Done : Type 0} (device : Ghosts D) (d : Deed Done)
+pub record HasRunWork {D Done : Type 0} (device : Ghosts D) (d : Deed Done)
     (before now : LedgerOf D) (resumed : List ResumedBatch) (came : Result Done LaneFault) : Type 0 where
   pub keeps_ledger : KeepsLedgerOf device before now
   pub checked : IsChecked now
-  pub quiet : OnOk came (IsQuiet before → IsQuiet now)
-  pub leaves : LeavesAll d before.header.shape (journals before) (journals now) (flights before) (flights now)
-      (HaveFailed (opened now) (faults now))
-  pub well : IfOk came (AllWell d before.header.shape (journals before) (journals now) resumed)
-  pub badly : IfErr came (AllBadly d before.header.shape (journals before) (journals now)
-      (HaveFailed (opened now) (faults now)) (MayHold (capacity now)))
+  pub quiet : OnOk came (IsLedgerQuiet before → IsLedgerQuiet now)
+  pub leaves : LeavesAll d before.header.shape (ledger_journals before) (ledger_journals now) (ledger_flights before) (ledger_flights now)
+      (HaveFailed (ledger_opened now) (ledger_faults now))
+  pub well : IfOk came (AllWell d before.header.shape (ledger_journals before) (ledger_journals now) resumed)
+  pub badly : IfErr came (AllBadly d before.header.shape (ledger_journals before) (ledger_journals now)
+      (HaveFailed (ledger_opened now) (ledger_faults now)) (MayHoldBytes (ledger_capacity now)))
 
 -- what a node says of itself: its count of faults and its capacity are its disk's, which has room for its journal, for what is kept for its open batches and
 -- for what is in flight; and a record is in flight only where the disk failed
@@ -184,7 +184,7 @@ abbrev pub entry_ledger : {D : Type 0} → AtEntry D → LedgerOf D
 entry_ledger e = record { header = e.header; logs = e.logs; shards = e.shards }
 
 -- all nodes of the ledger that the rack told were opened, each record of it is caused, and their disks may be put back
-pub record IsOpen {D : Type 0} (device : Ghosts D) (e : AtEntry D) (held : ℕ → Option D)
+pub record IsLedgerOpened {D : Type 0} (device : Ghosts D) (e : AtEntry D) (held : ℕ → Option D)
     (can_put : ℕ → ℕ → Type 0) (can_take : ℕ → Type 0) : Type 0 where
   pub nodes : AreOpened device e.held e.header e.logs e.shards
   pub caused : AreCaused e.header.shape (told_journals e.logs e.shards)
@@ -197,14 +197,14 @@ pub record IsOpen {D : Type 0} (device : Ghosts D) (e : AtEntry D) (held : ℕ �
   pub others_in : (n : ℕ) → length e.logs + length e.shards ≤ n → can_take n
 
 -- they were opened, their open batches were brought to their end, and a work was done
-pub record HasCome {D Done : Type 0} (device : Ghosts D) (d : Deed Done) (e : AtEntry D) (held : ℕ → Option D)
+pub record HasOpenedAndRun {D Done : Type 0} (device : Ghosts D) (d : Deed Done) (e : AtEntry D) (held : ℕ → Option D)
     (can_put : ℕ → ℕ → Type 0) (can_take : ℕ → Type 0) (ledger : LedgerOf D) (resumed : List ResumedBatch) (came : Result Done LaneFault) : Type 0 where
-  pub begun : IsOpen device e held can_put can_take
-  pub ran : HasRun device d (entry_ledger e) ledger resumed came
+  pub begun : IsLedgerOpened device e held can_put can_take
+  pub ran : HasRunWork device d (entry_ledger e) ledger resumed came
 
 -- where the ledger that the disks told was kept: it came through, each disk holds its journal and no record more and has room for it and for what is
 -- kept, open batches were taken up in the order of their lanes, so many hashes are unspent now, and the sentence holds of the journals
-pub record HasEnded {D Done : Type 0} (device : Ghosts D) (held : ℕ → Option D) (d : Deed Done) (told : Told Done)
+pub record HasEndedWork {D Done : Type 0} (device : Ghosts D) (held : ℕ → Option D) (d : Deed Done) (told : Told Done)
     (K : Shape) (mint : List Output) (submissions : List FullTx) (E : ℕ → List Record) : Type 0 where
   pub exit : ℕ → List Record
   pub well : AllWell d K E exit told.resumed.items told.done
@@ -216,8 +216,8 @@ pub record HasEnded {D Done : Type 0} (device : Ghosts D) (held : ℕ → Option
   pub headline : Clean mint (submissions ++ joined d.handed) → Headline K mint (submissions ++ joined d.handed) exit
 
 -- A work was done over the ledger on a rack: what came of it, and what that leaves of the disks.
-pub record HasDone {D Done : Type 0} (device : Ghosts D) (held back : ℕ → Option D)
+pub record HasDoneWork {D Done : Type 0} (device : Ghosts D) (held back : ℕ → Option D)
     (before now : ℕ → ℕ) (d : Deed Done) (came : Result (Told Done) Answer) : Type 0 where
   pub caused : OnOk came (TookLedger device held back)
-  pub ended : IfOk came (λ told. OfShown device held (HasEnded device back d told))
+  pub ended : IfOk came (λ told. OfShown device held (HasEndedWork device back d told))
   pub stopped : IfErr came (WhyNoTurns device held back before now d.next (EndsWork d) (BeginsWork d) d.handed)

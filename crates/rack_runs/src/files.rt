@@ -2,7 +2,7 @@
 ghost use Rattle.std.specs.Prelude.{All};
 ghost use Rattle.cbdc_model.specs.World.{AreIdle};
 ghost use Rattle.input_files.specs.Limits.{IsShort};
-ghost use Rattle.file_runs.specs.Ledgers.{journals, IsChecked};
+ghost use Rattle.file_runs.specs.Ledgers.{ledger_journals, IsChecked};
 ghost use Rattle.rack_runs.specs.Works.{HasWorked};
 ghost use Rattle.rack_runs.specs.Deeds.{files_deed, no_deed};
 
@@ -48,7 +48,7 @@ pub(crate) fn work_files<
     options: RunOptions,
     gate: &G,
 ) -> Worked<D, Vec<Wave>>
-    requires idle { AreIdle ledger.header.shape (journals ledger) }
+    requires idle { AreIdle ledger.header.shape (ledger_journals ledger) }
     requires short { All (λ txs. All IsShort txs) files.now }
     requires checked { IsChecked ledger }
     ensures { HasWorked D.Disk (files_deed (V.verdict_of verifier.now) files.now) ledger result.ledger result.came }
@@ -79,7 +79,7 @@ impl Work for NoWork {
 
 /// Gives a ledger with no open batch back.
 pub(crate) fn work_none<D: Disk>(ledger: Ledger<D>) -> Worked<D, ()>
-    requires idle { AreIdle ledger.header.shape (journals ledger) }
+    requires idle { AreIdle ledger.header.shape (ledger_journals ledger) }
     requires checked { IsChecked ledger }
     ensures { HasWorked D.Disk no_deed ledger result.ledger result.came }
 {

@@ -4,14 +4,14 @@ ghost use Rattle.input_files.specs.Limits.{IsShort};
 ghost use Rattle.rack_ledgers.specs.Racked.{AreBack};
 ghost use Rattle.rack_ledgers.specs.Caused.{IsUnresumed};
 ghost use Rattle.rack_laws.specs.Shown.{OfShown};
-ghost use Rattle.file_runs.specs.Ledgers.{journals};
+ghost use Rattle.file_runs.specs.Ledgers.{ledger_journals};
 ghost use Rattle.ledger_runs.specs.Least.{IsLeastOpen};
 ghost use Rattle.rack_runs.specs.Endings.{EndsRun};
 ghost use Rattle.rack_runs.specs.Resuming.{HasResumed};
-ghost use Rattle.rack_runs.specs.Runs.{IsRun, IsRecovered, IsLaneFault, TookLedger, NonePrepared, NothingNext, PieceNext, PiecesPrepared};
-ghost use Rattle.rack_runs.specs.Telling.{IsTold};
+ghost use Rattle.rack_runs.specs.Runs.{IsRun, IsRecovery, IsLaneFault, TookLedger, NonePrepared, NothingNext, PieceNext, PiecesPrepared};
+ghost use Rattle.rack_runs.specs.Telling.{IsRunTold};
 ghost use Rattle.rack_runs.specs.Tests.{WhyNotBegun};
-ghost use Rattle.rack_runs.specs.Works.{AllFit, AtEntry, entry_ledger, IsOpen, HasCome, HasDone};
+ghost use Rattle.rack_runs.specs.Works.{AllNextFit, AtEntry, entry_ledger, IsLedgerOpened, HasOpenedAndRun, HasDoneWork};
 ghost use Rattle.submissions.specs.Checks.{VerdictsOf};
 
 use crate::faults::answer_of;
@@ -46,13 +46,13 @@ pub fn begin_on<W: Wait + Threads + Sync, R: Rack, K: Work, G: Gate>(
 where
     R::Disk: Send,
     requires all { (n : ℕ) → R.can_take rack.old n }
-    requires fit { AllFit (K.deed work.now) }
+    requires fit { AllNextFit (K.deed work.now) }
     // The nodes were opened as the rack told them at entry, and each record is caused; what the ledger is behind the resuming; and as it was at entry
     // the work's own test let it pass.
     ensures begun { IfOk result (λ b. (e : AtEntry R.Disk) × (e.held ≡ R.held rack.old) × (e.before ≡ R.count rack.old)
-        × IsOpen R.Disk.Disk e (R.held rack.new) (R.can_put rack.new) (R.can_take rack.new)
+        × IsLedgerOpened R.Disk.Disk e (R.held rack.new) (R.can_put rack.new) (R.can_take rack.new)
         × HasResumed R.Disk.Disk (entry_ledger e) b.ledger (Ok b.resumed)
-        × (K.tests work.now).passes e.header.shape (journals (entry_ledger e))) }
+        × (K.tests work.now).passes e.header.shape (ledger_journals (entry_ledger e))) }
 
     // The nodes could not be opened, or a record is not caused, and the disks are back; or a lane met a fault; or the work's own test refuses the
     // ledger, and the disks are back unchanged.
@@ -89,12 +89,12 @@ pub fn end_on<R: Rack, K: Work>(
     came: Result<K::Done, LaneFault>,
 ) -> Result<Told<K::Done>, Answer>
     // The ledger was begun so on this rack, and the work was done behind that.
-    requires come { (e : AtEntry R.Disk) × HasCome R.Disk.Disk (K.deed work.now) e
+    requires come { (e : AtEntry R.Disk) × HasOpenedAndRun R.Disk.Disk (K.deed work.now) e
         (R.held rack.old) (R.can_put rack.old) (R.can_take rack.old) ledger resumed.items came }
-    requires fit { AllFit (K.deed work.now) }
-    ensures done { (e : AtEntry R.Disk) → HasCome R.Disk.Disk (K.deed work.now) e
+    requires fit { AllNextFit (K.deed work.now) }
+    ensures done { (e : AtEntry R.Disk) → HasOpenedAndRun R.Disk.Disk (K.deed work.now) e
         (R.held rack.old) (R.can_put rack.old) (R.can_take rack.old) ledger resumed.items came
-        → HasDone R.Disk.Disk e.held (R.held rack.new) e.before (R.count rack.new) (K.deed work.now) result }
+        → HasDoneWork R.Disk.Disk e.held (R.held rack.new) e.before (R.count rack.new) (K.deed work.now) result }
     ensures back { (n : ℕ) → R.can_take rack.new n }
     ensures later { (n : ℕ) → R.count rack.old n ≤ R.count rack.new n }
 {
@@ -159,7 +159,7 @@ where
     ensures ran { OnOk result (OfShown R.Disk.Disk (R.held rack.old) (IsRun R.Disk.Disk (R.held rack.new) (V.verdict_of verifier.now) files.now)) }
 
     // And what was done is told: the batches that were open, what came of each submission, and how many hashes are unspent now.
-    ensures told { IfOk result (λ r. OfShown R.Disk.Disk (R.held rack.old) (IsTold R.Disk.Disk (R.held rack.new) (V.verdict_of verifier.now) files.now r)) }
+    ensures told { IfOk result (λ r. OfShown R.Disk.Disk (R.held rack.old) (IsRunTold R.Disk.Disk (R.held rack.new) (V.verdict_of verifier.now) files.now r)) }
 
     // The nodes could not be opened, or a record is not caused, and the disks are back; or the rack showed such a ledger and a lane met a
     // fault, which has its cause and is that of the least lane that met one: what a lane wants may come next where it would stand, journals have
@@ -196,8 +196,8 @@ where
     R::Disk: Send,
     requires all { (n : ℕ) → R.can_take rack.old n }
     ensures caused { OnOk result (TookLedger R.Disk.Disk (R.held rack.old) (R.held rack.new)) }
-    ensures recovered { OnOk result (OfShown R.Disk.Disk (R.held rack.old) (IsRecovered R.Disk.Disk (R.held rack.new))) }
-    ensures told { IfOk result (λ r. (verdicts : VerdictsOf) × OfShown R.Disk.Disk (R.held rack.old) (IsTold R.Disk.Disk (R.held rack.new) verdicts [] r)) }
+    ensures recovered { OnOk result (OfShown R.Disk.Disk (R.held rack.old) (IsRecovery R.Disk.Disk (R.held rack.new))) }
+    ensures told { IfOk result (λ r. (verdicts : VerdictsOf) × OfShown R.Disk.Disk (R.held rack.old) (IsRunTold R.Disk.Disk (R.held rack.new) verdicts [] r)) }
     ensures stopped { IfErr result (λ e. (IsUnresumed R.Disk.Disk (R.held rack.old) (R.count rack.old) (R.count rack.new) e
         × AreBack R.Disk.Disk (R.count rack.old) (R.count rack.new) (R.held rack.old) (R.held rack.new))
         ⊎ (IsLaneFault R.Disk.Disk (R.held rack.old) (R.held rack.new) (R.count rack.old) (R.count rack.new) NothingNext IsLeastOpen NonePrepared [] e)) }

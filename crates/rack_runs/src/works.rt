@@ -1,6 +1,6 @@
 // What a command that resumes does over a ledger.
 ghost use Rattle.std.specs.Prelude.{◌≡◌, ◌⊎◌, IfErr, OnOk};
-ghost use Rattle.file_runs.specs.Ledgers.{journals, IsChecked};
+ghost use Rattle.file_runs.specs.Ledgers.{ledger_journals, IsChecked};
 ghost use Rattle.rack_runs.specs.Works.{Deed};
 ghost use Rattle.rack_runs.specs.Tests.{Test, no_test};
 
@@ -27,8 +27,8 @@ pub trait Work {
     /// `refuses` holds of them and of the answer.
     fn test<D: Disk>(&self, alloc: Global, ledger: &Ledger<D>) -> Result<(), Answer>
         requires { IsChecked ledger.now }
-        ensures passes { OnOk result ((tests self.now).passes ledger.now.header.shape (journals ledger.now)) }
-        ensures refuses { IfErr result (λ a. (a ≡ Answer.Memory) ⊎ (tests self.now).refuses ledger.now.header.shape (journals ledger.now) a) };
+        ensures passes { OnOk result ((tests self.now).passes ledger.now.header.shape (ledger_journals ledger.now)) }
+        ensures refuses { IfErr result (λ a. (a ≡ Answer.Memory) ⊎ (tests self.now).refuses ledger.now.header.shape (ledger_journals ledger.now) a) };
 }
 
 /// A ledger with no open batch, and the batches that an earlier command had left open, in rising order of their lanes.

@@ -20,7 +20,7 @@ use Rattle.file_runs.specs.Telling.{TellsFile, TellFiles}
 use Rattle.file_runs.specs.declared.waves.Wave.{Wave}
 use Rattle.printed_lines.specs.declared.report.Report.{Report}
 use Rattle.printed_lines.specs.Decided.{batches_below, new_batches}
-use Rattle.run_command.specs.Told.{told_of, one_if, told_count, told_total, batches_in, batches_told}
+use Rattle.run_command.specs.Told.{told_report, one_where, told_count, told_total, batches_in, batches_told}
 use Rattle.run_command.proofs.Decisions.{Came, by_file, added_is}
 
 -- ---- no more than there are transactions
@@ -46,7 +46,7 @@ sent_few K sound file lane =
     let c = share_few (K.coordinators * K.lanes) lane 0 file in
     omega (arith, a, b, c)
 
-one_few : (test : Report → Bool) (r : Option Report) → one_if test r ≤ 1
+one_few : (test : Report → Bool) (r : Option Report) → one_where test r ≤ 1
 one_few test None = omega arith
 one_few test (Some r) = elim (test r) as (λ b. (if b then 1 else 0) ≤ 1) [
   | true ↦ omega arith
@@ -55,7 +55,7 @@ one_few test (Some r) = elim (test r) as (λ b. (if b then 1 else 0) ≤ 1) [
 
 count_few : (test : Report → Bool) (lanes : List Lane) (cs : List Checked) → told_count test lanes cs ≤ length cs
 count_few test lanes [] = omega arith
-count_few test lanes (c ∷ cs) = let a = one_few test (told_of lanes c.judgement) in let b = count_few test lanes cs in omega (arith, a, b)
+count_few test lanes (c ∷ cs) = let a = one_few test (told_report lanes c.judgement) in let b = count_few test lanes cs in omega (arith, a, b)
 
 pub total_few : (K : Shape) (verdicts : VerdictsOf) (test : Report → Bool) (files : List (List FullTx)) (I J : ℕ → List Record) (ws : List Wave) → TellFiles K verdicts files I J ws → told_total test ws ≤ all_txs files
 total_few K verdicts test [] I J ws told = subst (λ l. told_total test l ≤ 0) (sym told.0) (omega arith)

@@ -6,7 +6,7 @@ use Rattle.requests.specs.declared.FileWord.{FileWord}
 use Rattle.line_text.specs.Lines.{Text}
 use Rattle.input_files.specs.Inputs.{AreNoInputs}
 use Rattle.input_files.specs.Contents.{IsNoVerdicts}
-use Rattle.command_answers.specs.Causes.{IsFault, OnePlace, OneRose, FileRose}
+use Rattle.command_answers.specs.Causes.{IsReadOrNodeFault, OnePlace, OneRose, FileRose}
 use Rattle.command_answers.proofs.Answers.{first_fault}
 
 module _ (held : Text → Option (List ℕ)) (before now : Text → ℕ) (clients : List FileWord) (verdicts : FileWord) where
@@ -16,7 +16,7 @@ module _ (held : Text → Option (List ℕ)) (before now : Text → ℕ) (client
   abbrev rose : ℕ → Type 0
   rose place = OneRose before now clients place ⊎ FileRose before now verdicts place
 
-  verdicts_fault : (a : Answer) → IsNoVerdicts verdicts.place (held verdicts.name.now) (before verdicts.name.now) (now verdicts.name.now) a → IsFault named rose a
+  verdicts_fault : (a : Answer) → IsNoVerdicts verdicts.place (held verdicts.name.now) (before verdicts.name.now) (now verdicts.name.now) a → IsReadOrNodeFault named rose a
   verdicts_fault answers.Ok is = absurd is
   verdicts_fault answers.BadWords is = absurd is
   verdicts_fault (answers.BadInput file at kind) is = inr is.0
@@ -33,7 +33,7 @@ module _ (held : Text → Option (List ℕ)) (before now : Text → ℕ) (client
   verdicts_fault (answers.DiskFault k) is = absurd is
   verdicts_fault answers.Memory is = tt
 
-  pub no_inputs_fault : (a : Answer) → AreNoInputs held before now clients verdicts a → IsFault (λ place. OnePlace clients place ⊎ (place ≡ verdicts.place)) (λ place. OneRose before now clients place ⊎ FileRose before now verdicts place) a
+  pub no_inputs_fault : (a : Answer) → AreNoInputs held before now clients verdicts a → IsReadOrNodeFault (λ place. OnePlace clients place ⊎ (place ≡ verdicts.place)) (λ place. OneRose before now clients place ⊎ FileRose before now verdicts place) a
   no_inputs_fault a are = elim are [
     | inl first ↦ first_fault held before now clients named rose (λ place one. inl one) (λ place one. inl one) a first
     | inr all ↦ verdicts_fault a all.2

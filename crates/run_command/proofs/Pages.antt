@@ -5,7 +5,7 @@ use Rattle.outside.specs.Images.{Tells}
 use Rattle.line_text.specs.Lines.{Text, Prints}
 use Rattle.line_text.proofs.PieceLemmas.{prints_then}
 use Rattle.command_answers.proofs.Parts.{Goes, part_more, part_cut}
-use Rattle.run_command.specs.Pages.{Gathers}
+use Rattle.run_command.specs.Pages.{GathersText}
 
 some_is : {A : Type 0} (a b : A) → Some a ≡ Some b → a ≡ b
 some_is a b e = cc
@@ -17,7 +17,7 @@ cut_back waited half text off =
     ap (take (length waited)) (some_is half (waited ++ take n text) front) ∙ take_at waited (take n text) (length waited) refl
 
 -- what waited was written, and the text behind it
-pub all_out : {E : Type 0} (old mid new : Option Text) (waited waits text : Text) (r : Result (Unit {0}) E) → waits ≡ [] → Tells old (λ t. mid ≡ Some (t ++ waited)) → Prints mid new text r → Gathers old waited new waits text r
+pub all_out : {E : Type 0} (old mid new : Option Text) (waited waits text : Text) (r : Result (Unit {0}) E) → waits ≡ [] → Tells old (λ t. mid ≡ Some (t ++ waited)) → Prints mid new text r → GathersText old waited new waits text r
 all_out {E} old mid new waited waits text (Ok done) none first second = (
   waited ++ text,
   prints_then {E = E} old mid new waited text (Ok done) first second,

@@ -13,12 +13,12 @@ use Rattle.recovery.specs.declared.resumed.ResumedBatch.{ResumedBatch}
 use Rattle.line_text.specs.Lines.{Text}
 use Rattle.line_text.specs.Reports.{recovery_text, resumed_line}
 use Rattle.printed_lines.specs.Recoveries.{open_phase, won_in, lost_in, batch_line, lane_line, resumed_below, resumed_lines, recover_lines}
-use Rattle.ledger_runs.specs.Turning.{listed}
+use Rattle.ledger_runs.specs.Turning.{none_or_one}
 use Rattle.ledger_runs.specs.Telling.{IsResumedAt, TellResumed}
 use Rattle.submissions.specs.Checks.{VerdictsOf}
 use Rattle.rack_laws.specs.Shown.{OfShown}
 use Rattle.file_runs.specs.declared.ran.Ran.{Ran}
-use Rattle.rack_runs.specs.Telling.{IsTold}
+use Rattle.rack_runs.specs.Telling.{IsRunTold}
 use Rattle.rack_runs.proofs.Ledgers.{recovered}
 use Rattle.run_command.specs.RecoverOutcomes.{PrintsRecovery}
 use Rattle.run_command.specs.Texts.{batch_text, batch_texts}
@@ -63,7 +63,7 @@ pub no_text : (rs : List ResumedBatch) (i : ℕ) (tail : Text) → length rs ≤
 no_text rs i tail past = ap (λ l. batch_texts l ++ tail) (drop_of_length-le rs past)
 
 -- the line of a lane's batch
-text_at : (K : Shape) (lane : ℕ) (E X : ℕ → List Record) (found : Option ResumedBatch) → IsResumedAt K lane E X found → batch_texts (listed found) ≡ lane_line lane (E (home_of K lane)) (X (home_of K lane))
+text_at : (K : Shape) (lane : ℕ) (E X : ℕ → List Record) (found : Option ResumedBatch) → IsResumedAt K lane E X found → batch_texts (none_or_one found) ≡ lane_line lane (E (home_of K lane)) (X (home_of K lane))
 text_at K lane E X None at = sym (ap (λ p. batch_line (X (home_of K lane)) (record { lane = lane; number = (slot (E (home_of K lane)) lane).number }) (open_phase p)) at)
 text_at K lane E X (Some r) at =
     let J = X (home_of K lane) in
@@ -76,7 +76,7 @@ text_at K lane E X (Some r) at =
 texts_below : (K : Shape) (E X : ℕ → List Record) (n : ℕ) (rs : List ResumedBatch) → TellResumed K E X n rs → batch_texts rs ≡ resumed_below K E X n
 texts_below K E X zero rs none = ap batch_texts none
 texts_below K E X (suc lane) rs (before, found, all, at, e) =
-    ap batch_texts e ∙ both_texts before (listed found) ∙ ap (λ l. l ++ batch_texts (listed found)) (texts_below K E X lane before all)
+    ap batch_texts e ∙ both_texts before (none_or_one found) ∙ ap (λ l. l ++ batch_texts (none_or_one found)) (texts_below K E X lane before all)
     ∙ ap (λ l. resumed_below K E X lane ++ l) (text_at K lane E X found at)
 
 -- what a recovery prints
@@ -84,7 +84,7 @@ abbrev pub recovered_text : Ran → Text
 recovered_text ran = batch_texts ran.resumed.items ++ recovery_text (length ran.resumed.items) ran.unspent
 
 pub prints_recovery : {D : Type 0} (device : Ghosts D) (before now : ℕ → Option D) (printed : Text → Type 0) (ran : Ran)
-    → (verdicts : VerdictsOf) × OfShown device before (IsTold device now verdicts [] ran) → printed (recovered_text ran) → PrintsRecovery device before now printed
+    → (verdicts : VerdictsOf) × OfShown device before (IsRunTold device now verdicts [] ran) → printed (recovered_text ran) → PrintsRecovery device before now printed
 unfolding recovered
 prints_recovery device before now printed ran (verdicts, shown) is K mint submissions E within shows kept =
     let told = shown K mint submissions E within shows kept in

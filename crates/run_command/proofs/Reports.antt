@@ -23,7 +23,7 @@ use Rattle.ledger_runs.specs.Telling.{SamePrepared, kept_by}
 use Rattle.ledger_runs.specs.declared.lanes.Decided.{Decided}
 use Rattle.file_runs.specs.Telling.{TellFiles}
 use Rattle.file_runs.specs.declared.waves.Wave.{Wave}
-use Rattle.run_command.specs.Told.{kept_at, told_of, told_line, told_file, told_files, one_if, told_count, told_total}
+use Rattle.run_command.specs.Told.{kept_in_lane, told_report, told_line, told_file, told_files, one_where, told_count, told_total}
 use Rattle.run_command.proofs.Decisions.{decided_is, sent_of}
 
 -- ---- what goes to lanes
@@ -76,7 +76,7 @@ get_there [] i lt = absurd (omega (arith, lt))
 get_there (x ∷ xs) zero lt = (x, refl)
 get_there (x ∷ xs) (suc i) lt = get_there xs i (omega (arith, lt))
 
-count_one : (test : Report → Bool) (r : Report) (rs : List Report) → length (filter test (r ∷ rs)) ≡ one_if test (Some r) + length (filter test rs)
+count_one : (test : Report → Bool) (r : Report) (rs : List Report) → length (filter test (r ∷ rs)) ≡ one_where test (Some r) + length (filter test rs)
 count_one test r rs = elim (test r) as (λ b. length (if b then r ∷ filter test rs else filter test rs) ≡ (if b then 1 else 0) + length (filter test rs)) [
   | true ↦ omega arith
   | false ↦ omega arith
@@ -107,10 +107,10 @@ module _ (K : Shape) (verdicts : VerdictsOf) (sound : FullTx → Bool) (tells : 
   -- what is told of a submission is what came of it
   module _ (k : ℕ) (file : List FullTx) (w : Wave) (here : slice_get files k ≡ Some file) (there : slice_get ws k ≡ Some w) (checked : AreChecked K verdicts file w.checked.items) (count : length w.lanes.items ≡ K.coordinators * K.lanes) where
     abbrev Told : ℕ → FullTx → Checked → Type 0
-    Told j t c = (c.id ≡ tx_id t) × ((r : Report) × (told_of w.lanes.items c.judgement ≡ Some r) × IsReport K verdicts sound E X (take k files) file j t r)
+    Told j t c = (c.id ≡ tx_id t) × ((r : Report) × (told_report w.lanes.items c.judgement ≡ Some r) × IsReport K verdicts sound E X (take k files) file j t r)
 
     sound_told : (j : ℕ) (t : FullTx) (lane place : ℕ) → slice_get file j ≡ Some t → IsSaid K verdicts file j t (judged.Sound lane place)
-        → (r : Report) × (told_of w.lanes.items (judged.Sound lane place) ≡ Some r) × IsReport K verdicts sound E X (take k files) file j t r
+        → (r : Report) × (told_report w.lanes.items (judged.Sound lane place) ≡ Some r) × IsReport K verdicts sound E X (take k files) file j t r
     sound_told j t lane place at said =
         let lane_is : lane ≡ lane_at K j = said.1 in
         let low : lane < K.coordinators * K.lanes = subst (λ l. l < K.coordinators * K.lanes) (sym lane_is) (omega (arith, some)) in
@@ -127,14 +127,14 @@ module _ (K : Shape) (verdicts : VerdictsOf) (sound : FullTx → Bool) (tells : 
         let decided : decided_at K E X (lane_at K j) (turn K sound (take k files) file j) ≡ Some (d.0.batch, d.0.outcome) =
         ap (λ l. decided_at K E X l (turn K sound (take k files) file j)) (sym lane_is) ∙ ap (decided_at K E X lane) (sym turn_is) ∙ d_is.0 ∙ kept in (
           reports.Decided d.0.batch d.0.outcome,
-          ap (λ o. option_map (λ v. reports.Decided v.batch v.outcome) (kept_at o place)) x.1 ∙ ap (option_map (λ v. reports.Decided v.batch v.outcome)) d.1,
+          ap (λ o. option_map (λ v. reports.Decided v.batch v.outcome) (kept_in_lane o place)) x.1 ∙ ap (option_map (λ v. reports.Decided v.batch v.outcome)) d.1,
           (said.0, decided),
         )
 
     one_told : (j : ℕ) (t : FullTx) (c : Checked) → slice_get file j ≡ Some t → slice_get w.checked.items j ≡ Some c → Told j t c
     one_told j t c at got = ((checked.each j t c at got).0, go c.judgement (checked.each j t c at got).1)
       where
-        go : (judgement : Judgement) → IsSaid K verdicts file j t judgement → (r : Report) × (told_of w.lanes.items judgement ≡ Some r) × IsReport K verdicts sound E X (take k files) file j t r
+        go : (judgement : Judgement) → IsSaid K verdicts file j t judgement → (r : Report) × (told_report w.lanes.items judgement ≡ Some r) × IsReport K verdicts sound E X (take k files) file j t r
         go (judged.Refused why) said = (reports.Refused why, refl, said)
         go (judged.Sound lane place) said = sound_told j t lane place at said
 
@@ -161,7 +161,7 @@ module _ (K : Shape) (verdicts : VerdictsOf) (sound : FullTx → Bool) (tells : 
           each = cons_each (IsReport K verdicts sound E X (take k files) file) from t ts r rest.reports_of first.1.2 rest.each;
           lines = ap (λ o. told_line n from c.id o ++ told_file n (suc from) w.lanes.items cs) first.1.1 ∙ ap (λ x. report_line n from x r ++ told_file n (suc from) w.lanes.items cs) first.0
               ∙ ap (λ l. report_line n from (tx_id t) r ++ l) rest.lines;
-          counts = λ test. count_one test r rest.reports_of ∙ ap (λ m. one_if test (Some r) + m) (rest.counts test) ∙ ap (λ o. one_if test o + told_count test w.lanes.items cs) (sym first.1.1);
+          counts = λ test. count_one test r rest.reports_of ∙ ap (λ m. one_where test (Some r) + m) (rest.counts test) ∙ ap (λ o. one_where test o + told_count test w.lanes.items cs) (sym first.1.1);
         }
 
     pub wave_reports : (n : ℕ) → Reported n 0 file w.checked.items

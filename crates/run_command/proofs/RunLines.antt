@@ -4,13 +4,13 @@ use Rattle.std.proofs.Math.ListN.{drop_of_length-le}
 use Rattle.submissions.specs.declared.Checked.{Checked}
 use Rattle.ledger_runs.specs.declared.lanes.Lane.{Lane}
 use Rattle.file_runs.specs.declared.waves.Wave.{Wave}
-use Rattle.run_command.specs.Told.{told_of, told_line, told_file, told_files}
+use Rattle.run_command.specs.Told.{told_report, told_line, told_file, told_files}
 
 pub next_line : (file i : ℕ) (lanes : List Lane) (cs : List Checked) (c : Checked) → i < length cs → c ≡ get_or cs i c
-    → told_file file i lanes (drop i cs) ≡ told_line file i c.id (told_of lanes c.judgement) ++ told_file file (i + 1) lanes (drop (i + 1) cs)
+    → told_file file i lanes (drop i cs) ≡ told_line file i c.id (told_report lanes c.judgement) ++ told_file file (i + 1) lanes (drop (i + 1) cs)
 next_line file i lanes cs c low is =
     ap (told_file file i lanes) (drop-cons cs i c low ∙ ap (λ x. x ∷ drop (suc i) cs) (sym is))
-    ∙ ap (λ n. told_line file i c.id (told_of lanes c.judgement) ++ told_file file n lanes (drop n cs)) (sym (add-one i))
+    ∙ ap (λ n. told_line file i c.id (told_report lanes c.judgement) ++ told_file file n lanes (drop n cs)) (sym (add-one i))
 
 pub no_line : (file i place : ℕ) (lanes : List Lane) (cs : List Checked) → length cs ≤ i → told_file file place lanes (drop i cs) ≡ []
 no_line file i place lanes cs past = ap (told_file file place lanes) (drop_of_length-le cs past)

@@ -11,10 +11,10 @@ use Rattle.run_command.specs.declared.report.Counts.{Counts}
 use Rattle.line_text.specs.Lines.{summary_text}
 use Rattle.line_text.specs.declared.summary.Summary.{Summary}
 use Rattle.file_runs.specs.declared.ran.Ran.{Ran}
-use Rattle.run_command.specs.Told.{told_of, one_if, told_count, told_total, batches_in, batches_told, Counted, AreCounts, AreNumbers, numbers_of}
+use Rattle.run_command.specs.Told.{told_report, one_where, told_count, told_total, batches_in, batches_told, IsCounted, AreCounts, AreNumbers, numbers_of}
 
 -- two counts as one
-pub counted_more : (a b s m n t : ℕ) → Counted a m → Counted b n → s ≡ min (a + b) 18446744073709551615 → t ≡ m + n → Counted s t
+pub counted_more : (a b s m n t : ℕ) → IsCounted a m → IsCounted b n → s ≡ min (a + b) 18446744073709551615 → t ≡ m + n → IsCounted s t
 counted_more a b s m n t one two is both = λ fits.
     let first = one (omega (arith, fits, both)) in
     let second = two (omega (arith, fits, both)) in
@@ -39,7 +39,7 @@ total_append test (w ∷ a) b = let r = total_append test a b in omega (arith, r
 
 -- one submission more, and one file
 pub count_next : (test : Report → Bool) (lanes : List Lane) (cs : List Checked) (i : ℕ) (c : Checked) → i < length cs → c ≡ get_or cs i c
-    → told_count test lanes (take (i + 1) cs) ≡ told_count test lanes (take i cs) + one_if test (told_of lanes c.judgement)
+    → told_count test lanes (take (i + 1) cs) ≡ told_count test lanes (take i cs) + one_where test (told_report lanes c.judgement)
 count_next test lanes cs i c low is =
     let a = count_append test lanes (take i cs) (c ∷ []) in
     ap (told_count test lanes) (take_more cs i c low ∙ ap (λ x. take i cs ++ x ∷ []) (sym is)) ∙ omega (arith, a)

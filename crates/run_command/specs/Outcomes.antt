@@ -11,7 +11,7 @@ use Rattle.sentinel.specs.Files.{told}
 use Rattle.sentinel.specs.declared.file.VerdictFile.{VerdictFile}
 use Rattle.rack_laws.specs.Shown.{OfShown}
 use Rattle.rack_runs.specs.Runs.{TookLedger, IsRun, PieceNext, PiecesPrepared}
-use Rattle.rack_runs.specs.Telling.{IsTold}
+use Rattle.rack_runs.specs.Telling.{IsRunTold}
 use Rattle.file_runs.specs.declared.ran.Ran.{Ran}
 use Rattle.cbdc_types.specs.declared.answer.Answer.{Answer}
 use Rattle.submissions.specs.Checks.{VerdictsOf}
@@ -30,7 +30,7 @@ pub record WasRun {D : Type 0} (files : Text → Option (List ℕ)) (device : Gh
   pub verdicts_read : AreVerdicts (files verdicts.name.now) known
   pub few : all_txs handed ≤ 1000000
   pub caused : TookLedger device before now
-  pub tells : OfShown device before (IsTold device now (told known) handed ran)
+  pub tells : OfShown device before (IsRunTold device now (told known) handed ran)
 
 -- a run of these transactions over a kept ledger, which was printed: the lines are those of this run, from the journals at entry to those at its exit,
 -- which the disks hold now; what they tell of each sound submission is what became of it: it has its one place in one new Prepare, and nothing else has

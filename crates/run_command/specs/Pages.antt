@@ -4,6 +4,6 @@ use Rattle.outside.specs.Images.{Tells}
 use Rattle.line_text.specs.Lines.{Text}
 
 -- what was written, with what waits now, is what waited before and the text; or at a fault a front of both was written
-abbrev pub Gathers : {E : Type 0} → Option Text → Text → Option Text → Text → Text → Result (Unit {0}) E → Type 0
-Gathers old waited new waits text (Ok done) = (out : Text) × Tells old (λ t. new ≡ Some (t ++ out)) × (out ++ waits ≡ waited ++ text)
-Gathers old waited new waits text (Err e) = Tells old (λ t. (n : ℕ) × (new ≡ Some (t ++ take n (waited ++ text))))
+abbrev pub GathersText : {E : Type 0} → Option Text → Text → Option Text → Text → Text → Result (Unit {0}) E → Type 0
+GathersText old waited new waits text (Ok done) = (out : Text) × Tells old (λ t. new ≡ Some (t ++ out)) × (out ++ waits ≡ waited ++ text)
+GathersText old waited new waits text (Err e) = Tells old (λ t. (n : ℕ) × (new ≡ Some (t ++ take n (waited ++ text))))

@@ -6,12 +6,12 @@ use Rattle.cbdc_model.specs.Records.{Shape, Record}
 use Rattle.cbdc_model.specs.Coins.{Output, FullTx}
 use Rattle.printed_lines.specs.Recoveries.{IsRecoverText}
 use Rattle.rack_laws.specs.Shown.{OfShown}
-use Rattle.rack_runs.specs.Runs.{IsRecovered, TookLedger}
+use Rattle.rack_runs.specs.Runs.{IsRecovery, TookLedger}
 
 -- a recovery of a kept ledger, which was printed: the lines are those of this recovery, from the journals at entry to those at its exit, which the disks
 -- hold now
 pub record IsPrintedRecovery {D : Type 0} (device : Ghosts D) (now : ℕ → Option D) (printed : Text → Type 0) (K : Shape) (mint : List Output) (submissions : List FullTx) (E : ℕ → List Record) : Type 0 where
-  pub recovered : IsRecovered device now K mint submissions E
+  pub recovered : IsRecovery device now K mint submissions E
   pub text : Text
   pub lines : IsRecoverText K E recovered.exit text
   pub prints : printed text

@@ -16,14 +16,14 @@ use Rattle.file_runs.specs.declared.ran.Ran.{Ran}
 use Rattle.run_command.specs.declared.report.Counts.{Counts}
 
 -- what a lane keeps at a place, none where there is no such lane or place
-abbrev pub kept_at : Option Lane → ℕ → Option Decided
-kept_at None place = None
-kept_at (Some x) place = slice_get x.decided.items place
+abbrev pub kept_in_lane : Option Lane → ℕ → Option Decided
+kept_in_lane None place = None
+kept_in_lane (Some x) place = slice_get x.decided.items place
 
 -- what is told of a submission: that it was refused, and why; or the batch and the outcome that its lane keeps at its place
-abbrev pub told_of : List Lane → Judgement → Option Report
-told_of lanes (judged.Refused why) = Some (reports.Refused why)
-told_of lanes (judged.Sound lane place) = option_map (λ d. reports.Decided d.batch d.outcome) (kept_at (slice_get lanes lane) place)
+abbrev pub told_report : List Lane → Judgement → Option Report
+told_report lanes (judged.Refused why) = Some (reports.Refused why)
+told_report lanes (judged.Sound lane place) = option_map (λ d. reports.Decided d.batch d.outcome) (kept_in_lane (slice_get lanes lane) place)
 
 -- the line of a submission, by what is told of it; none where nothing is
 abbrev pub told_line : ℕ → ℕ → Digest → Option Report → Text
@@ -33,7 +33,7 @@ told_line file place id (Some r) = report_line file place id r
 -- those of a file's submissions from a place on, and of files from a number on
 abbrev pub told_file : ℕ → ℕ → List Lane → List Checked → Text
 told_file file place lanes [] = []
-told_file file place lanes (c ∷ cs) = told_line file place c.id (told_of lanes c.judgement) ++ told_file file (suc place) lanes cs
+told_file file place lanes (c ∷ cs) = told_line file place c.id (told_report lanes c.judgement) ++ told_file file (suc place) lanes cs
 
 -- those of files, from a number on
 abbrev pub told_files : ℕ → List Wave → Text
@@ -41,14 +41,14 @@ told_files file [] = []
 told_files file (w ∷ ws) = told_file file 0 w.lanes.items w.checked.items ++ told_files (suc file) ws
 
 -- 1 where what is told of a submission passes a test, else 0
-abbrev pub one_if : (Report → Bool) → Option Report → ℕ
-one_if test None = 0
-one_if test (Some r) = if test r then 1 else 0
+abbrev pub one_where : (Report → Bool) → Option Report → ℕ
+one_where test None = 0
+one_where test (Some r) = if test r then 1 else 0
 
 -- of how many submissions of a file what is told passes a test
 abbrev pub told_count : (Report → Bool) → List Lane → List Checked → ℕ
 told_count test lanes [] = 0
-told_count test lanes (c ∷ cs) = one_if test (told_of lanes c.judgement) + told_count test lanes cs
+told_count test lanes (c ∷ cs) = one_where test (told_report lanes c.judgement) + told_count test lanes cs
 
 -- of how many submissions of all files
 abbrev pub told_total : (Report → Bool) → List Wave → ℕ
@@ -64,12 +64,12 @@ abbrev pub batches_told : List Wave → ℕ
 batches_told ws = sum_by (λ w. batches_in w.lanes.items) ws
 
 -- a number is this count, where 64 bits count that far
-abbrev pub Counted : ℕ → ℕ → Type 0
-Counted n m = m ≤ 18446744073709551615 → n ≡ m
+abbrev pub IsCounted : ℕ → ℕ → Type 0
+IsCounted n m = m ≤ 18446744073709551615 → n ≡ m
 
 -- how many submissions were confirmed, rejected and refused, each where 64 bits count that far
 abbrev pub AreCounts : Counts → ((Report → Bool) → ℕ) → Type 0
-AreCounts c many = Counted c.confirmed (many is_confirmed) × Counted c.rejected (many is_rejected) × Counted c.refused (many is_refused)
+AreCounts c many = IsCounted c.confirmed (many is_confirmed) × IsCounted c.rejected (many is_rejected) × IsCounted c.refused (many is_refused)
 
 -- 64 bits count all batches of a run, and by every test its submissions
 pub record IsCountable (ran : Ran) : Type 0 where

@@ -4,7 +4,7 @@ ghost use Rattle.line_text.specs.Lines.{Prints};
 ghost use Rattle.line_text.specs.Reports.{recovery_text};
 ghost use Rattle.printed_lines.specs.Recoveries.{won_in};
 ghost use Rattle.outside.specs.Counts.{Rose, HasCause};
-ghost use Rattle.command_answers.specs.Causes.{IsDone, IsTold, IsWell};
+ghost use Rattle.command_answers.specs.Causes.{IsAnswerToRequest, HasToldCause, IsWell};
 ghost use Rattle.run_command.specs.RecoverOutcomes.{DidRecover};
 ghost use Rattle.rack_runs.specs.Stops.{WhyNoTurns, TurnsLeave};
 ghost use Rattle.ledger_runs.specs.Least.{IsLeastOpen};
@@ -88,9 +88,9 @@ pub fn recover<W: Wait + Threads + Sync, R: Rack, O: Sink, G: Gate + Sync>(
 where
     R::Disk: Send,
     requires { (n : ℕ) → R.can_take rack.old n }
-    ensures cause { IsDone (λ file. ⊥) (λ file. ⊥) (Rose (O.count out.old) (O.count out.new)) result }
+    ensures cause { IsAnswerToRequest (λ file. ⊥) (λ file. ⊥) (Rose (O.count out.old) (O.count out.new)) result }
     ensures did { IsWell result → DidRecover R.Disk.Disk (R.held rack.old) (R.held rack.new) (IsPrinted (O.taken out.old) (O.taken out.new) result) }
-    ensures why { IsTold (WhyNoTurns R.Disk.Disk (R.held rack.old) (R.held rack.new) (R.count rack.old) (R.count rack.new) NothingNext IsLeastOpen NonePrepared []) result }
+    ensures why { HasToldCause (WhyNoTurns R.Disk.Disk (R.held rack.old) (R.held rack.new) (R.count rack.old) (R.count rack.new) NothingNext IsLeastOpen NonePrepared []) result }
     ensures left { (IsWell result → ⊥) → TurnsLeave R.Disk.Disk (R.held rack.old) (R.held rack.new) (R.count rack.old) (R.count rack.new) NothingNext IsLeastOpen NonePrepared [] result }
     ensures silent { IsSilent (O.taken out.old) (O.taken out.new) result }
     ensures written_later { O.count out.old ≤ O.count out.new }

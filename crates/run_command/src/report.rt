@@ -5,8 +5,8 @@ ghost use Rattle.cbdc_model.specs.Records.{is_won};
 ghost use Rattle.line_text.specs.Lines.{Prints};
 ghost use Rattle.printed_lines.specs.Reports.{audit_lines};
 ghost use Rattle.printed_lines.specs.Runs.{decided_line};
-ghost use Rattle.run_command.specs.Pages.{Gathers};
-ghost use Rattle.run_command.specs.Told.{numbers_of, kept_at, told_of, told_line, told_file, told_files, told_count, told_total, one_if, batches_in, batches_told, Counted, AreCounts, IsCountable, AreNumbers, ran_text};
+ghost use Rattle.run_command.specs.Pages.{GathersText};
+ghost use Rattle.run_command.specs.Told.{numbers_of, kept_in_lane, told_report, told_line, told_file, told_files, told_count, told_total, one_where, batches_in, batches_told, IsCounted, AreCounts, IsCountable, AreNumbers, ran_text};
 
 use crate::page::Page;
 use audit::Totals;
@@ -31,7 +31,7 @@ struct Counts {
 
 // What a lane keeps at a place.
 fn kept_at(wave: &Wave, lane: usize, place: usize) -> Option<Decided>
-    ensures { result ≡ kept_at (slice_get wave.now.lanes.items lane) place }
+    ensures { result ≡ kept_in_lane (slice_get wave.now.lanes.items lane) place }
 {
     match wave.lanes.get(lane) {
         Some(lane) => lane.decided.get(place).copied(),
@@ -41,7 +41,7 @@ fn kept_at(wave: &Wave, lane: usize, place: usize) -> Option<Decided>
 
 // The result of a submission.
 fn report_of(wave: &Wave, one: &Checked) -> Option<Report>
-    ensures { result ≡ told_of wave.now.lanes.items one.now.judgement }
+    ensures { result ≡ told_report wave.now.lanes.items one.now.judgement }
 {
     match one.judgement {
         Judgement::Refused(why) => Some(Report::Refused(why)),
@@ -54,7 +54,7 @@ fn report_of(wave: &Wave, one: &Checked) -> Option<Report>
 
 // How many batches were prepared.
 fn batches_of(wave: &Wave) -> u64
-    ensures { Counted result (batches_in wave.now.lanes.items) }
+    ensures { IsCounted result (batches_in wave.now.lanes.items) }
 {
     let mut batches = 0u64;
     'lanes: for lane in &wave.lanes {
@@ -94,7 +94,7 @@ impl Counts {
 
     // Of a submission of which this came.
     fn reported(report: &Report) -> Counts
-        ensures { AreCounts result (λ test. one_if test (Some report.now)) }
+        ensures { AreCounts result (λ test. one_where test (Some report.now)) }
     {
         match report {
             Report::Refused(_) => Counts {
@@ -108,7 +108,7 @@ impl Counts {
 
     // Of one submission.
     fn one(report: &Option<Report>) -> Counts
-        ensures { AreCounts result (λ test. one_if test report.now) }
+        ensures { AreCounts result (λ test. one_where test report.now) }
     {
         match report {
             Some(report) => Counts::reported(report),
@@ -154,7 +154,7 @@ impl Counts {
 
 // How many batches were prepared for all files.
 fn all_batches(waves: &[Wave]) -> u64
-    ensures { Counted result (batches_told waves.now) }
+    ensures { IsCounted result (batches_told waves.now) }
 {
     let mut batches = 0u64;
     'waves: for wave in waves {
@@ -226,7 +226,7 @@ fn gather_one<O: Sink>(
     id: &Hash,
     report: &Option<Report>,
 ) -> Result<(), WriteFault>
-    ensures gathers { Gathers (O.taken out.old) page.old.text.items (O.taken out.new) page.new.text.items (told_line file place id.now report.now) result }
+    ensures gathers { GathersText (O.taken out.old) page.old.text.items (O.taken out.new) page.new.text.items (told_line file place id.now report.now) result }
     ensures cause { HasCause (O.count out.old) (O.count out.new) result }
 {
     let waiting = page.len();
@@ -248,7 +248,7 @@ fn gather_wave<O: Sink>(
     wave: &Wave,
     file: u64,
 ) -> Result<(), WriteFault>
-    ensures gathers { Gathers (O.taken out.old) page.old.text.items (O.taken out.new) page.new.text.items (told_file file 0 wave.now.lanes.items wave.now.checked.items) result }
+    ensures gathers { GathersText (O.taken out.old) page.old.text.items (O.taken out.new) page.new.text.items (told_file file 0 wave.now.lanes.items wave.now.checked.items) result }
     ensures cause { HasCause (O.count out.old) (O.count out.new) result }
 {
     let mut place = 0u64;

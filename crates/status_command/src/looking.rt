@@ -2,7 +2,7 @@
 ghost use Rattle.std.specs.Prelude.{◌≡◌, ◌≤◌, ℕ, length, map, IfOk};
 ghost use Rattle.outside.specs.Counts.{Rose, HasCause};
 ghost use Rattle.line_text.specs.Lines.{Prints};
-ghost use Rattle.command_answers.specs.Causes.{IsDone, IsTold, IsWell};
+ghost use Rattle.command_answers.specs.Causes.{IsAnswerToRequest, HasToldCause, IsWell};
 ghost use Rattle.status_command.specs.Outcomes.{DidStatus, WhyNoStatus};
 ghost use Rattle.command_answers.specs.Texts.{IsPrinted, IsSilent};
 ghost use Rattle.status_command.specs.Texts.{told_lines, status_among};
@@ -78,9 +78,9 @@ pub fn status<W: Threads + Sync, R: Rack, O: Sink>(
 where
     R::Disk: Send,
     requires { (n : ℕ) → R.can_take rack.old n }
-    ensures cause { IsDone (λ file. ⊥) (λ file. ⊥) (Rose (O.count out.old) (O.count out.new)) result }
+    ensures cause { IsAnswerToRequest (λ file. ⊥) (λ file. ⊥) (Rose (O.count out.old) (O.count out.new)) result }
     ensures did { IsWell result → DidStatus R.Disk.Disk (R.held rack.old) (R.held rack.new) (IsPrinted (O.taken out.old) (O.taken out.new) result) hashes.now }
-    ensures why { IsTold (WhyNoStatus R.Disk.Disk (R.held rack.old) (R.held rack.new) (R.count rack.old) (R.count rack.new)) result }
+    ensures why { HasToldCause (WhyNoStatus R.Disk.Disk (R.held rack.old) (R.held rack.new) (R.count rack.old) (R.count rack.new)) result }
     ensures silent { IsSilent (O.taken out.old) (O.taken out.new) result }
     ensures written_later { O.count out.old ≤ O.count out.new }
     ensures untouched { IsBeforeDisks result → rack.new ≡ rack.old }

@@ -7,7 +7,7 @@ use Rattle.cbdc_model.specs.Coins.{Coin, FullTx, coin_hash, tx_id, tx_coins, mad
 use Rattle.cbdc_model.specs.Clean.{IsMember, IsNamed, Clean}
 use Rattle.ledger_laws.proofs.Members.{In, in_contains, contains_in}
 use Rattle.workload.specs.Generator.{coin, coin_value, program, mint_of, minted_of, joined_of, splits_of, joins_of, split_of, join_of, low_half, high_half}
-use Rattle.submission_laws.specs.Files.{all_of}
+use Rattle.submission_laws.specs.Files.{all_submissions}
 use Rattle.submission_laws.proofs.Ranges.{in_left, in_right, in_both, in_range, From, from_range}
 
 module _ (seed n : ℕ) where
@@ -64,10 +64,10 @@ module _ (seed n : ℕ) where
   pub split_in : (i : ℕ) → i < minted_of n → In (split i) (splits_of seed n)
   split_in i low = in_range (split_of seed n (genesis_id (mint_of seed n))) (minted_of n) 0 i (omega arith) (omega (arith, low))
 
-  pub split_there : (i : ℕ) → i < minted_of n → In (split i) (all_of seed n)
+  pub split_there : (i : ℕ) → i < minted_of n → In (split i) (all_submissions seed n)
   split_there i low = in_left (split i) (splits_of seed n) (joins_of seed n ++ []) (split_in i low)
 
-  pub join_there : (i : ℕ) → i < joined_of n → In (join i) (all_of seed n)
+  pub join_there : (i : ℕ) → i < joined_of n → In (join i) (all_submissions seed n)
   join_there i low =
       in_right (join i) (splits_of seed n) (joins_of seed n ++ [])
       (in_left (join i) (joins_of seed n) [] (in_range (join_of seed n (genesis_id (mint_of seed n))) (joined_of n) 0 i (omega arith) (omega (arith, low))))
@@ -81,7 +81,7 @@ module _ (seed n : ℕ) where
       let r : From (split_of seed n (genesis_id (mint_of seed n))) (minted_of n) 0 t = from_range (split_of seed n (genesis_id (mint_of seed n))) (minted_of n) 0 t h in
       (r.number, (let high = r.high in omega (arith, high)), r.is)
 
-  pub one_of : (t : FullTx) → In t (all_of seed n) → IsOne t
+  pub one_of : (t : FullTx) → In t (all_submissions seed n) → IsOne t
   one_of t h = elim (in_both t (splits_of seed n) (joins_of seed n ++ []) h) [
     | inl a ↦ let r = of_splits t a in is_split r.0 r.1 r.2
     | inr b ↦ elim (in_both t (joins_of seed n) [] b) [
@@ -97,23 +97,23 @@ module _ (seed n : ℕ) where
 
   -- ---- no two are one
 
-  module _ (clean : Clean (mint_of seed n) (all_of seed n)) where
-    pub split_member : (i : ℕ) → i < minted_of n → IsMember (mint_of seed n) (all_of seed n) (split i)
-    split_member i low = inr (contains_in (all_of seed n) (split i) (split_there i low))
+  module _ (clean : Clean (mint_of seed n) (all_submissions seed n)) where
+    pub split_member : (i : ℕ) → i < minted_of n → IsMember (mint_of seed n) (all_submissions seed n) (split i)
+    split_member i low = inr (contains_in (all_submissions seed n) (split i) (split_there i low))
 
-    pub join_member : (i : ℕ) → i < joined_of n → IsMember (mint_of seed n) (all_of seed n) (join i)
-    join_member i low = inr (contains_in (all_of seed n) (join i) (join_there i low))
+    pub join_member : (i : ℕ) → i < joined_of n → IsMember (mint_of seed n) (all_submissions seed n) (join i)
+    join_member i low = inr (contains_in (all_submissions seed n) (join i) (join_there i low))
 
-    pub mint_named : (i : ℕ) → i < minted_of n → IsNamed (mint_of seed n) (all_of seed n) (mint_coin i)
+    pub mint_named : (i : ℕ) → i < minted_of n → IsNamed (mint_of seed n) (all_submissions seed n) (mint_coin i)
     mint_named i low = (genesis_tx (mint_of seed n), inl refl, inr (contains_in (tx_coins (genesis_tx (mint_of seed n))) (mint_coin i) (in_mint i low)))
 
-    pub low_named : (i : ℕ) → i < minted_of n → IsNamed (mint_of seed n) (all_of seed n) (low_coin i)
+    pub low_named : (i : ℕ) → i < minted_of n → IsNamed (mint_of seed n) (all_submissions seed n) (low_coin i)
     low_named i low = (split i, split_member i low, inr (contains_in (tx_coins (split i)) (low_coin i) (inl refl)))
 
-    pub high_named : (i : ℕ) → i < minted_of n → IsNamed (mint_of seed n) (all_of seed n) (high_coin i)
+    pub high_named : (i : ℕ) → i < minted_of n → IsNamed (mint_of seed n) (all_submissions seed n) (high_coin i)
     high_named i low = (split i, split_member i low, inr (contains_in (tx_coins (split i)) (high_coin i) (inr (inl refl))))
 
-    pub join_named : (i : ℕ) → i < joined_of n → IsNamed (mint_of seed n) (all_of seed n) (join_coin i)
+    pub join_named : (i : ℕ) → i < joined_of n → IsNamed (mint_of seed n) (all_submissions seed n) (join_coin i)
     join_named i low = (join i, join_member i low, inr (contains_in (tx_coins (join i)) (join_coin i) (inl refl)))
 
     no_inputs : (c : Coin) (cs : List Coin) → [] ≡ c ∷ cs → ⊥
@@ -184,6 +184,6 @@ module _ (seed n : ℕ) where
       hashes = λ c d a b e. clean.hashes c d (a.0, more a.0 a.1, a.2) (b.0, more b.0 b.1, b.2) e;
     }
       where
-        more : (t : FullTx) → IsMember (mint_of seed n) (splits_of seed n) t → IsMember (mint_of seed n) (all_of seed n) t
+        more : (t : FullTx) → IsMember (mint_of seed n) (splits_of seed n) t → IsMember (mint_of seed n) (all_submissions seed n) t
         more t (inl e) = inl e
-        more t (inr h) = inr (contains_in (all_of seed n) t (in_left t (splits_of seed n) (joins_of seed n ++ []) (in_contains (splits_of seed n) t h)))
+        more t (inr h) = inr (contains_in (all_submissions seed n) t (in_left t (splits_of seed n) (joins_of seed n ++ []) (in_contains (splits_of seed n) t h)))

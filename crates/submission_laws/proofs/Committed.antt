@@ -10,15 +10,15 @@ use Rattle.ledger_laws.proofs.Members.{In}
 use Rattle.submissions.specs.Checks.{VerdictsOf}
 use Rattle.printed_lines.specs.declared.report.Report.TheVariants.{Decided}
 use Rattle.submission_laws.specs.Sent.{IsSent}
-use Rattle.submission_laws.specs.Settled.{IsSettled}
-use Rattle.submission_laws.specs.Free.{IsConfirmed}
+use Rattle.submission_laws.specs.Settled.{IsSubmissionSettled}
+use Rattle.submission_laws.specs.Free.{IsSubmissionConfirmed}
 use Rattle.submission_laws.proofs.Worlds.{won_there}
 
 outcomes_same : (b c : Batch) (o q : Outcome) → Decided b o ≡ Decided c q → o ≡ q
 outcomes_same b c o q e = cc
 
 pub is_committed : (K : Shape) (verdicts : VerdictsOf) (files : List (List FullTx)) (E X : ℕ → List Record) (past : List Row) (k j : ℕ) (t : FullTx) (it : IsSent verdicts files k j t)
-    → ((n : ℕ) → journal n past ≡ X n) → (s : IsSettled K verdicts files E X k it.file j t) → IsConfirmed K verdicts files E X k it.file j t
+    → ((n : ℕ) → journal n past ≡ X n) → (s : IsSubmissionSettled K verdicts files E X k it.file j t) → IsSubmissionConfirmed K verdicts files E X k it.file j t
     → In (compact t) (won_of K past s.place.batch)
 is_committed K verdicts files E X past k j t it same s c =
     let told : Decided c.batch Won ≡ Decided s.place.batch s.outcome = s.told (Decided c.batch Won) (it.sound, c.decided) in

@@ -19,10 +19,10 @@ use Rattle.sentinel.specs.FirstRefusal.{IsSound}
 use Rattle.submissions.specs.SoundTest.{sound_by}
 use Rattle.run_laws.specs.Between.{BeginsWave}
 use Rattle.submission_laws.specs.Sent.{IsSent}
-use Rattle.submission_laws.specs.Free.{IsUncontended, IsConfirmed}
+use Rattle.submission_laws.specs.Free.{IsUncontended, IsSubmissionConfirmed}
 use Rattle.submission_laws.proofs.Freeing.{free_confirmed_law}
 use Rattle.workload.specs.Generator.{mint_of, minted_of, splits_of, split_of}
-use Rattle.submission_laws.specs.Files.{all_good, all_of, made_for}
+use Rattle.submission_laws.specs.Files.{all_good, all_submissions, made_for}
 use Rattle.submission_laws.proofs.Ranges.{from_zero, get_range, got_range}
 use Rattle.submission_laws.proofs.Sound.{IsGood, splits_sound}
 use Rattle.submission_laws.proofs.Coins.{split, mint_coin, in_mint, mint_mint}
@@ -44,7 +44,7 @@ same_file f g e = cc
 pub sound_at : (xs : List FullTx) (j : ℕ) (t : FullTx) → slice_get xs j ≡ Some t → All IsGood xs → IsSound t (all_good (tx_id t))
 sound_at xs j t e all = subst (λ u. IsSound u (all_good (tx_id u))) (get_or_from_slice_get xs j t t e) (all j t (slice_get_within xs j t e))
 
-module _ (K : Shape) (seed n : ℕ) (some : 0 < K.shards) (lanes : 0 < K.lanes) (some_lane : 0 < K.coordinators * K.lanes) (clean : Clean (mint_of seed n) (all_of seed n)) where
+module _ (K : Shape) (seed n : ℕ) (some : 0 < K.shards) (lanes : 0 < K.lanes) (some_lane : 0 < K.coordinators * K.lanes) (clean : Clean (mint_of seed n) (all_submissions seed n)) where
   abbrev E : ℕ → List Record
   E = made_for K seed n
 
@@ -71,7 +71,7 @@ module _ (K : Shape) (seed n : ℕ) (some : 0 < K.shards) (lanes : 0 < K.lanes) 
       (sym (one_in x (coin_hash (mint_coin seed n i)) (has_in x (coin_hash (mint_coin seed n i) ∷ []) (subst (λ v. has (compact v).inputs x ≡ true) s.1 t)))
       ∙ one_in x (coin_hash (mint_coin seed n j)) (has_in x (coin_hash (mint_coin seed n j) ∷ []) has_x))))
 
-  module _ (rest : List (List FullTx)) (Y : ℕ → List Record) (kept : KeptJournals K (mint_of seed n) (all_of seed n) Y) (waves : Waves K (sound_by all_good) (splits_of seed n ∷ rest) (made_for K seed n) Y) where
+  module _ (rest : List (List FullTx)) (Y : ℕ → List Record) (kept : KeptJournals K (mint_of seed n) (all_submissions seed n) Y) (waves : Waves K (sound_by all_good) (splits_of seed n ∷ rest) (made_for K seed n) Y) where
     abbrev R : ℕ → List Record
     R = waves.0
 
@@ -100,14 +100,14 @@ module _ (K : Shape) (seed n : ℕ) (some : 0 < K.shards) (lanes : 0 < K.lanes) 
     mint_unspent i low =
         let made : 0 < count (coin_hash (mint_coin seed n i)) (genesis_hashes (mint_of seed n))
         = in_count (coin_hash (mint_coin seed n i)) (genesis_hashes (mint_of seed n)) (in_map coin_hash (mint_coin seed n i) (tx_coins (genesis_tx (mint_of seed n))) (in_mint seed n i low)) in
-        is_unspent K (mint_of seed n) (all_of seed n) clean some lanes [] tt idle_first (coin_hash (mint_coin seed n i)) (omega (arith, made))
+        is_unspent K (mint_of seed n) (all_submissions seed n) clean some lanes [] tt idle_first (coin_hash (mint_coin seed n i)) (omega (arith, made))
         (ap (λ ks. count (coin_hash (mint_coin seed n i)) (all_inputs ks)) (no_committed (first_rows K (minted (mint_of seed n))) (all_first K (minted (mint_of seed n)) (λ (k : Compact). Unit {0}) some)))
 
-    pub split_confirmed : (j : ℕ) (t : FullTx) (it : IsSent all_good (splits_of seed n ∷ rest) 0 j t) → IsConfirmed K all_good (splits_of seed n ∷ rest) (made_for K seed n) Y 0 it.file j t
+    pub split_confirmed : (j : ℕ) (t : FullTx) (it : IsSent all_good (splits_of seed n ∷ rest) 0 j t) → IsSubmissionConfirmed K all_good (splits_of seed n ∷ rest) (made_for K seed n) Y 0 it.file j t
     split_confirmed j t it =
         let file : splits_of seed n ≡ it.file = same_file (splits_of seed n) it.file it.file_is in
         let s : (j < minted_of n) × (t ≡ split seed n j) = is_split j t (subst (λ f. slice_get f j ≡ Some t) (sym file) it.tx_is) in
-        free_confirmed_law K (mint_of seed n) (all_of seed n) all_good (splits_of seed n ∷ rest) (made_for K seed n) Y some some_lane (kept_first (all_of seed n)) kept 0 j t it (made_for K seed n) first_begins
+        free_confirmed_law K (mint_of seed n) (all_submissions seed n) all_good (splits_of seed n ∷ rest) (made_for K seed n) Y some some_lane (kept_first (all_submissions seed n)) kept 0 j t it (made_for K seed n) first_begins
         (λ x has_x.
         subst (λ y. IsUnspent K (made_for K seed n) y)
         (sym (one_in x (coin_hash (mint_coin seed n j)) (has_in x (coin_hash (mint_coin seed n j) ∷ []) (subst (λ v. has (compact v).inputs x ≡ true) s.1 has_x))))

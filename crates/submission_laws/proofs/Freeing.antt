@@ -29,7 +29,7 @@ use Rattle.run_laws.proofs.Between.{files_grow, between_law, next_wave}
 use Rattle.run_laws.proofs.FreeRuns.{free_run_law}
 use Rattle.run_laws.proofs.Sharing.{told_in, size_told, sized_told}
 use Rattle.submission_laws.specs.Sent.{IsSent}
-use Rattle.submission_laws.specs.Free.{IsUncontended, IsConfirmed, FreeConfirmedLaw}
+use Rattle.submission_laws.specs.Free.{IsUncontended, IsSubmissionConfirmed, FreeConfirmedLaw}
 use Rattle.submission_laws.proofs.Lists.{split_get, before_get, added_is}
 use Rattle.submission_laws.proofs.Turns.{sent_many}
 use Rattle.submission_laws.proofs.NewPlaces.{told_parts}
@@ -171,7 +171,7 @@ module _ (K : Shape) (mint : List Output) (submissions : List FullTx) (verdicts 
     decided : decided_at K E X (lane_at K j) (turn K (sound_by verdicts) (take k files) it.file j) ≡ Some (won.place.batch, Won)
     decided = subst (λ l. decided_at K E X l (turn K (sound_by verdicts) (take k files) it.file j) ≡ Some (won.place.batch, Won)) lane_is decided_here
 
-    pub confirmed : IsConfirmed K verdicts files E X k it.file j t
+    pub confirmed : IsSubmissionConfirmed K verdicts files E X k it.file j t
     confirmed = record {
       batch = won.place.batch;
       decided = decided;

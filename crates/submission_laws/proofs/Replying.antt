@@ -22,7 +22,7 @@ use Rattle.run_laws.proofs.LastRecords.{commit_stands}
 use Rattle.run_laws.proofs.NewRecords.{in_journal}
 use Rattle.run_laws.specs.Placing.{tx_at}
 use Rattle.run_laws.proofs.FreeReplies.{IsGood, all_good}
-use Rattle.submission_laws.specs.Replied.{Concerns, reply_of, IsLocked, HeldBelow, IsOutcome, IsReplied}
+use Rattle.submission_laws.specs.Replied.{Concerns, reply_of, HasStandingLock, HeldBelow, IsOutcomeByReplies, IsReplied}
 
 some_tx : (u t : Compact) → Some u ≡ Some t → u ≡ t
 some_tx u t e = cc
@@ -106,17 +106,17 @@ module _ (K : Shape) (X : ℕ → List Record) (p : PlaceIn) (c : Compact)
   ]
 
   -- by the reply of shard s, and the outcome of those behind it
-  by_reply : (s : ℕ) (o : Outcome) (r : Option Reply) → s < K.shards → HeldBelow K X p c s → reply_of K X p s ≡ r → (HeldBelow K X p c (suc s) → IsOutcome K X p c o) → IsOutcome K X p c (outcome_by r s o)
+  by_reply : (s : ℕ) (o : Outcome) (r : Option Reply) → s < K.shards → HeldBelow K X p c s → reply_of K X p s ≡ r → (HeldBelow K X p c (suc s) → IsOutcomeByReplies K X p c o) → IsOutcomeByReplies K X p c (outcome_by r s o)
   by_reply s o None low below f next = next (held_next s below (λ here. absurd (true_false (is_some (reply_of K X p s)) (has s low here) (ap is_some f))))
   by_reply s o (Some Held) low below f next = next (held_next s below (λ here. f))
   by_reply s o (Some (Missing x)) low below f next = (only s low (ap is_some f), below, f)
   by_reply s o (Some (Taken x by)) low below f next = (only s low (ap is_some f), below, f)
 
-  from_shard : (n s : ℕ) → s + n ≡ K.shards → HeldBelow K X p c s → IsOutcome K X p c (outcome locks p.at s n)
+  from_shard : (n s : ℕ) → s + n ≡ K.shards → HeldBelow K X p c s → IsOutcomeByReplies K X p c (outcome locks p.at s n)
   from_shard zero s e below = subst (λ m. HeldBelow K X p c m) (omega (arith, e)) below
   from_shard (suc n) s e below = by_reply s (outcome locks p.at (suc s) n) (reply_of K X p s) (omega (arith, e)) below refl (λ more. from_shard n (suc s) (omega (arith, e)) more)
 
-  pub by_replies : IsOutcome K X p c (outcome locks p.at 0 K.shards)
+  pub by_replies : IsOutcomeByReplies K X p c (outcome locks p.at 0 K.shards)
   by_replies = from_shard K.shards 0 (omega arith) (λ s low here. absurd (omega (arith, low)))
 
   good : HeldBelow K X p c K.shards → (s : ℕ) → s < K.shards → IsGood (reply_at (locks s) p.at)
@@ -138,7 +138,7 @@ module _ (K : Shape) (minting : Minted) (P : Compact → Type 0) (some : 0 < K.s
   module _ (s : ℕ) (b : Batch) where
     abbrev Stands : Record → Type 0
     Stands q = (newer rest : List Record) → J (shard_node K s) ≡ newer ++ q ∷ rest → ((kind_of q == 2) && is_of b q) ≡ true → record_of 2 (J (shard_node K s)) b ≡ Some q → IsEnd (first_of K minting (shard_node K s)) rest
-        → IsLocked K J b s
+        → HasStandingLock K J b s
 
     stood : (q : Record) → Stands q
     stood (Genesis header hs) newer rest e u found h = absurd (let z : false ≡ true = u in cc)
@@ -162,7 +162,7 @@ module _ (K : Shape) (minting : Minted) (P : Compact → Type 0) (some : 0 < K.s
           replies = is ∙ next.4 ∙ (λ i. answered rest (same i) [] (whole i));
         }
 
-    pub locked : has_lock (J (shard_node K s)) b ≡ true → IsLocked K J b s
+    pub locked : has_lock (J (shard_node K s)) b ≡ true → HasStandingLock K J b s
     locked there =
         let q = stands (J (shard_node K s)) 2 b there in
         let begins : IsEnd (first_of K minting (shard_node K s)) (J (shard_node K s)) = (lists_of K minting P some later kept).begins (shard_node K s) in
@@ -189,13 +189,13 @@ module _ (K : Shape) (minting : Minted) (P : Compact → Type 0) (some : 0 < K.s
         let done = (all_dones K minting P some later kept (home_of K p.batch.lane)).idle_done p.batch prepared rest in
         commit_stands (J (home_of K p.batch.lane)) p.batch ((all_phases K minting P some later kept (home_of K p.batch.lane)).done_prepared p.batch done).1
 
-    there : (s : ℕ) → Concerns K c s → IsLocked K J p.batch s
+    there : (s : ℕ) → Concerns K c s → HasStandingLock K J p.batch s
     there s here =
         let facts = standing K minting P some later kept (home_of K p.batch.lane) 7 p.batch (Commit commit.0 p.batch (outcomes_of (J (home_of K p.batch.lane)) p.batch)) commit.1 in
         locked s p.batch (facts.1 s (here.0, has_part K.shards s (txs_of (J (home_of K p.batch.lane)) p.batch) 0 p.at c holds here.1))
 
     -- by the Lock that stands, if one does
-    replies : (s : ℕ) → IsLocked K J p.batch s
+    replies : (s : ℕ) → HasStandingLock K J p.batch s
         → is_some (reply_of K J p s) ≡ not (is_empty (on_shard K.shards s c.inputs) && is_empty (on_shard K.shards s c.outputs))
     replies s l = ap (λ es. is_some (reply_at es p.at)) l.replies ∙ replied l.past p.batch K.shards s (txs_of (J (home_of K p.batch.lane)) p.batch) [] 0 p.at p.at c holds (omega arith)
 

@@ -24,13 +24,13 @@ use Rattle.run_laws.specs.Between.{BeginsWave}
 use Rattle.run_laws.specs.Placing.{tx_at}
 use Rattle.run_laws.proofs.Between.{between_law}
 use Rattle.run_laws.proofs.WaveRecords.{found_at}
-use Rattle.submission_laws.specs.Sent.{IsSent, place_at, IsPrepared}
-use Rattle.submission_laws.specs.Settled.{IsSettled, AreSettled}
-use Rattle.submission_laws.specs.Free.{IsUncontended, IsConfirmed}
+use Rattle.submission_laws.specs.Sent.{IsSent, place_at, IsNewlyPrepared}
+use Rattle.submission_laws.specs.Settled.{IsSubmissionSettled, AreSettled}
+use Rattle.submission_laws.specs.Free.{IsUncontended, IsSubmissionConfirmed}
 use Rattle.submission_laws.proofs.Settling.{settled_law}
 use Rattle.submission_laws.proofs.Freeing.{free_confirmed_law}
 use Rattle.workload.specs.Generator.{mint_of, minted_of, joined_of, splits_of, joins_of, join_of}
-use Rattle.submission_laws.specs.Files.{all_good, files_of, all_of, made_for}
+use Rattle.submission_laws.specs.Files.{all_good, files_of, all_submissions, made_for}
 use Rattle.submission_laws.proofs.Ranges.{from_zero, get_range, got_range}
 use Rattle.submission_laws.proofs.Sound.{joins_sound}
 use Rattle.submission_laws.proofs.Coins.{split, join, mint_coin, low_coin, high_coin, of_splits, fewer, splits_clean, mint_low, mint_high, low_low, high_high, low_high}
@@ -93,8 +93,8 @@ each_at : (P : Compact → Type 0) (txs : List Compact) → ((i : ℕ) (c : Comp
 each_at P [] f = All-nil P
 each_at P (t ∷ txs) f = All-cons P t txs (f 0 t refl) (each_at P txs (λ i c e. f (suc i) c e))
 
-module _ (K : Shape) (seed n : ℕ) (some : 0 < K.shards) (lanes : 0 < K.lanes) (some_lane : 0 < K.coordinators * K.lanes) (clean : Clean (mint_of seed n) (all_of seed n))
-    (X : ℕ → List Record) (kept : KeptJournals K (mint_of seed n) (all_of seed n) X) (waves : Waves K (sound_by all_good) (files_of seed n) (made_for K seed n) X) where
+module _ (K : Shape) (seed n : ℕ) (some : 0 < K.shards) (lanes : 0 < K.lanes) (some_lane : 0 < K.coordinators * K.lanes) (clean : Clean (mint_of seed n) (all_submissions seed n))
+    (X : ℕ → List Record) (kept : KeptJournals K (mint_of seed n) (all_submissions seed n) X) (waves : Waves K (sound_by all_good) (files_of seed n) (made_for K seed n) X) where
   abbrev E : ℕ → List Record
   E = made_for K seed n
 
@@ -111,14 +111,14 @@ module _ (K : Shape) (seed n : ℕ) (some : 0 < K.shards) (lanes : 0 < K.lanes) 
   second_begins : BeginsWave K (sound_by all_good) (files_of seed n) 1 (made_for K seed n) X M
   second_begins = record { resumed = waves.0; is_resumed = waves.1; before = (waves.2.0, waves.2.1, λ node. refl); behind = waves.2.2 }
 
-  kept_mid : KeptJournals K (mint_of seed n) (all_of seed n) M
-  kept_mid = between_law K (mint_of seed n) (all_of seed n) (sound_by all_good) (files_of seed n) 1 (made_for K seed n) X M some (kept_first K seed n some lanes some_lane clean (all_of seed n)) kept second_begins
+  kept_mid : KeptJournals K (mint_of seed n) (all_submissions seed n) M
+  kept_mid = between_law K (mint_of seed n) (all_submissions seed n) (sound_by all_good) (files_of seed n) 1 (made_for K seed n) X M some (kept_first K seed n some lanes some_lane clean (all_submissions seed n)) kept second_begins
 
   first_waves : Waves K (sound_by all_good) (splits_of seed n ∷ []) (made_for K seed n) M
   first_waves = (waves.0, waves.1, (waves.2.0, waves.2.1, λ node. refl))
 
   settled : AreSettled K all_good (splits_of seed n ∷ []) (made_for K seed n) M
-  settled = settled_law K (mint_of seed n) (all_of seed n) all_good (splits_of seed n ∷ []) (made_for K seed n) M some some_lane (kept_first K seed n some lanes some_lane clean (all_of seed n)) kept_mid first_waves
+  settled = settled_law K (mint_of seed n) (all_submissions seed n) all_good (splits_of seed n ∷ []) (made_for K seed n) M some some_lane (kept_first K seed n some lanes some_lane clean (all_submissions seed n)) kept_mid first_waves
 
   idle_mid : AreIdle K M
   idle_mid = waves.2.1.idle
@@ -128,13 +128,13 @@ module _ (K : Shape) (seed n : ℕ) (some : 0 < K.shards) (lanes : 0 < K.lanes) 
     found : txs_of (M (home_of K b.lane)) b ≡ txs
     found =
         let by_rows : record_of 6 (journal node (kept_mid.later ++ first_rows K (minted (mint_of seed n)))) b ≡ Some (Prepare stamp b txs)
-        = found_at K (minted (mint_of seed n)) (IsProperCompact (all_of seed n)) some [] kept_mid.later tt
-        (steady K (minted (mint_of seed n)) (IsProperCompact (all_of seed n)) kept_mid.later kept_mid.kept) node 6 b newer rest (Prepare stamp b txs) (kept_mid.history.journals_are node ∙ e) h (itself 6 b) in
+        = found_at K (minted (mint_of seed n)) (IsProperCompact (all_submissions seed n)) some [] kept_mid.later tt
+        (steady K (minted (mint_of seed n)) (IsProperCompact (all_submissions seed n)) kept_mid.later kept_mid.kept) node 6 b newer rest (Prepare stamp b txs) (kept_mid.history.journals_are node ∙ e) h (itself 6 b) in
         ap (λ m. txs_of (M m) b) (sym home) ∙ ap (λ L. txs_of L b) (sym (kept_mid.history.journals_are node)) ∙ ap txs_in by_rows
 
     of_split : (i : ℕ) (c : Compact) → tx_at txs i ≡ Some c → IsProperCompact (splits_of seed n) c
     of_split i c at =
-        let it : IsPrepared K (made_for K seed n) M (record { batch = b; at = i }) c
+        let it : IsNewlyPrepared K (made_for K seed n) M (record { batch = b; at = i }) c
         = record { new = none_prepared K seed n some lanes some_lane clean b; holds = ap (λ l. tx_at l i) found ∙ at } in
         by_first (settled.nothing_else (record { batch = b; at = i }) c it)
       where
@@ -149,7 +149,7 @@ module _ (K : Shape) (seed n : ℕ) (some : 0 < K.shards) (lanes : 0 < K.lanes) 
     only_splits = each_at (IsProperCompact (splits_of seed n)) txs of_split
 
   kept_splits : KeptJournals K (mint_of seed n) (splits_of seed n) M
-  kept_splits = kept_by_these K (mint_of seed n) (all_of seed n) (splits_of seed n) some M kept_mid only_splits
+  kept_splits = kept_by_these K (mint_of seed n) (all_submissions seed n) (splits_of seed n) some M kept_mid only_splits
 
   abbrev past : List Row
   past = history_of K (mint_of seed n) kept_splits.later
@@ -165,7 +165,7 @@ module _ (K : Shape) (seed n : ℕ) (some : 0 < K.shards) (lanes : 0 < K.lanes) 
     sent : IsSent all_good (splits_of seed n ∷ []) 0 j (split seed n j)
     sent = split_sent K seed n some lanes some_lane clean [] j low
 
-    its : IsSettled K all_good (splits_of seed n ∷ []) (made_for K seed n) M 0 sent.file j (split seed n j)
+    its : IsSubmissionSettled K all_good (splits_of seed n ∷ []) (made_for K seed n) M 0 sent.file j (split seed n j)
     its = settled.each 0 j (split seed n j) sent
 
     won : In (compact (split seed n j)) (won_of K (history_of K (mint_of seed n) kept_splits.later) its.place.batch)
@@ -228,12 +228,12 @@ module _ (K : Shape) (seed n : ℕ) (some : 0 < K.shards) (lanes : 0 < K.lanes) 
       (has_in x (coin_hash (low_coin seed n i) ∷ coin_hash (high_coin seed n i) ∷ []) (subst (λ v. has (compact v).inputs x ≡ true) s.1 t))
       (has_in x (coin_hash (low_coin seed n j) ∷ coin_hash (high_coin seed n j) ∷ []) has_x)))
 
-  pub join_confirmed : (j : ℕ) (t : FullTx) (it : IsSent all_good (files_of seed n) 1 j t) → IsConfirmed K all_good (files_of seed n) (made_for K seed n) X 1 it.file j t
+  pub join_confirmed : (j : ℕ) (t : FullTx) (it : IsSent all_good (files_of seed n) 1 j t) → IsSubmissionConfirmed K all_good (files_of seed n) (made_for K seed n) X 1 it.file j t
   join_confirmed j t it =
       let file : joins_of seed n ≡ it.file = second_file (splits_of seed n) (joins_of seed n) it.file it.file_is in
       let s : (j < joined_of n) × (t ≡ join seed n j) = is_join j t (subst (λ f. slice_get f j ≡ Some t) (sym file) it.tx_is) in
       let few = fewer seed n in
-      free_confirmed_law K (mint_of seed n) (all_of seed n) all_good (files_of seed n) (made_for K seed n) X some some_lane (kept_first K seed n some lanes some_lane clean (all_of seed n)) kept 1 j t it M second_begins
+      free_confirmed_law K (mint_of seed n) (all_submissions seed n) all_good (files_of seed n) (made_for K seed n) X some some_lane (kept_first K seed n some lanes some_lane clean (all_submissions seed n)) kept 1 j t it M second_begins
       (λ x has_x. made_unspent j (let a = s.0 in omega (arith, a, few)) x (has_in x (coin_hash (low_coin seed n j) ∷ coin_hash (high_coin seed n j) ∷ []) (subst (λ v. has (compact v).inputs x ≡ true) s.1 has_x)))
       (subst (λ f. IsUncontended all_good f j t) file (subst (λ v. IsUncontended all_good (joins_of seed n) j v) (sym s.1) (joins_apart j s.0)))
 

@@ -31,9 +31,9 @@ use Rattle.run_laws.proofs.Between.{files_grow, between_law}
 use Rattle.run_laws.proofs.Placed.{place_law, told_joined}
 use Rattle.run_laws.proofs.Sharing.{Told, told_before, told_in, size_told, sized_told}
 use Rattle.run_laws.proofs.WaveRecords.{never_twice}
-use Rattle.submission_laws.specs.Sent.{IsSent, new_place, place_at, IsPrepared}
+use Rattle.submission_laws.specs.Sent.{IsSent, new_place, place_at, IsNewlyPrepared}
 use Rattle.submission_laws.specs.Replied.{IsReplied}
-use Rattle.submission_laws.specs.Settled.{IsSettled, AreSettled, SettledLaw}
+use Rattle.submission_laws.specs.Settled.{IsSubmissionSettled, AreSettled, SubmissionSettledLaw}
 use Rattle.submission_laws.proofs.Lists.{added_is}
 use Rattle.submission_laws.proofs.Turns.{Turn, Found, at_turn, found, one_turn as one_submission}
 use Rattle.submission_laws.proofs.NewPlaces.{Apart, among, one_turn as one_place, told_parts, HasTurn, all_own, all_apart, new_turn}
@@ -185,7 +185,7 @@ module _ (K : Shape) (mint : List Output) (submissions : List FullTx) (verdicts 
           place_is q ∙ ap (λ S. place_of S q) (sym sizes) ∙ it.stands
 
       -- what is prepared at a new place has its turn among all that the lane gets
-      turn_of : (p : PlaceIn) (c : Compact) → p.batch.lane ≡ lane → IsPrepared K E X p c → (q : ℕ) × (new_place K E X lane q ≡ Some p) × (tx_at (sent_of_all K sound files lane) q ≡ Some c)
+      turn_of : (p : PlaceIn) (c : Compact) → p.batch.lane ≡ lane → IsNewlyPrepared K E X p c → (q : ℕ) × (new_place K E X lane q ≡ Some p) × (tx_at (sent_of_all K sound files lane) q ≡ Some c)
       turn_of p c own it =
           let h : HasTurn told p.batch p.at c = subst (λ T. HasTurn (reverse T) p.batch p.at c) told_is
           (new_turn K (minted mint) (IsProperCompact submissions) some old new steady_old steady_new lane (mine ++ opened) whole p.batch p.at c own it.new it.holds) in (
@@ -248,7 +248,7 @@ module _ (K : Shape) (mint : List Output) (submissions : List FullTx) (verdicts 
           (sym there.decided ∙ ap (λ l. outcome_in (X (home_of K l)) p) (sym there.lane_is)
           ∙ the_outcome K (minted mint) (IsProperCompact submissions) some new steady_new p (compact t) holds prepared_there rest)
 
-      pub settled : IsSettled K verdicts files E X k it.file j t
+      pub settled : IsSubmissionSettled K verdicts files E X k it.file j t
       settled = record {
         place = p;
         outcome = there.outcome;
@@ -273,7 +273,7 @@ module _ (K : Shape) (mint : List Output) (submissions : List FullTx) (verdicts 
         one_submission K sound files k i it.file other.file j h (lane_at K j) t u it.file_is it.tx_is (passes k j t it) refl other.file_is other.tx_is (passes i h u other) same turns
 
     -- nothing else has a place
-    nothing_else : (p : PlaceIn) (c : Compact) → IsPrepared K E X p c
+    nothing_else : (p : PlaceIn) (c : Compact) → IsNewlyPrepared K E X p c
         → (k : ℕ) × (j : ℕ) × (t : FullTx) × (it : IsSent verdicts files k j t) × (place_at K verdicts files E X k it.file j ≡ Some p) × (c ≡ compact t)
     nothing_else p c it =
         let there = some_prepare (record_of 6 (X (home_of K p.batch.lane)) p.batch) it.holds in
@@ -300,7 +300,7 @@ module _ (K : Shape) (mint : List Output) (submissions : List FullTx) (verdicts 
 abbrev journals_of : Shape → List Output → List Row → ℕ → List Record
 journals_of K mint later n = journal n (later ++ first_rows K (minted mint))
 
-pub settled_law : SettledLaw
+pub settled_law : SubmissionSettledLaw
 settled_law K mint submissions verdicts files E X some some_lane kept kept' =
     let by_rows : Waves K (sound_by verdicts) files (journals_of K mint kept.later) (journals_of K mint kept'.later) → AreSettled K verdicts files (journals_of K mint kept.later) (journals_of K mint kept'.later)
     = are_settled K mint submissions verdicts files some some_lane kept.later kept'.later kept.kept kept'.kept kept.history.ordered kept'.history.ordered in

@@ -30,10 +30,10 @@ use Rattle.audit.proofs.Ordered.{ordered_rows}
 use Rattle.printed_lines.specs.Unspent.{IsUnspentCount}
 use Rattle.submission_laws.specs.Sent.{IsSent}
 use Rattle.submission_laws.specs.Settled.{AreSettled}
-use Rattle.submission_laws.specs.Free.{IsConfirmed}
+use Rattle.submission_laws.specs.Free.{IsSubmissionConfirmed}
 use Rattle.submission_laws.proofs.Settling.{settled_law}
 use Rattle.workload.specs.Generator.{mint_of, minted_of, joined_of, splits_of, joins_of}
-use Rattle.submission_laws.specs.Files.{all_good, files_of, all_of, made_for}
+use Rattle.submission_laws.specs.Files.{all_good, files_of, all_submissions, made_for}
 use Rattle.submission_laws.specs.Whole.{left_of, totals_of, WholeLaw}
 use Rattle.submission_laws.proofs.Ranges.{in_left, in_right, in_both, in_range, From, from_range}
 use Rattle.submission_laws.proofs.Coins.{split, join, mint_coin, low_coin, high_coin, join_coin, from_mint, IsOne, is_split, is_join, one_of, fewer, same_split, same_join, apart_ids, low_named, high_named, join_named, mint_mint, mint_low, mint_high, mint_joined, low_low, high_high, low_high, low_joined, high_joined, joined_joined}
@@ -185,8 +185,8 @@ tails i j x y e = cc
 heads : (i j : ℕ) (x y : Digest) → i ∷ x ≡ j ∷ y → i ≡ j
 heads i j x y e = cc
 
-module _ (K : Shape) (seed n : ℕ) (some : 0 < K.shards) (lanes : 0 < K.lanes) (some_lane : 0 < K.coordinators * K.lanes) (clean : Clean (mint_of seed n) (all_of seed n))
-    (X : ℕ → List Record) (kept : KeptJournals K (mint_of seed n) (all_of seed n) X) (waves : Waves K (sound_by all_good) (files_of seed n) (made_for K seed n) X) where
+module _ (K : Shape) (seed n : ℕ) (some : 0 < K.shards) (lanes : 0 < K.lanes) (some_lane : 0 < K.coordinators * K.lanes) (clean : Clean (mint_of seed n) (all_submissions seed n))
+    (X : ℕ → List Record) (kept : KeptJournals K (mint_of seed n) (all_submissions seed n) X) (waves : Waves K (sound_by all_good) (files_of seed n) (made_for K seed n) X) where
   abbrev E : ℕ → List Record
   E = made_for K seed n
 
@@ -194,13 +194,13 @@ module _ (K : Shape) (seed n : ℕ) (some : 0 < K.shards) (lanes : 0 < K.lanes) 
   mint = mint_of seed n
 
   abbrev all : List FullTx
-  all = all_of seed n
+  all = all_submissions seed n
 
   idle : AreIdle K X
   idle = subst (λ J. AreIdle K J) (λ i node. sym (waves.2.2.2 node) i) waves.2.2.1.idle
 
-  headline : Headline K (mint_of seed n) (all_of seed n) X
-  headline = idle_law K (mint_of seed n) (all_of seed n) X some lanes clean kept idle
+  headline : Headline K (mint_of seed n) (all_submissions seed n) X
+  headline = idle_law K (mint_of seed n) (all_submissions seed n) X some lanes clean kept idle
 
   abbrev later : List Row
   later = headline.later
@@ -208,11 +208,11 @@ module _ (K : Shape) (seed n : ℕ) (some : 0 < K.shards) (lanes : 0 < K.lanes) 
   abbrev past : List Row
   past = history_of K (mint_of seed n) headline.later
 
-  kept_rows : IsKept K (mint_of seed n) (all_of seed n) headline.later
-  kept_rows = subst (IsKept K (mint_of seed n) (all_of seed n)) (one_history_law K (minted (mint_of seed n)) X kept.later headline.later kept.history headline.history) kept.kept
+  kept_rows : IsKept K (mint_of seed n) (all_submissions seed n) headline.later
+  kept_rows = subst (IsKept K (mint_of seed n) (all_submissions seed n)) (one_history_law K (minted (mint_of seed n)) X kept.later headline.later kept.history headline.history) kept.kept
 
-  rows : Steady K (minted (mint_of seed n)) (IsProperCompact (all_of seed n)) headline.later
-  rows = steady K (minted (mint_of seed n)) (IsProperCompact (all_of seed n)) headline.later kept_rows
+  rows : Steady K (minted (mint_of seed n)) (IsProperCompact (all_submissions seed n)) headline.later
+  rows = steady K (minted (mint_of seed n)) (IsProperCompact (all_submissions seed n)) headline.later kept_rows
 
   rows_are : (node : ℕ) → journal node (history_of K (mint_of seed n) headline.later) ≡ X node
   rows_are node = headline.history.journals_are node
@@ -221,10 +221,10 @@ module _ (K : Shape) (seed n : ℕ) (some : 0 < K.shards) (lanes : 0 < K.lanes) 
   idle_rows = subst (λ J. AreIdle K J) (λ i node. sym (rows_are node) i) idle
 
   settled : AreSettled K all_good (files_of seed n) (made_for K seed n) X
-  settled = settled_law K (mint_of seed n) (all_of seed n) all_good (files_of seed n) (made_for K seed n) X some some_lane (kept_first K seed n some lanes some_lane clean (all_of seed n)) kept waves
+  settled = settled_law K (mint_of seed n) (all_submissions seed n) all_good (files_of seed n) (made_for K seed n) X some some_lane (kept_first K seed n some lanes some_lane clean (all_submissions seed n)) kept waves
 
-  each : Each (IsProperCompact (all_of seed n)) (committed (history_of K (mint_of seed n) headline.later))
-  each = each_passes K (mint_of seed n) (all_of seed n) clean some lanes headline.later rows
+  each : Each (IsProperCompact (all_submissions seed n)) (committed (history_of K (mint_of seed n) headline.later))
+  each = each_passes K (mint_of seed n) (all_submissions seed n) clean some lanes headline.later rows
 
   -- each transaction is committed
   abbrev Won : FullTx → Type 0
@@ -255,10 +255,10 @@ module _ (K : Shape) (seed n : ℕ) (some : 0 < K.shards) (lanes : 0 < K.lanes) 
   made x = count x (all_outputs (committed (history_of K (mint_of seed n) headline.later)))
 
   spends : (t : FullTx) (x : Digest) → Won t → In x (compact t).inputs → 0 < spent x
-  spends t x w h = won_spends K (mint_of seed n) (all_of seed n) clean some lanes headline.later rows w.0 (compact t) x w.1 h
+  spends t x w h = won_spends K (mint_of seed n) (all_submissions seed n) clean some lanes headline.later rows w.0 (compact t) x w.1 h
 
   makes : (t : FullTx) (x : Digest) → Won t → In x (compact t).outputs → 0 < made x
-  makes t x w h = won_makes K (mint_of seed n) (all_of seed n) clean some lanes headline.later rows w.0 (compact t) x w.1 h
+  makes t x w h = won_makes K (mint_of seed n) (all_submissions seed n) clean some lanes headline.later rows w.0 (compact t) x w.1 h
 
   -- and nothing else is: what spends a hash, and what makes it
   data SpentBy (x : Digest) (k : Compact) : Type 0 where
@@ -269,15 +269,15 @@ module _ (K : Shape) (seed n : ℕ) (some : 0 < K.shards) (lanes : 0 < K.lanes) 
     made_by_split : (i : ℕ) → i < minted_of n → (x ≡ coin_hash (low_coin seed n i)) ⊎ (x ≡ coin_hash (high_coin seed n i)) → MadeBy x
     made_by_join : (i : ℕ) → i < joined_of n → x ≡ coin_hash (join_coin seed n i) → MadeBy x
 
-  spent_as : (x : Digest) (k : Compact) → IsProperCompact (all_of seed n) k → In x k.inputs → SpentBy x k
-  spent_as x k (t, there, proper, is) h = go (one_of seed n t (in_contains (all_of seed n) t there))
+  spent_as : (x : Digest) (k : Compact) → IsProperCompact (all_submissions seed n) k → In x k.inputs → SpentBy x k
+  spent_as x k (t, there, proper, is) h = go (one_of seed n t (in_contains (all_submissions seed n) t there))
     where
       go : IsOne seed n t → SpentBy x k
       go (is_split i low e) = by_split i low (sym is ∙ ap compact e) (one_in x (coin_hash (mint_coin seed n i)) (subst (λ c. In x c.inputs) (sym is ∙ ap compact e) h))
       go (is_join i low e) = by_join i low (sym is ∙ ap compact e) (two_in x (coin_hash (low_coin seed n i)) (coin_hash (high_coin seed n i)) (subst (λ c. In x c.inputs) (sym is ∙ ap compact e) h))
 
-  made_as : (x : Digest) (k : Compact) → IsProperCompact (all_of seed n) k → In x k.outputs → MadeBy x
-  made_as x k (t, there, proper, is) h = go (one_of seed n t (in_contains (all_of seed n) t there))
+  made_as : (x : Digest) (k : Compact) → IsProperCompact (all_submissions seed n) k → In x k.outputs → MadeBy x
+  made_as x k (t, there, proper, is) h = go (one_of seed n t (in_contains (all_submissions seed n) t there))
     where
       go : IsOne seed n t → MadeBy x
       go (is_split i low e) = made_by_split i low (two_in x (coin_hash (low_coin seed n i)) (coin_hash (high_coin seed n i)) (subst (λ c. In x c.outputs) (sym is ∙ ap compact e) h))
@@ -285,14 +285,14 @@ module _ (K : Shape) (seed n : ℕ) (some : 0 < K.shards) (lanes : 0 < K.lanes) 
 
   spender_of : (x : Digest) → 0 < spent x → (k : Compact) × In k (committed (history_of K (mint_of seed n) headline.later)) × SpentBy x k
   spender_of x some_spent =
-      let o : OneOf (IsProperCompact (all_of seed n)) (committed (history_of K (mint_of seed n) headline.later)) x (λ k. k.inputs)
-      = spender (IsProperCompact (all_of seed n)) (committed (history_of K (mint_of seed n) headline.later)) x each some_spent in
+      let o : OneOf (IsProperCompact (all_submissions seed n)) (committed (history_of K (mint_of seed n) headline.later)) x (λ k. k.inputs)
+      = spender (IsProperCompact (all_submissions seed n)) (committed (history_of K (mint_of seed n) headline.later)) x each some_spent in
       (o.form, o.inside, spent_as x o.form o.passes o.has_it)
 
   maker_of : (x : Digest) → 0 < made x → MadeBy x
   maker_of x some_made =
-      let o : OneOf (IsProperCompact (all_of seed n)) (committed (history_of K (mint_of seed n) headline.later)) x (λ k. k.outputs)
-      = maker (IsProperCompact (all_of seed n)) (committed (history_of K (mint_of seed n) headline.later)) x each some_made in
+      let o : OneOf (IsProperCompact (all_submissions seed n)) (committed (history_of K (mint_of seed n) headline.later)) x (λ k. k.outputs)
+      = maker (IsProperCompact (all_submissions seed n)) (committed (history_of K (mint_of seed n) headline.later)) x each some_made in
       made_as x o.form o.passes o.has_it
 
   -- ---- what is unspent
@@ -320,7 +320,7 @@ module _ (K : Shape) (seed n : ℕ) (some : 0 < K.shards) (lanes : 0 < K.lanes) 
 
   unspent_left : (x : Digest) → IsUnspent K X x → IsLeft seed n coin_hash x
   unspent_left x u =
-      let facts = unspent_is K (mint_of seed n) (all_of seed n) clean some lanes headline.later rows x (ap (λ L. status L x) (rows_are (shard_node K (shard_of K.shards x))) ∙ u) in
+      let facts = unspent_is K (mint_of seed n) (all_submissions seed n) clean some lanes headline.later rows x (ap (λ L. status L x) (rows_are (shard_node K (shard_of K.shards x))) ∙ u) in
       elim (some_of (count x (genesis_hashes (mint_of seed n))) (made x) facts.0) [
         | inl minted ↦
             let c = from_map coin_hash x (tx_coins (genesis_tx (mint_of seed n))) (count_in x (genesis_hashes (mint_of seed n)) minted) in
@@ -357,7 +357,7 @@ module _ (K : Shape) (seed n : ℕ) (some : 0 < K.shards) (lanes : 0 < K.lanes) 
   left_unspent x l =
       let by = left_made x l in
       ap (λ L. status L x) (sym (rows_are (shard_node K (shard_of K.shards x))))
-      ∙ is_unspent K (mint_of seed n) (all_of seed n) clean some lanes headline.later rows idle_rows x (omega (arith, by)) (zero_or (spent x) (λ s. let o = spender_of x s in not_spent x o.0 l o.2))
+      ∙ is_unspent K (mint_of seed n) (all_submissions seed n) clean some lanes headline.later rows idle_rows x (omega (arith, by)) (zero_or (spent x) (λ s. let o = spender_of x s in not_spent x o.0 l o.2))
 
   hashes_apart : TellsApart seed n coin_hash
   hashes_apart = record {
@@ -414,8 +414,8 @@ module _ (K : Shape) (seed n : ℕ) (some : 0 < K.shards) (lanes : 0 < K.lanes) 
       let j = length-map-range_with_len (λ i. tx_id (join seed n i)) 0 (joined_of n) in
       omega (arith, p, s, j)
 
-  id_among : (k : Compact) → IsProperCompact (all_of seed n) k → In k.id (splits_ids ++ joins_ids)
-  id_among k (t, there, proper, is) = go (one_of seed n t (in_contains (all_of seed n) t there))
+  id_among : (k : Compact) → IsProperCompact (all_submissions seed n) k → In k.id (splits_ids ++ joins_ids)
+  id_among k (t, there, proper, is) = go (one_of seed n t (in_contains (all_submissions seed n) t there))
     where
       go : IsOne seed n t → In k.id (splits_ids ++ joins_ids)
       go (is_split i low e) =
@@ -452,7 +452,7 @@ module _ (K : Shape) (seed n : ℕ) (some : 0 < K.shards) (lanes : 0 < K.lanes) 
   committed_many =
       let up = no_longer ids (splits_ids ++ joins_ids) (distinct_once ids headline.no_id_twice) (λ id h.
       let k = from_map (λ c. c.id) id (committed (history_of K (mint_of seed n) headline.later)) h in
-      subst (λ j. In j (splits_ids ++ joins_ids)) (sym k.2) (id_among k.0 (each_in (IsProperCompact (all_of seed n)) (committed (history_of K (mint_of seed n) headline.later)) k.0 each k.1))) in
+      subst (λ j. In j (splits_ids ++ joins_ids)) (sym k.2) (id_among k.0 (each_in (IsProperCompact (all_submissions seed n)) (committed (history_of K (mint_of seed n) headline.later)) k.0 each k.1))) in
       let down = no_longer (splits_ids ++ joins_ids) ids all_once (λ id h. elim (in_both id splits_ids joins_ids h) [
         | inl l ↦ let s = split_id id l in subst (λ j. In j ids) (sym s.2) (split_there_too s.0 s.1)
         | inr r ↦ let s = join_id id r in subst (λ j. In j ids) (sym s.2) (join_there_too s.0 s.1)
@@ -464,15 +464,15 @@ module _ (K : Shape) (seed n : ℕ) (some : 0 < K.shards) (lanes : 0 < K.lanes) 
   -- ---- what the last book has
 
   abbrev Named : Coin → Type 0
-  Named = IsNamed (mint_of seed n) (all_of seed n)
+  Named = IsNamed (mint_of seed n) (all_submissions seed n)
 
-  from : AllFrom (IsNamed (mint_of seed n) (all_of seed n)) headline.book
+  from : AllFrom (IsNamed (mint_of seed n) (all_submissions seed n)) headline.book
   from =
-      book_from (IsNamed (mint_of seed n) (all_of seed n)) (mint_of seed n) headline.txs headline.book
+      book_from (IsNamed (mint_of seed n) (all_submissions seed n)) (mint_of seed n) headline.txs headline.book
       (λ c h. (genesis_tx (mint_of seed n), inl refl, inr (contains_in (tx_coins (genesis_tx (mint_of seed n))) c h)))
       (λ t h c g. (
         t,
-        inr (contains_in (all_of seed n) t (handed_in (all_of seed n) (committed (history_of K (mint_of seed n) headline.later)) headline.txs headline.committed t h)),
+        inr (contains_in (all_submissions seed n) t (handed_in (all_submissions seed n) (committed (history_of K (mint_of seed n) headline.later)) headline.txs headline.committed t h)),
         inr (contains_in (tx_coins t) c g),
       ))
       headline.folds
@@ -481,7 +481,7 @@ module _ (K : Shape) (seed n : ℕ) (some : 0 < K.shards) (lanes : 0 < K.lanes) 
   point c = key c.point
 
   -- a coin with the hash of one that is left is that one
-  left_point : (c : Coin) → IsNamed (mint_of seed n) (all_of seed n) c → IsLeft seed n coin_hash (coin_hash c) → IsLeft seed n (λ c. key c.point) (key c.point)
+  left_point : (c : Coin) → IsNamed (mint_of seed n) (all_submissions seed n) c → IsLeft seed n coin_hash (coin_hash c) → IsLeft seed n (λ c. key c.point) (key c.point)
   left_point c named (is_low i from low e) = is_low i from low (ap (λ d. key d.point) (clean.hashes c (low_coin seed n i) named (low_named seed n clean i low) e))
   left_point c named (is_high i from low e) = is_high i from low (ap (λ d. key d.point) (clean.hashes c (high_coin seed n i) named (high_named seed n clean i low) e))
   left_point c named (is_joined i low e) = is_joined i low (ap (λ d. key d.point) (clean.hashes c (join_coin seed n i) named (join_named seed n clean i low) e))
@@ -494,7 +494,7 @@ module _ (K : Shape) (seed n : ℕ) (some : 0 < K.shards) (lanes : 0 < K.lanes) 
       in_left_list seed n (λ c. key c.point) q (subst (λ r. IsLeft seed n (λ c. key c.point) r) (sym c.2) (left_point c.0 c.1 l))
 
   -- a named coin whose hash is unspent is in the book
-  has_coin : (c : Coin) → IsNamed (mint_of seed n) (all_of seed n) c → IsUnspent K X (coin_hash c) → (o : Output) × (book.get headline.book (key c.point) ≡ Some o)
+  has_coin : (c : Coin) → IsNamed (mint_of seed n) (all_submissions seed n) c → IsUnspent K X (coin_hash c) → (o : Output) × (book.get headline.book (key c.point) ≡ Some o)
   has_coin c named u =
       let d = (headline.unspent (coin_hash c)).0 u in
       let f = from (key d.0.point) d.0.output d.1 in
@@ -528,14 +528,14 @@ module _ (K : Shape) (seed n : ℕ) (some : 0 < K.shards) (lanes : 0 < K.lanes) 
 
   -- ---- the totals
 
-  module _ (told : List Row) (totals : Totals) (are : (node : ℕ) → journal node (reverse told) ≡ X node) (in_order : IsOrdered (reverse told)) (sound : IsSound K (mint_of seed n) (all_of seed n) told totals) where
+  module _ (told : List Row) (totals : Totals) (are : (node : ℕ) → journal node (reverse told) ≡ X node) (in_order : IsOrdered (reverse told)) (sound : IsSound K (mint_of seed n) (all_submissions seed n) told totals) where
     same_rows : reverse told ≡ history_of K (mint_of seed n) headline.later
-    same_rows = ordered_rows K (mint_of seed n) X headline.later (reverse told) (all_after K (mint_of seed n) (all_of seed n) headline.later kept_rows) headline.history in_order are
+    same_rows = ordered_rows K (mint_of seed n) X headline.later (reverse told) (all_after K (mint_of seed n) (all_submissions seed n) headline.later kept_rows) headline.history in_order are
 
     same_book : sound.book ≡ headline.book
     same_book =
-        let handed = subst (λ rs. AreHandedIn (all_of seed n) (committed rs) sound.pass.spent.txs) same_rows sound.pass.spent.handed_in in
-        let txs : sound.pass.spent.txs ≡ headline.txs = one_list (all_of seed n) (committed (history_of K (mint_of seed n) headline.later)) sound.pass.spent.txs headline.txs handed headline.committed in
+        let handed = subst (λ rs. AreHandedIn (all_submissions seed n) (committed rs) sound.pass.spent.txs) same_rows sound.pass.spent.handed_in in
+        let txs : sound.pass.spent.txs ≡ headline.txs = one_list (all_submissions seed n) (committed (history_of K (mint_of seed n) headline.later)) sound.pass.spent.txs headline.txs handed headline.committed in
         one_book sound.book headline.book (sym (ap (fold_txs (Some (genesis_book (mint_of seed n)))) (sym txs) ∙ sound.pass.spent.folds) ∙ headline.folds)
       where
         one_book : (a b : Book) → Some a ≡ Some b → a ≡ b
@@ -550,7 +550,7 @@ module _ (K : Shape) (seed n : ℕ) (some : 0 < K.shards) (lanes : 0 < K.lanes) 
 
   -- ---- each is confirmed
 
-  pub confirmed : (k j : ℕ) (t : FullTx) (it : IsSent all_good (files_of seed n) k j t) → IsConfirmed K all_good (files_of seed n) (made_for K seed n) X k it.file j t
+  pub confirmed : (k j : ℕ) (t : FullTx) (it : IsSent all_good (files_of seed n) k j t) → IsSubmissionConfirmed K all_good (files_of seed n) (made_for K seed n) X k it.file j t
   confirmed zero j t it = split_confirmed K seed n some lanes some_lane clean (joins_of seed n ∷ []) X kept waves j t it
   confirmed (suc zero) j t it = join_confirmed K seed n some lanes some_lane clean X kept waves j t it
   confirmed (suc (suc k)) j t it = absurd (no_file (splits_of seed n) (joins_of seed n) it.file k it.file_is)

@@ -16,13 +16,13 @@ abbrev pub files_of : ℕ → ℕ → List (List FullTx)
 files_of seed n = splits_of seed n ∷ joins_of seed n ∷ []
 
 -- all its transactions in one list
-abbrev pub all_of : ℕ → ℕ → List FullTx
-all_of seed n = splits_of seed n ++ (joins_of seed n ++ [])
+abbrev pub all_submissions : ℕ → ℕ → List FullTx
+all_submissions seed n = splits_of seed n ++ (joins_of seed n ++ [])
 
 -- a first record at each node of the ledger that a mint begins, and that of a workload
-abbrev pub first_journals : Shape → List Output → ℕ → List Record
-first_journals K mint node = journal node (first_rows K (minted mint))
+abbrev pub mint_journals : Shape → List Output → ℕ → List Record
+mint_journals K mint node = journal node (first_rows K (minted mint))
 
--- `first_journals` of the workload's mint
+-- `mint_journals` of the workload's mint
 abbrev pub made_for : Shape → ℕ → ℕ → ℕ → List Record
-made_for K seed n = first_journals K (mint_of seed n)
+made_for K seed n = mint_journals K (mint_of seed n)

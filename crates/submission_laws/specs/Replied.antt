@@ -15,7 +15,7 @@ abbrev pub reply_of : Shape → (ℕ → List Record) → PlaceIn → ℕ → Op
 reply_of K X p s = reply_at (lock_of (X (shard_node K s)) p.batch) p.at
 
 -- a shard's Lock of a batch stands, with the replies that its journal before it gives
-pub record IsLocked (K : Shape) (X : ℕ → List Record) (b : Batch) (s : ℕ) : Type 0 where
+pub record HasStandingLock (K : Shape) (X : ℕ → List Record) (b : Batch) (s : ℕ) : Type 0 where
   pub newer : List Record
   pub stamp : ℕ
   pub past : List Record
@@ -28,14 +28,14 @@ HeldBelow K X p c n = (s : ℕ) → s < n → Concerns K c s → reply_of K X p 
 
 -- an outcome by the replies: committed where every shard held the transaction; else it names the least shard that refused it, with the hash and the
 -- cause of its reply
-abbrev pub IsOutcome : Shape → (ℕ → List Record) → PlaceIn → Compact → Outcome → Type 0
-IsOutcome K X p c Won = HeldBelow K X p c K.shards
-IsOutcome K X p c (Lacks s x) = Concerns K c s × HeldBelow K X p c s × (reply_of K X p s ≡ Some (Missing x))
-IsOutcome K X p c (Blocked s x by) = Concerns K c s × HeldBelow K X p c s × (reply_of K X p s ≡ Some (Taken x by))
+abbrev pub IsOutcomeByReplies : Shape → (ℕ → List Record) → PlaceIn → Compact → Outcome → Type 0
+IsOutcomeByReplies K X p c Won = HeldBelow K X p c K.shards
+IsOutcomeByReplies K X p c (Lacks s x) = Concerns K c s × HeldBelow K X p c s × (reply_of K X p s ≡ Some (Missing x))
+IsOutcomeByReplies K X p c (Blocked s x by) = Concerns K c s × HeldBelow K X p c s × (reply_of K X p s ≡ Some (Taken x by))
 
 -- the outcome of the transaction at a place: by the replies of all shards that it concerns, each of which has its Lock; committed exactly where all
 -- held it
 pub record IsReplied (K : Shape) (X : ℕ → List Record) (p : PlaceIn) (c : Compact) (o : Outcome) : Type 0 where
-  pub locks : (s : ℕ) → Concerns K c s → IsLocked K X p.batch s
-  pub outcome : IsOutcome K X p c o
+  pub locks : (s : ℕ) → Concerns K c s → HasStandingLock K X p.batch s
+  pub outcome : IsOutcomeByReplies K X p c o
   pub exactly : HeldBelow K X p c K.shards → o ≡ Won

@@ -28,6 +28,6 @@ abbrev pub place_at : Shape → VerdictsOf → List (List FullTx) → (ℕ → L
 place_at K verdicts files E X k file j = new_place K E X (lane_at K j) (turn K (sound_by verdicts) (take k files) file j)
 
 -- a batch that was prepared newly has this transaction at the place
-pub record IsPrepared (K : Shape) (E X : ℕ → List Record) (p : PlaceIn) (c : Compact) : Type 0 where
+pub record IsNewlyPrepared (K : Shape) (E X : ℕ → List Record) (p : PlaceIn) (c : Compact) : Type 0 where
   pub new : has_prepare K E p.batch ≡ false
   pub holds : tx_at (txs_of (X (home_of K p.batch.lane)) p.batch) p.at ≡ Some c

@@ -11,9 +11,9 @@ use Rattle.audit.specs.declared.verdict.Totals.{Totals}
 use Rattle.audit.specs.Verdicts.{IsSound}
 use Rattle.printed_lines.specs.Unspent.{IsUnspentCount}
 use Rattle.submission_laws.specs.Sent.{IsSent}
-use Rattle.submission_laws.specs.Free.{IsConfirmed}
+use Rattle.submission_laws.specs.Free.{IsSubmissionConfirmed}
 use Rattle.workload.specs.Generator.{mint_of, minted_of, joined_of}
-use Rattle.submission_laws.specs.Files.{all_good, files_of, all_of, made_for}
+use Rattle.submission_laws.specs.Files.{all_good, files_of, all_submissions, made_for}
 
 -- how many hashes are unspent in the end: each split makes two, and each join takes two and makes one
 abbrev pub left_of : ℕ → ℕ
@@ -25,13 +25,13 @@ totals_of seed n = record { coins = left_of n; value = value_out (mint_of seed n
 
 -- behind a run of a workload each of its transactions is confirmed, `left_of` hashes are unspent, and the totals of an audit that finds all sound
 -- are `totals_of`
-pub record IsWhole (K : Shape) (seed n : ℕ) (X : ℕ → List Record) : Type 0 where
-  pub confirmed : (k j : ℕ) (t : FullTx) (it : IsSent all_good (files_of seed n) k j t) → IsConfirmed K all_good (files_of seed n) (made_for K seed n) X k it.file j t
+pub record IsWorkloadWhole (K : Shape) (seed n : ℕ) (X : ℕ → List Record) : Type 0 where
+  pub confirmed : (k j : ℕ) (t : FullTx) (it : IsSent all_good (files_of seed n) k j t) → IsSubmissionConfirmed K all_good (files_of seed n) (made_for K seed n) X k it.file j t
   pub unspent : (m : ℕ) → IsUnspentCount K X m → m ≡ left_of n
-  pub totals : (rows : List Row) (totals : Totals) → ((node : ℕ) → journal node (reverse rows) ≡ X node) → IsOrdered (reverse rows) → IsSound K (mint_of seed n) (all_of seed n) rows totals
+  pub totals : (rows : List Row) (totals : Totals) → ((node : ℕ) → journal node (reverse rows) ≡ X node) → IsOrdered (reverse rows) → IsSound K (mint_of seed n) (all_submissions seed n) rows totals
       → totals ≡ totals_of seed n
 
 -- so it is behind every run of the two files over the ledger of the mint
 abbrev pub WholeLaw : Type 0
-WholeLaw = (K : Shape) (seed n : ℕ) (X : ℕ → List Record) → 0 < K.shards → 0 < K.lanes → 0 < K.coordinators * K.lanes → Clean (mint_of seed n) (all_of seed n)
-    → KeptJournals K (mint_of seed n) (all_of seed n) X → Waves K (sound_by all_good) (files_of seed n) (made_for K seed n) X → IsWhole K seed n X
+WholeLaw = (K : Shape) (seed n : ℕ) (X : ℕ → List Record) → 0 < K.shards → 0 < K.lanes → 0 < K.coordinators * K.lanes → Clean (mint_of seed n) (all_submissions seed n)
+    → KeptJournals K (mint_of seed n) (all_submissions seed n) X → Waves K (sound_by all_good) (files_of seed n) (made_for K seed n) X → IsWorkloadWhole K seed n X

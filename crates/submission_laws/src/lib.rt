@@ -5,7 +5,7 @@
 mod workload_run;
 
 ghost use Rattle.submission_laws.specs.Free.{FreeConfirmedLaw};
-ghost use Rattle.submission_laws.specs.Settled.{SettledLaw};
+ghost use Rattle.submission_laws.specs.Settled.{SubmissionSettledLaw};
 
 pub use workload_run::whole_law;
 
@@ -17,7 +17,7 @@ pub use workload_run::whole_law;
 /// it concerns held it, else naming the least that did not, with the hash and cause of its reply; each Lock has the replies that the journal before
 /// it gives; and what is reported of the submission is that place's batch and outcome.
 pub fn settled_law()
-    ensures { SettledLaw }
+    ensures { SubmissionSettledLaw }
 {}
 
 /// A sound submission whose inputs are unspent when its file's wave begins, and which no other sound submission of its file

@@ -34,9 +34,9 @@ use Rattle.run_laws.proofs.Seen.{seen_log}
 use Rattle.lane_laws.proofs.Own.{slot_own}
 use Rattle.run_laws.proofs.TurnKinds.{taken_law, prepared_law}
 use Rattle.run_laws.proofs.Stopping.{stop_law}
-use Rattle.ledger_runs.specs.Pieces.{HasPrepared}
-use Rattle.ledger_runs.specs.Turning.{phase_at}
-use Rattle.ledger_runs.specs.Faults.{AreOfLane, GrowBy, IsWanted, wants_prepare, wants_lock, IsLaneCause, IsOpenCause, HaveFailed, MayHold, Nothing, Waits}
+use Rattle.ledger_runs.specs.Pieces.{HasPreparedPieces}
+use Rattle.ledger_runs.specs.Turning.{lane_phase}
+use Rattle.ledger_runs.specs.Faults.{AreOfLane, GrowBy, IsWanted, wants_prepare, wants_lock, IsLaneCause, IsOpenCause, HaveFailed, MayHoldBytes, Nothing, LaneWaits}
 use Rattle.thread_laws.specs.Nodes.{AreNodes}
 use Rattle.thread_laws.proofs.Headers.{are_journals}
 use Rattle.thread_laws.proofs.OpenThere.{told_lane, unfinished}
@@ -71,7 +71,7 @@ wanted_of K lane next J node r (next_lock b t txs s is at concerned phase stands
 
 module _ (K : Shape) (lane : ℕ) (next : List Compact → Type 0) (I J : ℕ → List Record) (opened faults capacity : ℕ → ℕ) (grown : GrowBy lane I J) where
   abbrev Causes : LaneFault → Type 0
-  Causes e = IsLaneCause K lane next I J (HaveFailed opened faults) (MayHold capacity) e
+  Causes e = IsLaneCause K lane next I J (HaveFailed opened faults) (MayHoldBytes capacity) e
 
   failed : (e : LaneFault) (node : ℕ) → e ≡ record { node = node; fault = DiskStopped } → HasFailed K lane next J opened faults node → Causes e
   failed e node is h = subst Causes (sym is) (record { inside = h.node_is; asked = h.asked; did = h.rose })
@@ -104,7 +104,7 @@ module _ (K : Shape) (lane : ℕ) (next : List Compact → Type 0) (I J : ℕ �
   })
 
   -- where the lane may wait for want of memory
-  free_cause : (e : LaneFault) (node : ℕ) (f : NodeFault) → IsFaultOf e node f → IsStopBy K lane next J opened faults capacity node f → (f ≡ Memory → Waits K lane I J) → ((e.fault ≡ NoMemory) × Waits K lane I J) ⊎ Causes e
+  free_cause : (e : LaneFault) (node : ℕ) (f : NodeFault) → IsFaultOf e node f → IsStopBy K lane next J opened faults capacity node f → (f ≡ Memory → LaneWaits K lane I J) → ((e.fault ≡ NoMemory) × LaneWaits K lane I J) ⊎ Causes e
   free_cause e node (Broken since) is h waits = inr (failed e node is h)
   free_cause e node (Refuses why) is h waits = absurd h
   free_cause e node (ClockEnd stamp) is h waits = inr (no_stamp e node stamp is h)
@@ -173,7 +173,7 @@ module _ (K : Shape) (lane : ℕ) (logs shards logs' shards' : ℕ → Sight) (l
   none_done : log' ≡ log → shards' ≡ shards → IsCheckedTurn K m lane I J
   none_done e s = turned [] ((taken_law K lane logs shards logs' shards' elsewhere).4 e s)
 
-  unprepared : IsTurn K [] lane logs shards logs' shards' → HasPrepared K lane [] I J
+  unprepared : IsTurn K [] lane logs shards logs' shards' → HasPreparedPieces K lane [] I J
   unprepared turn =
       ap (prepared lane) (seen_log K logs' shards' (home_of K lane) home) ∙ (prepared_law K lane logs shards logs' shards' home).2 turn
       ∙ ap (prepared lane) (sym (seen_log K logs shards (home_of K lane) home))
@@ -186,7 +186,7 @@ module _ (K : Shape) (lane : ℕ) (logs shards logs' shards' : ℕ → Sight) (l
     lane_is = told_lane log.seen lane o told
 
     -- the phase is that of its journal
-    prepared_still : (slot log'.seen o.batch.lane).phase ≡ InPrepare → phase_at K J lane ≡ InPrepare
+    prepared_still : (slot log'.seen o.batch.lane).phase ≡ InPrepare → lane_phase K J lane ≡ InPrepare
     prepared_still phase = ap (λ L. (slot L lane).phase) (seen_log K logs' shards' (home_of K lane) home) ∙ subst (λ l. (slot log'.seen l).phase ≡ InPrepare) lane_is phase
 
     pub still : IsUnfinished o.phase K o log shards
@@ -201,16 +201,16 @@ module _ (K : Shape) (lane : ℕ) (logs shards logs' shards' : ℕ → Sight) (l
         turned [] ((taken_law K lane logs shards logs' shards' elsewhere).3 o.batch s.0 s.1 lane_is s.3)
 
     -- an open batch that was taken up, or left, is what the lane had prepared before
-    pub taken_unprepared : (IsUnfinished o.phase K o log shards → IsTakenUp K true o.batch log shards log' shards') → HasPrepared K lane [] I J
+    pub taken_unprepared : (IsUnfinished o.phase K o log shards → IsTakenUp K true o.batch log shards log' shards') → HasPreparedPieces K lane [] I J
     taken_unprepared taken = unprepared ((taken_law K lane logs shards logs' shards' elsewhere).2 o.batch lane_is (taken still))
 
-    pub left_unprepared : (e : LaneFault) → IsResumeStopped K true o log shards log' shards' e → HasPrepared K lane [] I J
+    pub left_unprepared : (e : LaneFault) → IsResumeStopped K true o log shards log' shards' e → HasPreparedPieces K lane [] I J
     left_unprepared e stop =
         let s = stop still in
         unprepared ((taken_law K lane logs shards logs' shards' elsewhere).3 o.batch s.0 s.1 lane_is s.3)
 
     pub left_cause : (e : LaneFault) → IsResumeStopped K true o log shards log' shards' e
-        → IsOpenCause K lane I J (HaveFailed (opened_by K logs' shards') (faults_by K logs' shards')) (MayHold (capacity_by K logs' shards')) e
+        → IsOpenCause K lane I J (HaveFailed (opened_by K logs' shards') (faults_by K logs' shards')) (MayHoldBytes (capacity_by K logs' shards')) e
     left_cause e stop =
         let s = stop still in
         let turn = left_checked e stop in

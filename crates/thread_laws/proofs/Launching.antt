@@ -17,7 +17,7 @@ use Rattle.lane_driver.specs.declared.fault.LaneFault.{LaneFault}
 use Rattle.lane_driver.specs.Stops.{IsLaneStopped}
 use Rattle.run_laws.specs.Checked.{CheckedJournals}
 use Rattle.ledger_runs.specs.Turning.{IsLaneOf}
-use Rattle.ledger_runs.specs.Pieces.{HasPrepared, IsNextPiece}
+use Rattle.ledger_runs.specs.Pieces.{HasPreparedPieces, IsNextPiece}
 use Rattle.thread_laws.specs.Threads.{LaneLeft}
 use Rattle.thread_laws.specs.Stopping.{NodesOf}
 use Rattle.thread_laws.proofs.Stopping.{next_one}
@@ -50,7 +50,7 @@ module _ (K : Shape) (m : Minted) (J : ℕ → List Record) (n t : ℕ) (b : Bat
   is_idle = after.1.2
 
   -- where nothing was written there the lane has prepared nothing
-  pub was_launched : (I : ℕ → List Record) → J n ≡ I n → HasPrepared K b.lane [] I J
+  pub was_launched : (I : ℕ → List Record) → J n ≡ I n → HasPreparedPieces K b.lane [] I J
   was_launched I still = ap (prepared b.lane) (subst (λ k. J k ≡ I k) at_home still)
 
 no_flight : (o : Option Record) (r : Record) → o ≡ None → o ≡ Some r → ⊥

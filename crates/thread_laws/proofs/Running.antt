@@ -21,8 +21,8 @@ use Rattle.node_lock.specs.Moving.{Same}
 use Rattle.node_lock.specs.Tickets.{times, Done}
 use Rattle.thread_laws.specs.Threads.{asks}
 use Rattle.thread_laws.specs.Stopping.{NodesOf}
-use Rattle.thread_laws.specs.Closing.{Locks}
-use Rattle.thread_laws.specs.Whole.{Went, WaveSays}
+use Rattle.thread_laws.specs.Closing.{NodeLocks}
+use Rattle.thread_laws.specs.Whole.{LaneWent, WaveSays}
 use Rattle.thread_laws.specs.Sitting.{SitsAt, Sits, Sat}
 use Rattle.thread_laws.specs.Running.{NodeRan, LaneRan, WaveRan, WaveNodes, NodesSay, WaveRanLaw, FreshSettledLaw}
 use Rattle.thread_laws.proofs.Hands.{behind}
@@ -253,7 +253,7 @@ module _ (K : Shape) (logs shards logs' shards' : ℕ → Sight) (nodes : WaveNo
           at true e some = let d = ran.log_drawn n l (lt_of n K.coordinators e) some in (d.0, its (home_of K l) n (not (nat_lt n K.coordinators)) d.1)
           at false e some = past (nat_lt s K.shards) refl e some
 
-      abbrev locks : Locks K E X (flying K logs shards) (flying K logs' shards')
+      abbrev locks : NodeLocks K E X (flying K logs shards) (flying K logs' shards')
       locks = record {
         first = first;
         last = last;
@@ -308,7 +308,7 @@ module _ (K : Shape) (logs shards logs' shards' : ℕ → Sight) (nodes : WaveNo
         sat : Sat K E X lane last hands_at r.log r.seen r.log' r.seen'
         sat = sits_law K E X (flying K logs shards) (flying K logs' shards') locks lane r.log r.seen r.log' r.seen' apart_at same_at sits
 
-        went : Went K E X hands_at (opened_by K logs' shards') (faults_by K logs' shards') (capacity_by K logs' shards') lane x y
+        went : LaneWent K E X hands_at (opened_by K logs' shards') (faults_by K logs' shards') (capacity_by K logs' shards') lane x y
         went = record {
           number = r.settled.0;
           log = r.log;

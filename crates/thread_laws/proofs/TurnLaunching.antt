@@ -22,7 +22,7 @@ use Rattle.run_laws.specs.Runs.{seen_by}
 use Rattle.run_laws.specs.Turns.{Elsewhere}
 use Rattle.run_laws.specs.Flights.{flying}
 use Rattle.ledger_runs.specs.Turning.{IsLaneOf}
-use Rattle.ledger_runs.specs.Pieces.{HasPrepared}
+use Rattle.ledger_runs.specs.Pieces.{HasPreparedPieces}
 use Rattle.ledger_runs.specs.Faults.{Nothing}
 use Rattle.ledger_runs.specs.Flying.{Launches}
 use Rattle.thread_laws.specs.Nodes.{AreNodes, AreNext, SameFlights}
@@ -78,7 +78,7 @@ module _ (K : Shape) (lane : ℕ) (logs shards logs' shards' : ℕ → Sight) (l
     low = subst (λ k. k < K.coordinators) (sym at) (home_inside b.lane K.coordinators K.lanes inside)
 
     -- where it was before, nothing was written at its node
-    was_there : F n ≡ Some (Prepare t b txs) → HasPrepared K b.lane [] I J
+    was_there : F n ≡ Some (Prepare t b txs) → HasPreparedPieces K b.lane [] I J
     was_there was = ap (prepared b.lane)
         (subst (λ k. J k ≡ I k) at (still_here K lane logs shards logs' shards' limits.some_shard home shape elsewhere nodes nodes' log_nodes shard_nodes next n (Prepare t b txs) was))
 

@@ -19,7 +19,7 @@ use Rattle.node_lock.specs.declared.views.Hand.{Hand}
 use Rattle.node_lock.specs.Moving.{Same}
 use Rattle.node_lock.specs.Tickets.{times, Done}
 use Rattle.thread_laws.specs.Sitting.{SitsAt}
-use Rattle.thread_laws.specs.Whole.{HasEnded, EachPair, WaveSays}
+use Rattle.thread_laws.specs.Whole.{LaneHasEnded, EachPair, WaveSays}
 
 -- a node whose lock was made with a seat for each of these lanes, and closed with these hands
 pub record NodeRan (first : Sight) (lanes : List ℕ) (hands : List Hand) (last : Sight) : Type 0 where
@@ -38,7 +38,7 @@ pub record LaneRan (K : Shape) (logs shards : ℕ → Sight) (log_hands shard_ha
   pub at_shard : (s : ℕ) → s < K.shards → SitsAt lane (shards s) (shard_hands s) (seen s) (seen' s)
   pub beyond : (s : ℕ) → K.shards ≤ s → ((seen s).seen ≡ []) × ((seen s).flight ≡ None) × ((seen' s).seen ≡ [])
   pub txs : new.txs ≡ old.txs
-  pub ended : HasEnded K lane log seen log' seen' old new
+  pub ended : LaneHasEnded K lane log seen log' seen' old new
 
 -- a wave: each coordinator has seats for lanes of its own, each shard for any, each node has run, and so has each lane
 pub record WaveRan (K : Shape) (logs shards logs' shards' : ℕ → Sight) (old new : List LaneOf) : Type 0 where

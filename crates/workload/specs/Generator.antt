@@ -32,8 +32,8 @@ abbrev pub mint_of : ℕ → ℕ → List Output
 mint_of seed n = map (coin seed) (range_with_len 0 (minted_of n))
 
 -- a witness of 64 zero bytes
-abbrev pub witness : List ℕ
-witness = replicate 64 0
+abbrev pub zero_witness : List ℕ
+zero_witness = replicate 64 0
 
 -- the two halves of coin i, the second the greater where they differ
 abbrev pub low_half : ℕ → ℕ → ℕ → Output
@@ -48,7 +48,7 @@ abbrev pub split_of : ℕ → ℕ → Digest → ℕ → FullTx
 split_of seed n genesis i = record {
   inputs = record { point = record { tx = genesis; index = i }; output = coin seed i } ∷ [];
   outputs = low_half seed n i ∷ high_half seed n i ∷ [];
-  witnesses = witness ∷ [];
+  witnesses = zero_witness ∷ [];
 }
 
 abbrev pub splits_of : ℕ → ℕ → List FullTx
@@ -60,7 +60,7 @@ join_by seed n i split = record {
   inputs = record { point = record { tx = split; index = 0 }; output = low_half seed n i }
       ∷ record { point = record { tx = split; index = 1 }; output = high_half seed n i } ∷ [];
   outputs = record { program = program (3 * n + i); value = coin_value seed i } ∷ [];
-  witnesses = witness ∷ witness ∷ [];
+  witnesses = zero_witness ∷ zero_witness ∷ [];
 }
 
 -- `join_by`, `join_of`, `joins_of`: the transaction that joins the halves of a coin again, and the second client file

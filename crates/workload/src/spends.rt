@@ -1,7 +1,7 @@
 // The transactions that split coins, and those that join the halves.
 ghost use Rattle.std.specs.Prelude.{◌≡◌, ◌+◌, ◌≤◌, ◌<◌, map, IfOk};
 ghost use Rattle.std.specs.List.{range_with_len};
-ghost use Rattle.workload.specs.Generator.{witness as witness_bytes, low_half, high_half, split_of, join_of};
+ghost use Rattle.workload.specs.Generator.{zero_witness as witness_bytes, low_half, high_half, split_of, join_of};
 
 use crate::coins::{coin, program, value};
 use cbdc_types::{FullTx, Hash, Input, List, OutPoint, Output};

@@ -3,16 +3,16 @@ use Rattle.std.proofs.lemmas.List.{length-map}
 use Rattle.submissions.specs.Checks.{AreChecked}
 use Rattle.ledger_runs.specs.Lanes.{came_of}
 use Rattle.file_runs.proofs.Sending.{are_of}
-use Rattle.ledger_runs.specs.Telling.{AreFresh, AllTell}
+use Rattle.ledger_runs.specs.Telling.{AreLanesFresh, AllTellNew}
 use Rattle.ledger_runs.specs.Waving.{NoFault, FirstFaultIs}
 use Rattle.file_runs.proofs.Filing.{stays_more, are_within, keeps_file, of_wave, runs_file}
-use Rattle.ledger_runs.specs.Faults.{HaveFailed, MayHold}
+use Rattle.ledger_runs.specs.Faults.{HaveFailed, MayHoldBytes}
 use Rattle.file_runs.proofs.Causing.{file_begun, file_cause, file_done, wave_rests}
 use Rattle.file_runs.proofs.Pieces.{file_unbegun}
 use Rattle.file_runs.proofs.Flying.{flies_none, flies_file}
 use Rattle.ledger_runs.proofs.Launching.{launches_begin}
 use Rattle.ledger_runs.proofs.Keeping.{ledger_same}
-use Rattle.file_runs.specs.Ledgers.{journals, flights, faults, opened, capacity}
+use Rattle.file_runs.specs.Ledgers.{ledger_journals, ledger_flights, ledger_faults, ledger_opened, ledger_capacity}
 use Rattle.file_runs.specs.Runs.{IsSentPiece, AreLanesOf}
 use Rattle.file_runs.proofs.Launching.{file_launches}
 use Rattle.file_runs.proofs.Ending.{file_ends}
@@ -34,18 +34,18 @@ pub returns-in_default : goal.returns-in_default
 returns-in_default g c = record {
   keeps_ledger = ledger_same c.args.ledger;
   idle = search rules;
-  keeps = stays_more c.args.ledger.header.shape (journals c.args.ledger) g.F.Deals.file;
+  keeps = stays_more c.args.ledger.header.shape (ledger_journals c.args.ledger) g.F.Deals.file;
   runs = search rules;
   quiet = search rules;
   checked = search rules;
   told = search rules;
-  flies = flies_none c.args.ledger.header.shape g.F.Deals.file (journals c.args.ledger) (flights c.args.ledger);
-  launches = launches_begin c.args.ledger.header.shape (IsSentPiece c.args.ledger.header.shape g.F.Deals.verdicts g.F.Deals.file (journals c.args.ledger) (journals c.args.ledger))
-      (journals c.args.ledger) (flights c.args.ledger);
+  flies = flies_none c.args.ledger.header.shape g.F.Deals.file (ledger_journals c.args.ledger) (ledger_flights c.args.ledger);
+  launches = launches_begin c.args.ledger.header.shape (IsSentPiece c.args.ledger.header.shape g.F.Deals.verdicts g.F.Deals.file (ledger_journals c.args.ledger) (ledger_journals c.args.ledger))
+      (ledger_journals c.args.ledger) (ledger_flights c.args.ledger);
   still = search rules;
   grows = search rules;
   prepared = search rules;
-  begun = file_unbegun c.args.ledger.header.shape g.F.Deals.verdicts g.F.Deals.file (journals c.args.ledger);
+  begun = file_unbegun c.args.ledger.header.shape g.F.Deals.verdicts g.F.Deals.file (ledger_journals c.args.ledger);
   fault = search rules;
   rests = λ lane inside. inl (inl (c.requires.idle lane inside));
   least = inl (ap (λ e. e.fault) c.no_memory.ensures, λ n. refl);
@@ -55,18 +55,18 @@ pub returns-in_default-wave_room : goal.returns-in_default-wave_room
 returns-in_default-wave_room g c = record {
   keeps_ledger = ledger_same c.args.ledger;
   idle = search rules;
-  keeps = stays_more c.args.ledger.header.shape (journals c.args.ledger) g.F.Deals.file;
+  keeps = stays_more c.args.ledger.header.shape (ledger_journals c.args.ledger) g.F.Deals.file;
   runs = search rules;
   quiet = search rules;
   checked = search rules;
   told = search rules;
-  flies = flies_none c.args.ledger.header.shape g.F.Deals.file (journals c.args.ledger) (flights c.args.ledger);
-  launches = launches_begin c.args.ledger.header.shape (IsSentPiece c.args.ledger.header.shape g.F.Deals.verdicts g.F.Deals.file (journals c.args.ledger) (journals c.args.ledger))
-      (journals c.args.ledger) (flights c.args.ledger);
+  flies = flies_none c.args.ledger.header.shape g.F.Deals.file (ledger_journals c.args.ledger) (ledger_flights c.args.ledger);
+  launches = launches_begin c.args.ledger.header.shape (IsSentPiece c.args.ledger.header.shape g.F.Deals.verdicts g.F.Deals.file (ledger_journals c.args.ledger) (ledger_journals c.args.ledger))
+      (ledger_journals c.args.ledger) (ledger_flights c.args.ledger);
   still = search rules;
   grows = search rules;
   prepared = search rules;
-  begun = file_unbegun c.args.ledger.header.shape g.F.Deals.verdicts g.F.Deals.file (journals c.args.ledger);
+  begun = file_unbegun c.args.ledger.header.shape g.F.Deals.verdicts g.F.Deals.file (ledger_journals c.args.ledger);
   fault = search rules;
   rests = λ lane inside. inl (inl (c.requires.idle lane inside));
   least = inl (ap (λ e. e.fault) c.no_memory-in_default-wave_room.ensures, λ n. refl);
@@ -79,39 +79,39 @@ returns-in-Some g c =
       keeps_ledger = c.run_fed-ledger.ensures.keeps_ledger;
       idle = search rules;
       keeps = keeps_file c.args.ledger.header.shape g.F.Deals.verdicts g.F.Deals.file c.in-Ok.works.items
-          (journals c.args.ledger) (journals c.run_fed-ledger.result.ledger) are c.run_fed-ledger.ensures.says.keeps;
+          (ledger_journals c.args.ledger) (ledger_journals c.run_fed-ledger.result.ledger) are c.run_fed-ledger.ensures.says.keeps;
       runs = search rules;
       quiet = search rules;
       checked = search rules;
       told = search rules;
       flies = flies_file c.args.ledger.header.shape g.F.Deals.verdicts g.F.Deals.file c.in-Ok.works.items
-          (journals c.args.ledger) (journals c.run_fed-ledger.result.ledger) (flights c.args.ledger) (flights c.run_fed-ledger.result.ledger)
+          (ledger_journals c.args.ledger) (ledger_journals c.run_fed-ledger.result.ledger) (ledger_flights c.args.ledger) (ledger_flights c.run_fed-ledger.result.ledger)
           are c.run_fed-ledger.ensures.says.flies;
       launches = let K = c.args.ledger.header.shape in
           let verdicts = g.F.Deals.verdicts in
-          file_launches K verdicts g.F.Deals.file c.in-Ok.works.items c.run_fed-ledger.result.works.items (journals c.args.ledger) (journals c.run_fed-ledger.result.ledger)
-          (flights c.args.ledger) (flights c.run_fed-ledger.result.ledger) (c.run_fed-ledger.ensures.says.count ∙ are.count) are c.run_fed-ledger.ensures.says.sent (c.run_fed-ledger.ensures.says.launches c.requires.checked.0 c.requires.checked.1);
+          file_launches K verdicts g.F.Deals.file c.in-Ok.works.items c.run_fed-ledger.result.works.items (ledger_journals c.args.ledger) (ledger_journals c.run_fed-ledger.result.ledger)
+          (ledger_flights c.args.ledger) (ledger_flights c.run_fed-ledger.result.ledger) (c.run_fed-ledger.ensures.says.count ∙ are.count) are c.run_fed-ledger.ensures.says.sent (c.run_fed-ledger.ensures.says.launches c.requires.checked.0 c.requires.checked.1);
       still = c.run_fed-ledger.ensures.checked c.requires.checked;
       grows = search rules;
       prepared = search rules;
       begun = λ some. let K = c.args.ledger.header.shape in
           let verdicts = g.F.Deals.verdicts in
-          file_begun K verdicts g.F.Deals.file c.in-Ok.works.items c.run_fed-ledger.result.works.items (journals c.args.ledger) (journals c.run_fed-ledger.result.ledger)
+          file_begun K verdicts g.F.Deals.file c.in-Ok.works.items c.run_fed-ledger.result.works.items (ledger_journals c.args.ledger) (ledger_journals c.run_fed-ledger.result.ledger)
           (c.run_fed-ledger.ensures.says.count ∙ are.count) are c.run_fed-ledger.ensures.says.sent c.run_fed-ledger.ensures.says.begun;
       fault = let K = c.args.ledger.header.shape in
           let verdicts = g.F.Deals.verdicts in
           let first = subst (λ ls. FirstFaultIs ls (Some c.in-Some.fault)) c.deref.ensures.value (subst (λ o. FirstFaultIs c.deref.result.now o) c.in-Some.is c.first_fault.ensures) in
-          file_cause K verdicts g.F.Deals.file c.in-Ok.works.items c.run_fed-ledger.result.works.items (journals c.args.ledger) (journals c.run_fed-ledger.result.ledger)
-          (HaveFailed (opened c.run_fed-ledger.result.ledger) (faults c.run_fed-ledger.result.ledger)) (MayHold (capacity c.run_fed-ledger.result.ledger))
+          file_cause K verdicts g.F.Deals.file c.in-Ok.works.items c.run_fed-ledger.result.works.items (ledger_journals c.args.ledger) (ledger_journals c.run_fed-ledger.result.ledger)
+          (HaveFailed (ledger_opened c.run_fed-ledger.result.ledger) (ledger_faults c.run_fed-ledger.result.ledger)) (MayHoldBytes (ledger_capacity c.run_fed-ledger.result.ledger))
           (c.run_fed-ledger.ensures.says.count ∙ are.count) are c.run_fed-ledger.ensures.says.sent (c.run_fed-ledger.ensures.says.causes c.requires.checked.0 c.requires.checked.1 are.fresh) c.in-Some.fault first;
-      rests = wave_rests c.args.ledger.header.shape c.run_fed-ledger.result.works.items (journals c.args.ledger) (journals c.run_fed-ledger.result.ledger)
-          (HaveFailed (opened c.run_fed-ledger.result.ledger) (faults c.run_fed-ledger.result.ledger)) (MayHold (capacity c.run_fed-ledger.result.ledger))
+      rests = wave_rests c.args.ledger.header.shape c.run_fed-ledger.result.works.items (ledger_journals c.args.ledger) (ledger_journals c.run_fed-ledger.result.ledger)
+          (HaveFailed (ledger_opened c.run_fed-ledger.result.ledger) (ledger_faults c.run_fed-ledger.result.ledger)) (MayHoldBytes (ledger_capacity c.run_fed-ledger.result.ledger))
           (c.run_fed-ledger.ensures.says.count ∙ are.count) (c.run_fed-ledger.ensures.says.causes c.requires.checked.0 c.requires.checked.1 are.fresh) c.run_fed-ledger.ensures.says.theirs;
       least = let K = c.args.ledger.header.shape in
           let verdicts = g.F.Deals.verdicts in
           let first = subst (λ ls. FirstFaultIs ls (Some c.in-Some.fault)) c.deref.ensures.value (subst (λ o. FirstFaultIs c.deref.result.now o) c.in-Some.is c.first_fault.ensures) in
-          file_ends K verdicts g.F.Deals.file c.in-Ok.works.items c.run_fed-ledger.result.works.items (journals c.args.ledger) (journals c.run_fed-ledger.result.ledger)
-          (HaveFailed (opened c.run_fed-ledger.result.ledger) (faults c.run_fed-ledger.result.ledger)) (MayHold (capacity c.run_fed-ledger.result.ledger))
+          file_ends K verdicts g.F.Deals.file c.in-Ok.works.items c.run_fed-ledger.result.works.items (ledger_journals c.args.ledger) (ledger_journals c.run_fed-ledger.result.ledger)
+          (HaveFailed (ledger_opened c.run_fed-ledger.result.ledger) (ledger_faults c.run_fed-ledger.result.ledger)) (MayHoldBytes (ledger_capacity c.run_fed-ledger.result.ledger))
           (c.run_fed-ledger.ensures.says.count ∙ are.count) are c.run_fed-ledger.ensures.says.sent (c.run_fed-ledger.ensures.says.causes c.requires.checked.0 c.requires.checked.1 are.fresh) c.run_fed-ledger.ensures.says.theirs c.in-Some.fault first;
     }
 
@@ -123,48 +123,48 @@ returns-in-None g c =
       idle = let none = subst (λ o. FirstFaultIs c.deref.result.now o) c.in-None.is c.first_fault.ensures in
           c.run_fed-ledger.ensures.says.idle (subst (λ ls. NoFault ls) c.deref.ensures.value none);
       keeps = keeps_file c.args.ledger.header.shape g.F.Deals.verdicts g.F.Deals.file c.in-Ok.works.items
-          (journals c.args.ledger) (journals c.run_fed-ledger.result.ledger) are c.run_fed-ledger.ensures.says.keeps;
+          (ledger_journals c.args.ledger) (ledger_journals c.run_fed-ledger.result.ledger) are c.run_fed-ledger.ensures.says.keeps;
       runs = let K = c.args.ledger.header.shape in
           let none = subst (λ o. FirstFaultIs c.deref.result.now o) c.in-None.is c.first_fault.ensures in
           runs_file K g.F.Deals.verdicts g.F.Deals.file c.in-Ok.works.items c.run_fed-ledger.result.works.items
-          (journals c.args.ledger) (journals c.run_fed-ledger.result.ledger) are (subst (λ ls. NoFault ls) c.deref.ensures.value none) c.run_fed-ledger.ensures.says.runs;
+          (ledger_journals c.args.ledger) (ledger_journals c.run_fed-ledger.result.ledger) are (subst (λ ls. NoFault ls) c.deref.ensures.value none) c.run_fed-ledger.ensures.says.runs;
       quiet = let none = subst (λ o. FirstFaultIs c.deref.result.now o) c.in-None.is c.first_fault.ensures in
           c.run_fed-ledger.ensures.quiet (subst (λ ls. NoFault ls) c.deref.ensures.value none);
       checked = subst (λ k. AreChecked k g.F.Deals.verdicts g.F.Deals.file c.wave_of.result.checked.items) c.requires.shape c.wave_of.ensures.checked;
       told = λ mint submissions kept. let K = c.args.ledger.header.shape in
           let verdicts = g.F.Deals.verdicts in
-          let I = journals c.args.ledger in
-          let J = journals c.run_fed-ledger.result.ledger in
+          let I = ledger_journals c.args.ledger in
+          let J = ledger_journals c.run_fed-ledger.result.ledger in
           let none = subst (λ ls. NoFault ls) c.deref.ensures.value (subst (λ o. FirstFaultIs c.deref.result.now o) c.in-None.is c.first_fault.ensures) in
           record {
             checked = subst (λ k. AreChecked k verdicts g.F.Deals.file c.wave_of.result.checked.items) c.requires.shape c.wave_of.ensures.checked;
             count = ap (λ ls. length ls) c.wave_of.ensures.lanes ∙ (length-map c.run_fed-ledger.result.works.items came_of ∙ (c.run_fed-ledger.ensures.says.count ∙ are.count));
             runs = runs_file K verdicts g.F.Deals.file c.in-Ok.works.items c.run_fed-ledger.result.works.items I J are none c.run_fed-ledger.ensures.says.runs mint submissions kept;
-            tell = subst (λ ls. AllTell K I J ls) (sym c.wave_of.ensures.lanes)
-                (of_wave K verdicts g.F.Deals.file c.in-Ok.works.items c.run_fed-ledger.result.works.items I (AreFresh c.in-Ok.works.items → AllTell K I J (map came_of c.run_fed-ledger.result.works.items))
+            tell = subst (λ ls. AllTellNew K I J ls) (sym c.wave_of.ensures.lanes)
+                (of_wave K verdicts g.F.Deals.file c.in-Ok.works.items c.run_fed-ledger.result.works.items I (AreLanesFresh c.in-Ok.works.items → AllTellNew K I J (map came_of c.run_fed-ledger.result.works.items))
                 are none c.run_fed-ledger.ensures.says.told mint submissions kept are.untold);
           };
       flies = flies_file c.args.ledger.header.shape g.F.Deals.verdicts g.F.Deals.file c.in-Ok.works.items
-          (journals c.args.ledger) (journals c.run_fed-ledger.result.ledger) (flights c.args.ledger) (flights c.run_fed-ledger.result.ledger)
+          (ledger_journals c.args.ledger) (ledger_journals c.run_fed-ledger.result.ledger) (ledger_flights c.args.ledger) (ledger_flights c.run_fed-ledger.result.ledger)
           are c.run_fed-ledger.ensures.says.flies;
       launches = let K = c.args.ledger.header.shape in
           let verdicts = g.F.Deals.verdicts in
-          file_launches K verdicts g.F.Deals.file c.in-Ok.works.items c.run_fed-ledger.result.works.items (journals c.args.ledger) (journals c.run_fed-ledger.result.ledger)
-          (flights c.args.ledger) (flights c.run_fed-ledger.result.ledger) (c.run_fed-ledger.ensures.says.count ∙ are.count) are c.run_fed-ledger.ensures.says.sent (c.run_fed-ledger.ensures.says.launches c.requires.checked.0 c.requires.checked.1);
+          file_launches K verdicts g.F.Deals.file c.in-Ok.works.items c.run_fed-ledger.result.works.items (ledger_journals c.args.ledger) (ledger_journals c.run_fed-ledger.result.ledger)
+          (ledger_flights c.args.ledger) (ledger_flights c.run_fed-ledger.result.ledger) (c.run_fed-ledger.ensures.says.count ∙ are.count) are c.run_fed-ledger.ensures.says.sent (c.run_fed-ledger.ensures.says.launches c.requires.checked.0 c.requires.checked.1);
       still = c.run_fed-ledger.ensures.checked c.requires.checked;
       grows = search rules;
       prepared = let K = c.args.ledger.header.shape in
           let verdicts = g.F.Deals.verdicts in
           let none = subst (λ ls. NoFault ls) c.deref.ensures.value (subst (λ o. FirstFaultIs c.deref.result.now o) c.in-None.is c.first_fault.ensures) in
-          file_done K verdicts g.F.Deals.file c.in-Ok.works.items c.run_fed-ledger.result.works.items (journals c.args.ledger) (journals c.run_fed-ledger.result.ledger)
+          file_done K verdicts g.F.Deals.file c.in-Ok.works.items c.run_fed-ledger.result.works.items (ledger_journals c.args.ledger) (ledger_journals c.run_fed-ledger.result.ledger)
           (c.run_fed-ledger.ensures.says.count ∙ are.count) are c.run_fed-ledger.ensures.says.sent (c.run_fed-ledger.ensures.says.prepared none);
       begun = λ some. let K = c.args.ledger.header.shape in
           let verdicts = g.F.Deals.verdicts in
-          file_begun K verdicts g.F.Deals.file c.in-Ok.works.items c.run_fed-ledger.result.works.items (journals c.args.ledger) (journals c.run_fed-ledger.result.ledger)
+          file_begun K verdicts g.F.Deals.file c.in-Ok.works.items c.run_fed-ledger.result.works.items (ledger_journals c.args.ledger) (ledger_journals c.run_fed-ledger.result.ledger)
           (c.run_fed-ledger.ensures.says.count ∙ are.count) are c.run_fed-ledger.ensures.says.sent c.run_fed-ledger.ensures.says.begun;
       fault = search rules;
-      rests = wave_rests c.args.ledger.header.shape c.run_fed-ledger.result.works.items (journals c.args.ledger) (journals c.run_fed-ledger.result.ledger)
-          (HaveFailed (opened c.run_fed-ledger.result.ledger) (faults c.run_fed-ledger.result.ledger)) (MayHold (capacity c.run_fed-ledger.result.ledger))
+      rests = wave_rests c.args.ledger.header.shape c.run_fed-ledger.result.works.items (ledger_journals c.args.ledger) (ledger_journals c.run_fed-ledger.result.ledger)
+          (HaveFailed (ledger_opened c.run_fed-ledger.result.ledger) (ledger_faults c.run_fed-ledger.result.ledger)) (MayHoldBytes (ledger_capacity c.run_fed-ledger.result.ledger))
           (c.run_fed-ledger.ensures.says.count ∙ are.count) (c.run_fed-ledger.ensures.says.causes c.requires.checked.0 c.requires.checked.1 are.fresh) c.run_fed-ledger.ensures.says.theirs;
       least = search rules;
     }

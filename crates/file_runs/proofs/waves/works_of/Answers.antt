@@ -1,5 +1,5 @@
 use Rattle.std.proofs.Common.{rules, ◌≡◌, ◌+◌, [], ◌∷◌, length, length-append, sym, ap, ◌∙◌, subst}
-use Rattle.lane_sources.specs.Sources.{all_of}
+use Rattle.lane_sources.specs.Sources.{all_for_lane}
 use Rattle.file_runs.proofs.Sending.{AreBegun, one_more, none_yet, all_begun}
 use Rattle.file_runs.proofs.waves.works_of.Goals as goal
 
@@ -17,7 +17,7 @@ lanes-preserved g c =
       count = ap (λ xs. length xs) c.in_ok-push.ensures.items ∙ (length-append c.lanes.works.items (x ∷ []) ∙ ap (λ n. n + 1) c.lanes.invariant.count);
       begun = subst (λ xs. AreBegun g.F.Deals.shape g.F.Deals.verdicts g.F.Deals.file xs) (sym c.in_ok-push.ensures.items)
           (one_more g.F.Deals.shape g.F.Deals.verdicts g.F.Deals.file c.lanes.works.items x c.lanes.invariant.begun
-          (e.txs.0 ∙ ap (λ l. all_of g.F.Deals.shape g.F.Deals.verdicts g.F.Deals.file l) (c.in_ok-source.ensures ∙ sym c.lanes.invariant.count)) e.fault e.fresh);
+          (e.txs.0 ∙ ap (λ l. all_for_lane g.F.Deals.shape g.F.Deals.verdicts g.F.Deals.file l) (c.in_ok-source.ensures ∙ sym c.lanes.invariant.count)) e.fault e.fresh);
     }
 
 pub returns : goal.returns

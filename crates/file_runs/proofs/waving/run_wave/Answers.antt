@@ -3,7 +3,7 @@ use Rattle.std.specs.List.{All}
 use Rattle.cbdc_model.specs.After.{IsJournal}
 use Rattle.cbdc_model.specs.World.{AreIdle}
 use Rattle.node_journal.specs.Nodes.{NodeOf}
-use Rattle.file_runs.specs.Ledgers.{FliesNext, journals_of, AreChecked}
+use Rattle.file_runs.specs.Ledgers.{FliesNext, node_journals, HaveCheckedJournals}
 use Rattle.file_runs.proofs.Waved.{nodes_of, all_settled, all_within, wave_law}
 use Rattle.file_runs.proofs.waving.run_wave.Goals as goal
 
@@ -12,8 +12,8 @@ wave-logs-requires-clause-ledger g c κs k = nodes_of c.ledger.inside.header c.l
 
 pub wave-logs-requires-clause-settled : goal.wave-logs-requires-clause-settled
 wave-logs-requires-clause-settled g c κs k = all_settled c.ledger.inside.header c.ledger.inside.logs.items c.ledger.inside.shards.items c.ledger.invariant
-    (subst (λ v. AreChecked v.header.shape v.logs v.shards) (sym c.ledger.view_is) c.requires.checked)
-    (subst (λ v. AreIdle v.header.shape (journals_of v.header.shape v.logs v.shards)) (sym c.ledger.view_is) c.requires.idle)
+    (subst (λ v. HaveCheckedJournals v.header.shape v.logs v.shards) (sym c.ledger.view_is) c.requires.checked)
+    (subst (λ v. AreIdle v.header.shape (node_journals v.header.shape v.logs v.shards)) (sym c.ledger.view_is) c.requires.idle)
 
 pub wave-logs-requires-clause-limits : goal.wave-logs-requires-clause-limits
 wave-logs-requires-clause-limits g c κs k = all_within c.args.lanes.now.items c.requires.limits

@@ -4,7 +4,7 @@ use Rattle.std.proofs.lemmas.Option.{slice_get-get_or}
 use Rattle.cbdc_model.specs.Coins.{tx_id}
 use Rattle.submissions.specs.Checks.{IsSaid}
 use Rattle.submissions.proofs.Placing.{snoc_get}
-use Rattle.lane_sources.specs.Sources.{lanes_of, SubmissionAt}
+use Rattle.lane_sources.specs.Sources.{count_of_lanes, SubmissionAt}
 use Rattle.lane_sources.proofs.Noting.{place_of}
 use Rattle.lane_sources.proofs.behind.checks_of.Goals as goal
 
@@ -19,7 +19,7 @@ places-preserved g c =
     let s = get_or c.finish_all.new.sources (place % lanes) c.index-sources-place.result in
     let low : place % lanes < length c.finish_all.new.sources = search rules in
     let lane : s.lane ≡ place % lanes = (c.finish_all.ensures.end (place % lanes) s (slice_get-get_or c.finish_all.new.sources (place % lanes) c.index-sources-place.result low)).0 in
-    let is : s.lane + lanes_of K * (place / lanes) ≡ place = place_of (lanes_of K) lanes place s.lane c.lanes-lanes.ensures.lanes lane in
+    let is : s.lane + count_of_lanes K * (place / lanes) ≡ place = place_of (count_of_lanes K) lanes place s.lane c.lanes-lanes.ensures.lanes lane in
     let said : SubmissionAt file place (λ t. (one.id ≡ tx_id t) × IsSaid K verdicts file place t one.judgement) =
     subst (λ j. SubmissionAt file j (λ t. (one.id ≡ tx_id t) × IsSaid K verdicts file j t one.judgement)) is c.said.ensures in
     record {

@@ -2,7 +2,7 @@ use Rattle.std.proofs.Common.{rules, ◌≡◌, ◌+◌, ◌*◌, List, [], leng
 use Rattle.std.specs.Prelude.{All}
 use Rattle.std.proofs.lemmas.List.Elements.{All-nil, All-push, All-same}
 use Rattle.lane_waves.specs.Places.{AllFrom}
-use Rattle.lane_waves.specs.Deals.{IsWaiting, HaveSeats, IsHomeFresh, IsHomeLeft, IsEmptyRoom}
+use Rattle.lane_waves.specs.Deals.{AreLanesWaiting, HaveSeats, IsHomeFresh, IsHomeLeft, IsEmptyRoom}
 use Rattle.lane_waves.proofs.Places.{snoc_many, pushed_many, all_last, next_row, zero_row}
 use Rattle.lane_waves.proofs.Ending.{none_seated}
 use Rattle.lane_waves.proofs.dealing.deal_all.Goals as goal
@@ -36,7 +36,7 @@ deal_home-own-requires-clause-waiting g c =
     let row = next_row c.len-home.result (length c.loop-own.homes.items) c.args.shape.now.lanes (omega (arith, many, at)) in
     let full = m.0 in
     let all : length c.loop-own.homes.items * c.args.shape.now.lanes ≡ c.len-home.result * c.args.shape.now.lanes + length c.in-Some.own.items = omega (arith, row, full) in
-    subst (λ n. IsWaiting g.S.Shard.sight c.args.shard_locks.now n c.loop-own.table) all c.loop-own.invariant.waiting
+    subst (λ n. AreLanesWaiting g.S.Shard.sight c.args.shard_locks.now n c.loop-own.table) all c.loop-own.invariant.waiting
 
 pub loop-own-init : goal.loop-own-init
 loop-own-init g c =
@@ -51,7 +51,7 @@ loop-own-init g c =
       homes_room = refl;
       place = c.requires.place;
       emptied = subst (All (IsEmptyRoom K.lanes)) (sym c.requires.empty) (All-nil (IsEmptyRoom K.lanes));
-      waiting = subst (λ n. IsWaiting sight hs (n * K.lanes) c.args.table) (sym m) c.requires.waiting;
+      waiting = subst (λ n. AreLanesWaiting sight hs (n * K.lanes) c.args.table) (sym m) c.requires.waiting;
       dealt = none_seated sight g.B.Locks.tables K c.args.log_locks.now hs (length c.args.homes.items * K.lanes) c.args.table c.requires.none;
     }
 
@@ -82,7 +82,7 @@ loop-own-preserved g c =
       homes_room = c.pop.ensures.capacity ∙ inv.homes_room;
       place = let p = inv.place in let k = c.push_reserved.ensures.capacity in omega (arith, p, k);
       emptied = All-same (IsEmptyRoom K.lanes) c.push_reserved.new.self.items _ c.push_reserved.ensures.items (All-push (IsEmptyRoom K.lanes) c.loop-own.emptied.items c.deal_home-own.result.0 inv.emptied (e.empty.0, omega (arith, a, b, cap, full)));
-      waiting = subst (λ n. IsWaiting sight hs (n * K.lanes) u) at e.waiting;
+      waiting = subst (λ n. AreLanesWaiting sight hs (n * K.lanes) u) at e.waiting;
       dealt = subst (λ n. HaveSeats sight g.B.Locks.tables K gs hs (n * K.lanes) c.args.table.lanes.items u) at (e.dealt c.args.table.lanes.items
           (subst (λ n. HaveSeats sight g.B.Locks.tables K gs hs n c.args.table.lanes.items c.loop-own.table) all inv.dealt));
     }
@@ -98,7 +98,7 @@ pub returns-clause-waiting : goal.returns-clause-waiting
 returns-clause-waiting g c =
     let none : c.loop-own.homes.items ≡ [] = search (rules, c.in_default.ensures.cases) in
     let all = ap (λ (xs : List _). length xs * c.args.shape.now.lanes) none ∙ zero_row c.args.shape.now.lanes in
-    subst (λ n. IsWaiting g.S.Shard.sight c.args.shard_locks.now n c.loop-own.table) all c.loop-own.invariant.waiting
+    subst (λ n. AreLanesWaiting g.S.Shard.sight c.args.shard_locks.now n c.loop-own.table) all c.loop-own.invariant.waiting
 
 pub returns-clause-dealt : goal.returns-clause-dealt
 returns-clause-dealt g c =

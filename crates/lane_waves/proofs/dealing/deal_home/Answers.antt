@@ -6,7 +6,7 @@ use Rattle.node_lock.specs.declared.views.Hand.{Hand}
 use Rattle.node_lock.specs.Seats.{knows, opening_of}
 use Rattle.port_sets.specs.Nodes.{shard_sight, log_sight}
 use Rattle.lane_waves.specs.NodeRows.{AreDealt}
-use Rattle.lane_waves.specs.Deals.{MayRun, IsWaiting, HaveSeats, IsOpenAt}
+use Rattle.lane_waves.specs.Deals.{MayRun, AreLanesWaiting, HaveSeats, IsOpenNodeAt}
 use Rattle.lane_waves.proofs.Places.{snoc_many, all_here}
 use Rattle.lane_waves.proofs.Lists.{home_last}
 use Rattle.lane_waves.proofs.Seating.{set_up, seats_more}
@@ -18,7 +18,7 @@ invariant_of-port g c =
     let guarded = c.index-log_locks-home.result in
     let there : slice_get gs c.args.home ≡ Some guarded = slice_get_read gs _ c.args.home guarded refl c.requires.home c.index-log_locks-home.is in
     let k = (home_last c.args.shape.now c.args.home gs c.loop-seat.own.items c.pop.new.self.items c.in-Some.seat c.loop-seat.invariant.own c.in-Some.ensures.items guarded there).1 in
-    let open_at : IsOpenAt c.args.shape.now c.args.home (log_sight (opening_of guarded)) = all_here (λ n x. IsOpenAt c.args.shape.now n (log_sight (opening_of x))) gs c.args.home guarded c.requires.open.logs there in
+    let open_at : IsOpenNodeAt c.args.shape.now c.args.home (log_sight (opening_of guarded)) = all_here (λ n x. IsOpenNodeAt c.args.shape.now n (log_sight (opening_of x))) gs c.args.home guarded c.requires.open.logs there in
     record {
       own = (k.0, k.1);
       since = subst (λ n. (log_sight (opening_of guarded)).opened ≤ n) (sym (ap (λ (h : Hand). h.faults) k.2)) open_at.since;
@@ -43,7 +43,7 @@ deal_lane-table-requires-clause-waiting g c =
     let lane : (knows c.in-Some.seat).lane ≡ c.args.home * c.args.shape.now.lanes + length c.pop.new.self.items = ap (λ (h : Hand). h.lane) k.2 in
     let many = snoc_many c.loop-seat.own.items c.pop.new.self.items c.in-Some.seat c.in-Some.ensures.items in
     let all : c.args.home * c.args.shape.now.lanes + length c.loop-seat.own.items ≡ suc (knows c.in-Some.seat).lane = omega (arith, lane, many) in
-    subst (λ n. IsWaiting g.S.Shard.sight c.args.shard_locks.now n c.loop-seat.table) all c.loop-seat.invariant.waiting
+    subst (λ n. AreLanesWaiting g.S.Shard.sight c.args.shard_locks.now n c.loop-seat.table) all c.loop-seat.invariant.waiting
 
 pub loop-seat-preserved : goal.loop-seat-preserved
 loop-seat-preserved g c =
@@ -73,7 +73,7 @@ loop-seat-preserved g c =
       many = omega (arith, low);
       own = λ x at_x. (home_last K c.args.home gs c.loop-seat.own.items rest c.in-Some.seat inv.own c.in-Some.ensures.items x at_x).0;
       capacity = c.pop.ensures.capacity ∙ inv.capacity;
-      waiting = subst (λ n. IsWaiting sight hs n u) lane e.waiting;
+      waiting = subst (λ n. AreLanesWaiting sight hs n u) lane e.waiting;
       dealt = λ lanes d. seats_more sight tables K gs hs c.requires.open at lanes _ c.loop-seat.table u next up
           (subst (λ n. HaveSeats sight tables K gs hs n lanes c.loop-seat.table) all (inv.dealt lanes d));
     }
@@ -83,7 +83,7 @@ returns-clause-waiting g c =
     let none : c.loop-seat.own.items ≡ [] = search (rules, c.in_default.ensures.cases) in
     let z = ap (λ (xs : List _). length xs) none in
     let all : c.args.home * c.args.shape.now.lanes + length c.loop-seat.own.items ≡ c.args.home * c.args.shape.now.lanes = omega (arith, z) in
-    subst (λ n. IsWaiting g.S.Shard.sight c.args.shard_locks.now n c.loop-seat.table) all c.loop-seat.invariant.waiting
+    subst (λ n. AreLanesWaiting g.S.Shard.sight c.args.shard_locks.now n c.loop-seat.table) all c.loop-seat.invariant.waiting
 
 pub returns-clause-dealt : goal.returns-clause-dealt
 returns-clause-dealt g c =

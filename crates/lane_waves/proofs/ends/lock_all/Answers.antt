@@ -1,7 +1,7 @@
 use Rattle.std.proofs.Common.{rules, ◌≡◌, ◌≤◌, ◌+◌, ◌<◌, ℕ, List, length, reverse, [], ◌∷◌, ◌++◌, refl, ap, ◌∙◌, arith, subst, sym}
 use Rattle.node_lock.specs.Seats.{AreFresh, table_of}
 use Rattle.node_lock.specs.Tickets.{times}
-use Rattle.lane_waves.specs.NodeRows.{AreRows, IsRow, AreLocked, AreReady, AreClosed, AreStill}
+use Rattle.lane_waves.specs.NodeRows.{AreRows, IsRow, AreLocked, HaveAllSeats, AreClosed, AreStill}
 use Rattle.lane_waves.proofs.Locking.{Locking, rows_last, first_locked, more_locked, all_locked, locked_ready, all_still, all_same, same_before}
 use Rattle.lane_waves.proofs.ends.lock_all.Goals as goal
 

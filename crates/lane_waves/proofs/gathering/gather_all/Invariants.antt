@@ -3,7 +3,7 @@ use Rattle.std.specs.Prelude.{All, vec_capacity}
 use Rattle.node_lock.specs.declared.lock.Guarded.{Guarded}
 use Rattle.port_sets.specs.declared.locking.SharedShard.{SharedShard}
 use Rattle.lane_waves.specs.Deals.{IsEmptyRoom}
-use Rattle.lane_waves.specs.Gathers.{MayGather, Gathered}
+use Rattle.lane_waves.specs.Gathers.{MayGather, RunsGathered}
 use Rattle.lane_waves.proofs.Giving.{HomesGone}
 use Rattle.lane_waves.proofs.gathering.gather_all.Given as goal
 
@@ -16,7 +16,7 @@ invariant-loop-own g l = record {
   room : MayGather l.table;
   rooms : l.table.rooms ≡ l.fn.table.rooms;
   homes : HomesGone l.count l.fn.table l.homes.items l.table;
-  gathered : (locks : List (Guarded (SharedShard _))) (all : _) → Gathered locks all l.fn.table → Gathered locks all l.table;
+  gathered : (locks : List (Guarded (SharedShard _))) (all : _) → RunsGathered locks all l.fn.table → RunsGathered locks all l.table;
 }
 
 abbrev pub decreases-loop-own : goal.decreases-loop-own

@@ -1,6 +1,6 @@
 use Rattle.std.proofs.Common.{◌≡◌, suc, List, length, refl, sym, ap, ◌∙◌, subst, arith}
 use Rattle.lane_waves.specs.Dealing.{PopsEach}
-use Rattle.lane_waves.specs.Gathers.{EachTakes, AllOver, MayKeep, IsEnd}
+use Rattle.lane_waves.specs.Gathers.{EachTakes, AllOver, MayKeep, IsLaneEnd}
 use Rattle.lane_waves.proofs.Places.{snoc_many, pushed_many}
 use Rattle.lane_waves.proofs.Lists.{pops_many}
 use Rattle.lane_waves.proofs.Giving.{takes_room, takes_left, over_last, seats_many}
@@ -67,7 +67,7 @@ returns-clause-back g c =
       rows = subst (PopsEach c.gather-rows.result.rows.items t.rows.items) c.seats_back.ensures c.gather-rows.ensures.added;
       lane = c.kept.result;
       lanes = c.push_reserved.ensures.items;
-      came = subst (λ o. IsEnd c.in-Some.run'.work o c.kept.result) (sym c.in-Some-came.is) c.kept.ensures;
+      came = subst (λ o. IsLaneEnd c.in-Some.run'.work o c.kept.result) (sym c.in-Some-came.is) c.kept.ensures;
     }
 
 pub seats_back-requires-clause-empty : goal.seats_back-requires-clause-empty

@@ -1,6 +1,6 @@
 use Rattle.std.proofs.Common.{rules, ◌<◌, length, ap, ◌∙◌, arith}
 use Rattle.std.proofs.lemmas.List.Elements.{AllWithin-more_set}
-use Rattle.lane_waves.specs.Lanes.{IsReady}
+use Rattle.lane_waves.specs.Lanes.{IsLaneReady}
 use Rattle.lane_waves.proofs.Keeping.{map_set}
 use Rattle.lane_waves.proofs.lanes.make_ready.Goals as goal
 
@@ -18,5 +18,5 @@ loop-place-preserved g c =
     record {
       same = map_set (λ x. x.txs) c.loop-place.lanes.items c.loop-place.place c.make_one_ready.new.work c.index_mut.result.now lt (c.make_one_ready.ensures.same ∙ ap (λ x. x.txs) c.index_mut.ensures.value) ∙ inv.same;
       len = search (rules, inv);
-      ready = AllWithin-more_set c.loop-place.lanes.items c.loop-place.place c.make_one_ready.new.work lt IsReady inv.ready c.in_ok-make_one_ready.ensures.ready;
+      ready = AllWithin-more_set c.loop-place.lanes.items c.loop-place.place c.make_one_ready.new.work lt IsLaneReady inv.ready c.in_ok-make_one_ready.ensures.ready;
     }

@@ -1,6 +1,6 @@
 use Rattle.std.proofs.Common.{rules, ◌<◌, length, ap, ◌∙◌, arith}
 use Rattle.std.proofs.lemmas.List.Elements.{AllWithin-more_set}
-use Rattle.lane_waves.specs.Lanes.{HasNoMemory}
+use Rattle.lane_waves.specs.Lanes.{HasStoppedForMemory}
 use Rattle.lane_waves.proofs.Keeping.{map_set}
 use Rattle.lane_waves.proofs.lanes.stop_all.Goals as goal
 
@@ -12,5 +12,5 @@ loop-place-preserved g c =
     record {
       same = map_set (λ x. x.txs) c.loop-place.lanes.items c.loop-place.place c.stop.new.work x lt (c.stop.ensures.same ∙ ap (λ x. x.txs) c.index_mut.ensures.value) ∙ inv.same;
       len = search (rules, inv);
-      stopped = AllWithin-more_set c.loop-place.lanes.items c.loop-place.place c.stop.new.work lt HasNoMemory inv.stopped c.stop.ensures.stopped;
+      stopped = AllWithin-more_set c.loop-place.lanes.items c.loop-place.place c.stop.new.work lt HasStoppedForMemory inv.stopped c.stop.ensures.stopped;
     }

@@ -1,11 +1,11 @@
 use Rattle.std.proofs.Common.{◌≡◌, map, length}
 use Rattle.std.specs.List.{AllWithin}
-use Rattle.lane_waves.specs.Lanes.{HasNoMemory}
+use Rattle.lane_waves.specs.Lanes.{HasStoppedForMemory}
 use Rattle.lane_waves.proofs.lanes.stop_all.Given as goal
 
 abbrev pub invariant-loop-place : goal.invariant-loop-place
 invariant-loop-place g l = record {
   same : map (λ x. x.txs) l.lanes.items ≡ map (λ x. x.txs) l.fn.lanes.items;
   len : length l.lanes.items ≡ length l.fn.lanes.items;
-  stopped : AllWithin HasNoMemory l.lanes.items 0 l.place;
+  stopped : AllWithin HasStoppedForMemory l.lanes.items 0 l.place;
 }

@@ -1,6 +1,6 @@
 use Rattle.std.proofs.Common.{rules, ◌≡◌, ◌≤◌, ◌<◌, List, [], length, ◌∷◌, ◌++◌, refl, arith, ap, ◌∙◌, sym, append-nil}
 use Rattle.std.specs.Prelude.{vec_capacity}
-use Rattle.lane_waves.specs.Dealing.{Pops, PopsEach, HaveOne, HaveRoom}
+use Rattle.lane_waves.specs.Dealing.{Pops, PopsEach, HaveOne, HaveRoomForOne}
 use Rattle.lane_waves.proofs.Rounds.{one_left, deals_on}
 use Rattle.lane_waves.proofs.node_dealing.deal.Goals as goal
 

@@ -2,17 +2,17 @@ use Rattle.std.proofs.Common.{◌≡◌, ◌<◌, ℕ, List, length, refl, sym, 
 use Rattle.std.specs.Prelude.{slice_index_or}
 use Rattle.std.specs.List.{AllZip}
 use Rattle.std.proofs.lemmas.List.Elements.{All-same}
-use Rattle.lane_waves.specs.Held.{Begins, Ends}
+use Rattle.lane_waves.specs.Held.{RunBegins, RunEnds}
 use Rattle.lane_waves.proofs.Places.{all_anew}
 use Rattle.lane_waves.proofs.Ending.{ends_zip}
 use Rattle.lane_waves.proofs.waves.run_table.Goals as goal
 
 pub run_all-requires-clause-begin : goal.run_all-requires-clause-begin
-run_all-requires-clause-begin g c κ lives = All-same (Begins g.S.Shard.sight g.B.Locks.tables c.args.shape.now) c.as_mut_slice.result.now c.args.table.runs.items c.as_mut_slice.ensures.value c.requires.begin
+run_all-requires-clause-begin g c κ lives = All-same (RunBegins g.S.Shard.sight g.B.Locks.tables c.args.shape.now) c.as_mut_slice.result.now c.args.table.runs.items c.as_mut_slice.ensures.value c.requires.begin
 
 pub returns : goal.returns
 returns g c =
-    let E = Ends g.S.Shard.sight g.B.Locks.tables c.args.shape.now in
+    let E = RunEnds g.S.Shard.sight g.B.Locks.tables c.args.shape.now in
     let olds = c.args.table.runs in
     let news = c.run_all.new.runs in
     let same : length news ≡ length olds.items = c.run_all.auto.runs ∙ ap (λ (xs : List _). length xs) c.as_mut_slice.ensures.value in

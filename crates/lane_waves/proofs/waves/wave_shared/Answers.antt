@@ -5,10 +5,10 @@ use Rattle.ledger_runs.specs.Lanes.{LaneOf}
 use Rattle.node_ports.specs.Nodes.{sight_at}
 use Rattle.port_sets.specs.Nodes.{log_sight, shard_sight}
 use Rattle.thread_laws.specs.Running.{WaveRan}
-use Rattle.lane_waves.specs.NodeRows.{AreReady, AreLeft}
+use Rattle.lane_waves.specs.NodeRows.{HaveAllSeats, AreLeft}
 use Rattle.lane_waves.proofs.NodePlaces.{held, nodes_still, past_end}
 use Rattle.lane_waves.specs.Rows.{home_lanes, all_lanes}
-use Rattle.lane_waves.specs.Deals.{MayRun, AreOpen, IsHomeFresh}
+use Rattle.lane_waves.specs.Deals.{MayRun, AreLocksOpen, IsHomeFresh}
 use Rattle.lane_waves.specs.Places.{AllFrom}
 use Rattle.lane_waves.specs.Waves.{log_goes, shard_goes, AreThrough}
 use Rattle.lane_waves.proofs.Opening.{are_open, homes_fresh, are_fresh, openings, lanes_are, seats_many, tables_of}
@@ -69,8 +69,8 @@ run_seated-homes-requires-clause-open g c κs within =
     let hs = k.shards.locks.items in
     let ns = c.args.nodes.logs.items in
     let ms = c.args.nodes.shards.items in
-    subst (λ xs. AreOpen sight (tables_of K.coordinators xs c.as_slice-2.result.now) K xs c.as_slice-2.result.now) (sym c.as_slice.ensures.value)
-    (subst (λ ys. AreOpen sight (tables_of K.coordinators gs ys) K gs ys) (sym c.as_slice-2.ensures.value)
+    subst (λ xs. AreLocksOpen sight (tables_of K.coordinators xs c.as_slice-2.result.now) K xs c.as_slice-2.result.now) (sym c.as_slice.ensures.value)
+    (subst (λ ys. AreLocksOpen sight (tables_of K.coordinators gs ys) K gs ys) (sym c.as_slice-2.ensures.value)
     (are_open sight K gs hs ns ms (openings log_sight ns c.args.home_rows.items gs k.logs.seats.items e.logs) (openings (shard_sight sight) ms c.args.shard_rows.items hs k.shards.seats.items e.shards)
     c.requires.limits c.requires.logs_many c.requires.shards_many c.requires.ledger c.requires.logs_since c.requires.shards_since c.requires.settled
     (lanes_are log_sight (home_lanes K) 0 gs k.logs.seats.items (are_fresh log_sight (home_lanes K) 0 ns c.args.home_rows.items gs k.logs.seats.items c.requires.home_rows e.logs))
@@ -155,13 +155,13 @@ pub run_seated-homes-requires-clause-lanes_many : goal.run_seated-homes-requires
 run_seated-homes-requires-clause-lanes_many g c κs within = ap (λ v. length v.items) c.replace.ensures.value ∙ c.requires.lanes_many
 
 pub close_all-requires-clause-ready : goal.close_all-requires-clause-ready
-close_all-requires-clause-ready g c = subst (λ xs. AreReady xs c.run_seated-homes.result.homes.items) c.as_slice.ensures.value c.run_seated-homes.ensures.homes_ready
+close_all-requires-clause-ready g c = subst (λ xs. HaveAllSeats xs c.run_seated-homes.result.homes.items) c.as_slice.ensures.value c.run_seated-homes.ensures.homes_ready
 
 pub close_all-requires-clause-empty : goal.close_all-requires-clause-empty
 close_all-requires-clause-empty g c = c.in-Ok.ensures.logs_room.0
 
 pub close_all-requires-2-clause-ready : goal.close_all-requires-2-clause-ready
-close_all-requires-2-clause-ready g c = subst (λ xs. AreReady xs c.run_seated-homes.result.rows.items) c.as_slice-2.ensures.value c.run_seated-homes.ensures.rows_ready
+close_all-requires-2-clause-ready g c = subst (λ xs. HaveAllSeats xs c.run_seated-homes.result.rows.items) c.as_slice-2.ensures.value c.run_seated-homes.ensures.rows_ready
 
 pub close_all-requires-2-clause-empty : goal.close_all-requires-2-clause-empty
 close_all-requires-2-clause-empty g c = c.in-Ok.ensures.shards_room.0

@@ -7,7 +7,7 @@ use Rattle.rack_ledgers.proofs.Each.{each_weaker}
 use Rattle.rack_ledgers.proofs.Closing.{closed_whole}
 use Rattle.rack_ledgers.specs.declared.blank.Blank.{Blank}
 use Rattle.ledger_init.specs.Made.{node_count}
-use Rattle.ledger_init.specs.Places.{IsDone, IsStopped, StopsAt}
+use Rattle.ledger_init.specs.Places.{IsFirstWritten, IsStopped, WritingStopsAt}
 use Rattle.ledger_init.proofs.Places.{minted_is, may_be_made, all_hold, all_places, all_rooms, all_left, stopped_left, stopped_lead, stopped_unmade, opening_unmade, back_begun, back_emptied, back_all, stopped_at}
 use Rattle.ledger_init.proofs.making.make_nodes.Goals as goal
 
@@ -36,7 +36,7 @@ returns-in-Ok-write_firsts-clause-written g c =
     let blanks = c.in-Ok-open_all.blanks.items in
     let all : length blanks ≡ node_count c.args.shape.now = omega (arith, c.in-Ok-open_all.ensures.all, c.coordinators.ensures.value, c.shards.ensures.value) in
     let opened = closed_whole _ 0 c.new.result.items blanks c.new.ensures.items c.in-Ok-open_all.ensures.opened in
-    let done = subst (λ (m : Minted). EachFrom (λ n (b : Blank g.row.R-Disk.Denot). IsDone g.R.Disk.Disk (first_record c.args.shape.now m n) b.disk (g.R.Rack.held c.write_firsts.new.rack n)) 0 blanks)
+    let done = subst (λ (m : Minted). EachFrom (λ n (b : Blank g.row.R-Disk.Denot). IsFirstWritten g.R.Disk.Disk (first_record c.args.shape.now m n) b.disk (g.R.Rack.held c.write_firsts.new.rack n)) 0 blanks)
     (minted_is c.in-Ok.genesis c.args.mint c.in-Ok.ensures.0 c.in-Ok.ensures.1) c.in-Ok-write_firsts.ensures.done in
     all_hold g.R.Disk.Disk (λ (b : Blank g.row.R-Disk.Denot). b.disk) (λ (b : Blank g.row.R-Disk.Denot). b.node) c.args.shape.now c.args.mint (λ n. g.R.Rack.held c.args.rack.now n) (λ n. g.R.Rack.held c.write_firsts.new.rack n) (λ n. g.R.Rack.count c.args.rack.now n) (λ n. g.R.Rack.count c.write_firsts.new.rack n) blanks all opened done
 
@@ -45,7 +45,7 @@ returns-in-Ok-write_firsts-clause-places g c =
     let blanks = c.in-Ok-open_all.blanks.items in
     let all : length blanks ≡ node_count c.args.shape.now = omega (arith, c.in-Ok-open_all.ensures.all, c.coordinators.ensures.value, c.shards.ensures.value) in
     let opened = closed_whole _ 0 c.new.result.items blanks c.new.ensures.items c.in-Ok-open_all.ensures.opened in
-    let done = subst (λ (m : Minted). EachFrom (λ n (b : Blank g.row.R-Disk.Denot). IsDone g.R.Disk.Disk (first_record c.args.shape.now m n) b.disk (g.R.Rack.held c.write_firsts.new.rack n)) 0 blanks)
+    let done = subst (λ (m : Minted). EachFrom (λ n (b : Blank g.row.R-Disk.Denot). IsFirstWritten g.R.Disk.Disk (first_record c.args.shape.now m n) b.disk (g.R.Rack.held c.write_firsts.new.rack n)) 0 blanks)
     (minted_is c.in-Ok.genesis c.args.mint c.in-Ok.ensures.0 c.in-Ok.ensures.1) c.in-Ok-write_firsts.ensures.done in
     all_places g.R.Disk.Disk (λ (b : Blank g.row.R-Disk.Denot). b.disk) (λ (b : Blank g.row.R-Disk.Denot). b.node) c.args.shape.now c.args.mint (λ n. g.R.Rack.held c.args.rack.now n) (λ n. g.R.Rack.held c.write_firsts.new.rack n) (λ n. g.R.Rack.count c.args.rack.now n) (λ n. g.R.Rack.count c.write_firsts.new.rack n) blanks all opened c.coordinators.ensures.limits c.requires.few done
 
@@ -54,7 +54,7 @@ returns-in-Ok-write_firsts-clause-rooms g c =
     let blanks = c.in-Ok-open_all.blanks.items in
     let all : length blanks ≡ node_count c.args.shape.now = omega (arith, c.in-Ok-open_all.ensures.all, c.coordinators.ensures.value, c.shards.ensures.value) in
     let opened = closed_whole _ 0 c.new.result.items blanks c.new.ensures.items c.in-Ok-open_all.ensures.opened in
-    let done = subst (λ (m : Minted). EachFrom (λ n (b : Blank g.row.R-Disk.Denot). IsDone g.R.Disk.Disk (first_record c.args.shape.now m n) b.disk (g.R.Rack.held c.write_firsts.new.rack n)) 0 blanks)
+    let done = subst (λ (m : Minted). EachFrom (λ n (b : Blank g.row.R-Disk.Denot). IsFirstWritten g.R.Disk.Disk (first_record c.args.shape.now m n) b.disk (g.R.Rack.held c.write_firsts.new.rack n)) 0 blanks)
     (minted_is c.in-Ok.genesis c.args.mint c.in-Ok.ensures.0 c.in-Ok.ensures.1) c.in-Ok-write_firsts.ensures.done in
     all_rooms g.R.Disk.Disk (λ (b : Blank g.row.R-Disk.Denot). b.disk) (λ (b : Blank g.row.R-Disk.Denot). b.node) c.args.shape.now c.args.mint (λ n. g.R.Rack.held c.args.rack.now n) (λ n. g.R.Rack.held c.write_firsts.new.rack n) (λ n. g.R.Rack.count c.args.rack.now n) (λ n. g.R.Rack.count c.write_firsts.new.rack n) blanks all opened done
 
@@ -63,7 +63,7 @@ returns-in-Ok-write_firsts-clause-left g c =
     let blanks = c.in-Ok-open_all.blanks.items in
     let all : length blanks ≡ node_count c.args.shape.now = omega (arith, c.in-Ok-open_all.ensures.all, c.coordinators.ensures.value, c.shards.ensures.value) in
     let opened = closed_whole _ 0 c.new.result.items blanks c.new.ensures.items c.in-Ok-open_all.ensures.opened in
-    let done = subst (λ (m : Minted). EachFrom (λ n (b : Blank g.row.R-Disk.Denot). IsDone g.R.Disk.Disk (first_record c.args.shape.now m n) b.disk (g.R.Rack.held c.write_firsts.new.rack n)) 0 blanks)
+    let done = subst (λ (m : Minted). EachFrom (λ n (b : Blank g.row.R-Disk.Denot). IsFirstWritten g.R.Disk.Disk (first_record c.args.shape.now m n) b.disk (g.R.Rack.held c.write_firsts.new.rack n)) 0 blanks)
     (minted_is c.in-Ok.genesis c.args.mint c.in-Ok.ensures.0 c.in-Ok.ensures.1) c.in-Ok-write_firsts.ensures.done in
     all_left g.R.Disk.Disk (λ (b : Blank g.row.R-Disk.Denot). b.disk) (λ (b : Blank g.row.R-Disk.Denot). b.node) c.args.shape.now c.args.mint (λ n. g.R.Rack.held c.args.rack.now n) (λ n. g.R.Rack.held c.write_firsts.new.rack n) (λ n. g.R.Rack.count c.args.rack.now n) (λ n. g.R.Rack.count c.write_firsts.new.rack n) blanks all opened (each_weaker _ _ 0 blanks (λ k b ge lt is. is.begun) done)
 
@@ -72,9 +72,9 @@ returns-clause-refusal g c =
     let blanks = c.in-Ok-open_all.blanks.items in
     let all : length blanks ≡ node_count c.args.shape.now = omega (arith, c.in-Ok-open_all.ensures.all, c.coordinators.ensures.value, c.shards.ensures.value) in
     let opened = closed_whole _ 0 c.new.result.items blanks c.new.ensures.items c.in-Ok-open_all.ensures.opened in
-    let stopped = subst (λ (m : Minted). StopsAt (λ n (b : Blank g.row.R-Disk.Denot). OfTold (g.R.Rack.held c.write_firsts.new.rack n) (λ d. d ≡ b.disk))
+    let stopped = subst (λ (m : Minted). WritingStopsAt (λ n (b : Blank g.row.R-Disk.Denot). OfTold (g.R.Rack.held c.write_firsts.new.rack n) (λ d. d ≡ b.disk))
     (λ n (b : Blank g.row.R-Disk.Denot). IsStopped g.R.Disk.Disk n (first_record c.args.shape.now m n) c.in-Err-write_firsts.fault (g.R.Rack.count c.write_firsts.new.rack n) b.disk (g.R.Rack.held c.write_firsts.new.rack n))
-    (λ n (b : Blank g.row.R-Disk.Denot). IsDone g.R.Disk.Disk (first_record c.args.shape.now m n) b.disk (g.R.Rack.held c.write_firsts.new.rack n)) blanks)
+    (λ n (b : Blank g.row.R-Disk.Denot). IsFirstWritten g.R.Disk.Disk (first_record c.args.shape.now m n) b.disk (g.R.Rack.held c.write_firsts.new.rack n)) blanks)
     (minted_is c.in-Ok.genesis c.args.mint c.in-Ok.ensures.0 c.in-Ok.ensures.1) c.in-Err-write_firsts.ensures.stopped in
     stopped_unmade g.R.Disk.Disk (λ (b : Blank g.row.R-Disk.Denot). b.disk) (λ (b : Blank g.row.R-Disk.Denot). b.node) c.args.shape.now c.args.mint (λ n. g.R.Rack.held c.args.rack.now n) (λ n. g.R.Rack.held c.write_firsts.new.rack n) (λ n. g.R.Rack.count c.args.rack.now n) (λ n. g.R.Rack.count c.write_firsts.new.rack n) blanks all opened c.in-Err-write_firsts.fault stopped c.requires.fits c.coordinators.ensures.limits c.requires.few
 
@@ -83,9 +83,9 @@ returns-clause-left g c =
     let blanks = c.in-Ok-open_all.blanks.items in
     let all : length blanks ≡ node_count c.args.shape.now = omega (arith, c.in-Ok-open_all.ensures.all, c.coordinators.ensures.value, c.shards.ensures.value) in
     let opened = closed_whole _ 0 c.new.result.items blanks c.new.ensures.items c.in-Ok-open_all.ensures.opened in
-    let stopped = subst (λ (m : Minted). StopsAt (λ n (b : Blank g.row.R-Disk.Denot). OfTold (g.R.Rack.held c.write_firsts.new.rack n) (λ d. d ≡ b.disk))
+    let stopped = subst (λ (m : Minted). WritingStopsAt (λ n (b : Blank g.row.R-Disk.Denot). OfTold (g.R.Rack.held c.write_firsts.new.rack n) (λ d. d ≡ b.disk))
     (λ n (b : Blank g.row.R-Disk.Denot). IsStopped g.R.Disk.Disk n (first_record c.args.shape.now m n) c.in-Err-write_firsts.fault (g.R.Rack.count c.write_firsts.new.rack n) b.disk (g.R.Rack.held c.write_firsts.new.rack n))
-    (λ n (b : Blank g.row.R-Disk.Denot). IsDone g.R.Disk.Disk (first_record c.args.shape.now m n) b.disk (g.R.Rack.held c.write_firsts.new.rack n)) blanks)
+    (λ n (b : Blank g.row.R-Disk.Denot). IsFirstWritten g.R.Disk.Disk (first_record c.args.shape.now m n) b.disk (g.R.Rack.held c.write_firsts.new.rack n)) blanks)
     (minted_is c.in-Ok.genesis c.args.mint c.in-Ok.ensures.0 c.in-Ok.ensures.1) c.in-Err-write_firsts.ensures.stopped in
     all_left g.R.Disk.Disk (λ (b : Blank g.row.R-Disk.Denot). b.disk) (λ (b : Blank g.row.R-Disk.Denot). b.node) c.args.shape.now c.args.mint (λ n. g.R.Rack.held c.args.rack.now n) (λ n. g.R.Rack.held c.write_firsts.new.rack n) (λ n. g.R.Rack.count c.args.rack.now n) (λ n. g.R.Rack.count c.write_firsts.new.rack n) blanks all opened (stopped_left g.R.Disk.Disk (λ (b : Blank g.row.R-Disk.Denot). b.disk) (λ (b : Blank g.row.R-Disk.Denot). b.node) c.args.shape.now c.args.mint (λ n. g.R.Rack.held c.args.rack.now n) (λ n. g.R.Rack.held c.write_firsts.new.rack n) (λ n. g.R.Rack.count c.args.rack.now n) (λ n. g.R.Rack.count c.write_firsts.new.rack n) blanks all opened c.in-Err-write_firsts.fault stopped)
 
@@ -94,9 +94,9 @@ returns-clause-lead g c =
     let blanks = c.in-Ok-open_all.blanks.items in
     let all : length blanks ≡ node_count c.args.shape.now = omega (arith, c.in-Ok-open_all.ensures.all, c.coordinators.ensures.value, c.shards.ensures.value) in
     let opened = closed_whole _ 0 c.new.result.items blanks c.new.ensures.items c.in-Ok-open_all.ensures.opened in
-    let stopped = subst (λ (m : Minted). StopsAt (λ n (b : Blank g.row.R-Disk.Denot). OfTold (g.R.Rack.held c.write_firsts.new.rack n) (λ d. d ≡ b.disk))
+    let stopped = subst (λ (m : Minted). WritingStopsAt (λ n (b : Blank g.row.R-Disk.Denot). OfTold (g.R.Rack.held c.write_firsts.new.rack n) (λ d. d ≡ b.disk))
     (λ n (b : Blank g.row.R-Disk.Denot). IsStopped g.R.Disk.Disk n (first_record c.args.shape.now m n) c.in-Err-write_firsts.fault (g.R.Rack.count c.write_firsts.new.rack n) b.disk (g.R.Rack.held c.write_firsts.new.rack n))
-    (λ n (b : Blank g.row.R-Disk.Denot). IsDone g.R.Disk.Disk (first_record c.args.shape.now m n) b.disk (g.R.Rack.held c.write_firsts.new.rack n)) blanks)
+    (λ n (b : Blank g.row.R-Disk.Denot). IsFirstWritten g.R.Disk.Disk (first_record c.args.shape.now m n) b.disk (g.R.Rack.held c.write_firsts.new.rack n)) blanks)
     (minted_is c.in-Ok.genesis c.args.mint c.in-Ok.ensures.0 c.in-Ok.ensures.1) c.in-Err-write_firsts.ensures.stopped in
     stopped_lead g.R.Disk.Disk (λ (b : Blank g.row.R-Disk.Denot). b.disk) (λ (b : Blank g.row.R-Disk.Denot). b.node) c.args.shape.now c.args.mint (λ n. g.R.Rack.held c.args.rack.now n) (λ n. g.R.Rack.held c.write_firsts.new.rack n) (λ n. g.R.Rack.count c.args.rack.now n) (λ n. g.R.Rack.count c.write_firsts.new.rack n) blanks all opened c.in-Err-write_firsts.fault stopped
 
@@ -111,9 +111,9 @@ returns-clause-stops g c =
     let blanks = c.in-Ok-open_all.blanks.items in
     let all : length blanks ≡ node_count c.args.shape.now = omega (arith, c.in-Ok-open_all.ensures.all, c.coordinators.ensures.value, c.shards.ensures.value) in
     let opened = closed_whole _ 0 c.new.result.items blanks c.new.ensures.items c.in-Ok-open_all.ensures.opened in
-    let stopped = subst (λ (m : Minted). StopsAt (λ n (b : Blank g.row.R-Disk.Denot). OfTold (g.R.Rack.held c.write_firsts.new.rack n) (λ d. d ≡ b.disk))
+    let stopped = subst (λ (m : Minted). WritingStopsAt (λ n (b : Blank g.row.R-Disk.Denot). OfTold (g.R.Rack.held c.write_firsts.new.rack n) (λ d. d ≡ b.disk))
     (λ n (b : Blank g.row.R-Disk.Denot). IsStopped g.R.Disk.Disk n (first_record c.args.shape.now m n) c.in-Err-write_firsts.fault (g.R.Rack.count c.write_firsts.new.rack n) b.disk (g.R.Rack.held c.write_firsts.new.rack n))
-    (λ n (b : Blank g.row.R-Disk.Denot). IsDone g.R.Disk.Disk (first_record c.args.shape.now m n) b.disk (g.R.Rack.held c.write_firsts.new.rack n)) blanks)
+    (λ n (b : Blank g.row.R-Disk.Denot). IsFirstWritten g.R.Disk.Disk (first_record c.args.shape.now m n) b.disk (g.R.Rack.held c.write_firsts.new.rack n)) blanks)
     (minted_is c.in-Ok.genesis c.args.mint c.in-Ok.ensures.0 c.in-Ok.ensures.1) c.in-Err-write_firsts.ensures.stopped in
     inr (
       length stopped.front,

@@ -3,10 +3,10 @@ use Rattle.std.proofs.lemmas.Bool.{cases_eq}
 use Rattle.std.proofs.lemmas.List.{nil_from_length}
 use Rattle.cbdc_model.specs.World.{first_record}
 use Rattle.rack_ledgers.specs.Places.{EachFrom, MayReturn}
-use Rattle.rack_ledgers.specs.Racked.{GoesOn}
+use Rattle.rack_ledgers.specs.Racked.{ListGoesOn}
 use Rattle.rack_ledgers.proofs.Each.{each_front, each_last, each_weaker}
 use Rattle.rack_ledgers.proofs.Closing.{closed_more, closed_none, closed_whole}
-use Rattle.ledger_init.specs.Places.{minted_by, IsDone, IsStopped}
+use Rattle.ledger_init.specs.Places.{minted_by, IsFirstWritten, IsStopped}
 use Rattle.ledger_init.proofs.Written.{stops, done_still, stopped_still}
 use Rattle.ledger_init.proofs.writing.write_firsts.Goals as goal
 
@@ -34,7 +34,7 @@ returns-in-Err-clause-stopped g c =
     let node = c.len.result in
     let place : node ≡ length c.pop.new.self.items = omega (arith, c.len.ensures, c.pop.new.self.ok) in
     stops _ _
-    (λ n b. IsDone g.R.Disk.Disk (first_record c.args.shape.now (minted_by c.args.genesis.now) n) b.disk (g.R.Rack.held c.blanks.rack n))
+    (λ n b. IsFirstWritten g.R.Disk.Disk (first_record c.args.shape.now (minted_by c.args.genesis.now) n) b.disk (g.R.Rack.held c.blanks.rack n))
     _ c.blanks.blanks.items c.pop.new.self.items c.args.blanks.items c.in-Some.blank node place c.in-Some.ensures.items c.blanks.invariant.done
     (λ k d above is. let other : k ≢ node = omega (arith, above) in
     done_still g.R.Disk.Disk (first_record c.args.shape.now (minted_by c.args.genesis.now) k) d.disk (g.R.Rack.held c.blanks.rack k) (g.R.Rack.held c.close_all.new.rack k)
@@ -58,8 +58,8 @@ blanks-preserved g c =
           (λ k d ge lt may m le. let other : k ≢ node = omega (arith, place) in c.write_at.ensures.others_out k m other (may m le))
           (each_front P 0 c.pop.new.self.items c.in-Some.blank whole);
       done = closed_more
-          (λ n b. IsDone g.R.Disk.Disk (first_record c.args.shape.now (minted_by c.args.genesis.now) n) b.disk (g.R.Rack.held c.blanks.rack n))
-          (λ n b. IsDone g.R.Disk.Disk (first_record c.args.shape.now (minted_by c.args.genesis.now) n) b.disk (g.R.Rack.held c.write_at.new.rack n))
+          (λ n b. IsFirstWritten g.R.Disk.Disk (first_record c.args.shape.now (minted_by c.args.genesis.now) n) b.disk (g.R.Rack.held c.blanks.rack n))
+          (λ n b. IsFirstWritten g.R.Disk.Disk (first_record c.args.shape.now (minted_by c.args.genesis.now) n) b.disk (g.R.Rack.held c.write_at.new.rack n))
           0 c.blanks.blanks.items c.pop.new.self.items c.args.blanks.items c.in-Some.blank node (omega (arith, place)) c.in-Some.ensures.items
           (λ k d other is. done_still g.R.Disk.Disk (first_record c.args.shape.now (minted_by c.args.genesis.now) k) d.disk (g.R.Rack.held c.blanks.rack k) (g.R.Rack.held c.write_at.new.rack k) (c.write_at.ensures.others_held k other) is)
           c.in-Ok.ensures.done c.blanks.invariant.done;

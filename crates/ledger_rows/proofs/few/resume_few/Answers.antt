@@ -1,9 +1,9 @@
 use Rattle.std.proofs.Common.{⊎_elim, ℕ, ◌≡◌, ◌≤◌, [], length, Ok, refl, sym, subst}
 use Rattle.cbdc_types.specs.declared.answer.Answer.TheVariants as answers
 use Rattle.cbdc_model.specs.World.{AreIdle}
-use Rattle.file_runs.specs.Ledgers.{journals}
+use Rattle.file_runs.specs.Ledgers.{ledger_journals}
 use Rattle.rack_laws.specs.Shown.{OfShown}
-use Rattle.rack_runs.specs.Works.{entry_ledger, HasCome, BeginsWork, EndsWork}
+use Rattle.rack_runs.specs.Works.{entry_ledger, HasOpenedAndRun, BeginsWork, EndsWork}
 use Rattle.rack_runs.specs.Tests.{IsTestRefused}
 use Rattle.rack_runs.specs.Stops.{WhyNoTurns}
 use Rattle.rack_runs.specs.Runs.{NothingNext}
@@ -26,9 +26,9 @@ pub end_on-requires-clause-come : goal.end_on-requires-clause-come
 end_on-requires-clause-come g c =
     let begun = c.in-Ok.ensures.begun in
     let r = begun.4 in
-    let idle : AreIdle c.in-Ok.begun.ledger.header.shape (journals c.in-Ok.begun.ledger) =
-    subst (λ h. AreIdle h (journals c.in-Ok.begun.ledger)) (sym r.keeps_ledger.shape_same) r.idle in
-    let has : HasCome g.R.Disk.Disk no_deed begun.0 (g.R.Rack.held c.begin_on.new.rack) (g.R.Rack.can_put c.begin_on.new.rack) (g.R.Rack.can_take c.begin_on.new.rack) c.in-Ok.begun.ledger c.in-Ok.begun.resumed.items (Ok tt) = record {
+    let idle : AreIdle c.in-Ok.begun.ledger.header.shape (ledger_journals c.in-Ok.begun.ledger) =
+    subst (λ h. AreIdle h (ledger_journals c.in-Ok.begun.ledger)) (sym r.keeps_ledger.shape_same) r.idle in
+    let has : HasOpenedAndRun g.R.Disk.Disk no_deed begun.0 (g.R.Rack.held c.begin_on.new.rack) (g.R.Rack.can_put c.begin_on.new.rack) (g.R.Rack.can_take c.begin_on.new.rack) c.in-Ok.begun.ledger c.in-Ok.begun.resumed.items (Ok tt) = record {
       begun = begun.3;
       ran = worked_run g.R.Disk.Disk no_deed (entry_ledger begun.0) c.in-Ok.begun.ledger c.in-Ok.begun.ledger c.in-Ok.begun.resumed (Ok c.in-Ok.begun.resumed) (Ok tt) refl r
           (nothing_worked g.R.Disk.Disk c.in-Ok.begun.ledger idle r.checked);
@@ -44,9 +44,9 @@ pub returns-clause-refused : goal.returns-clause-refused
 returns-clause-refused g c =
     let begun = c.in-Ok.ensures.begun in
     let r = begun.4 in
-    let idle : AreIdle c.in-Ok.begun.ledger.header.shape (journals c.in-Ok.begun.ledger) =
-    subst (λ h. AreIdle h (journals c.in-Ok.begun.ledger)) (sym r.keeps_ledger.shape_same) r.idle in
-    let has : HasCome g.R.Disk.Disk no_deed begun.0 (g.R.Rack.held c.begin_on.new.rack) (g.R.Rack.can_put c.begin_on.new.rack) (g.R.Rack.can_take c.begin_on.new.rack) c.in-Ok.begun.ledger c.in-Ok.begun.resumed.items (Ok tt) = record {
+    let idle : AreIdle c.in-Ok.begun.ledger.header.shape (ledger_journals c.in-Ok.begun.ledger) =
+    subst (λ h. AreIdle h (ledger_journals c.in-Ok.begun.ledger)) (sym r.keeps_ledger.shape_same) r.idle in
+    let has : HasOpenedAndRun g.R.Disk.Disk no_deed begun.0 (g.R.Rack.held c.begin_on.new.rack) (g.R.Rack.can_put c.begin_on.new.rack) (g.R.Rack.can_take c.begin_on.new.rack) c.in-Ok.begun.ledger c.in-Ok.begun.resumed.items (Ok tt) = record {
       begun = begun.3;
       ran = worked_run g.R.Disk.Disk no_deed (entry_ledger begun.0) c.in-Ok.begun.ledger c.in-Ok.begun.ledger c.in-Ok.begun.resumed (Ok c.in-Ok.begun.resumed) (Ok tt) refl r
           (nothing_worked g.R.Disk.Disk c.in-Ok.begun.ledger idle r.checked);
@@ -60,9 +60,9 @@ pub returns-clause-passed : goal.returns-clause-passed
 returns-clause-passed g c =
     let begun = c.in-Ok.ensures.begun in
     let r = begun.4 in
-    let idle : AreIdle c.in-Ok.begun.ledger.header.shape (journals c.in-Ok.begun.ledger) =
-    subst (λ h. AreIdle h (journals c.in-Ok.begun.ledger)) (sym r.keeps_ledger.shape_same) r.idle in
-    let has : HasCome g.R.Disk.Disk no_deed begun.0 (g.R.Rack.held c.begin_on.new.rack) (g.R.Rack.can_put c.begin_on.new.rack) (g.R.Rack.can_take c.begin_on.new.rack) c.in-Ok.begun.ledger c.in-Ok.begun.resumed.items (Ok tt) = record {
+    let idle : AreIdle c.in-Ok.begun.ledger.header.shape (ledger_journals c.in-Ok.begun.ledger) =
+    subst (λ h. AreIdle h (ledger_journals c.in-Ok.begun.ledger)) (sym r.keeps_ledger.shape_same) r.idle in
+    let has : HasOpenedAndRun g.R.Disk.Disk no_deed begun.0 (g.R.Rack.held c.begin_on.new.rack) (g.R.Rack.can_put c.begin_on.new.rack) (g.R.Rack.can_take c.begin_on.new.rack) c.in-Ok.begun.ledger c.in-Ok.begun.resumed.items (Ok tt) = record {
       begun = begun.3;
       ran = worked_run g.R.Disk.Disk no_deed (entry_ledger begun.0) c.in-Ok.begun.ledger c.in-Ok.begun.ledger c.in-Ok.begun.resumed (Ok c.in-Ok.begun.resumed) (Ok tt) refl r
           (nothing_worked g.R.Disk.Disk c.in-Ok.begun.ledger idle r.checked);

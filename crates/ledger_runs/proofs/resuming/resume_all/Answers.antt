@@ -10,7 +10,7 @@ use Rattle.ledger_runs.proofs.Keeping.{stays, stays_next, idle_next, so_next, of
 use Rattle.ledger_runs.specs.Telling.{TellResumed}
 use Rattle.ledger_laws.proofs.Cuts.{end_self, end_trans}
 use Rattle.ledger_runs.specs.Turning.{IsLaneOf}
-use Rattle.ledger_runs.specs.Faults.{HaveFailed, MayHold, Nothing}
+use Rattle.ledger_runs.specs.Faults.{HaveFailed, MayHoldBytes, Nothing}
 use Rattle.ledger_runs.proofs.Faulting.{grown_end, none_taken, one_more, risen_later, holds_later}
 use Rattle.ledger_runs.proofs.Onward.{first_none, untouched_on, first_begin, rests_begin, first_next, rests_next, first_end, rests_end, first_cause}
 use Rattle.ledger_runs.proofs.Flying.{flies_next}
@@ -42,7 +42,7 @@ lanes-init g c =
       grows = λ n. end_self (E n);
       order = λ n. refl;
       untouched = λ lane low n. refl;
-      first = first_begin K E (HaveFailed (g.L.Turns.opened c.args.ledger.now) (g.L.Turns.faults c.args.ledger.now)) (MayHold (g.L.Turns.capacity c.args.ledger.now));
+      first = first_begin K E (HaveFailed (g.L.Turns.opened c.args.ledger.now) (g.L.Turns.faults c.args.ledger.now)) (MayHoldBytes (g.L.Turns.capacity c.args.ledger.now));
       rests = rests_begin K E (HaveFailed (g.L.Turns.opened c.args.ledger.now) (g.L.Turns.faults c.args.ledger.now)) (g.L.Turns.wanting c.args.ledger.now);
       as_many = as_many;
       found = λ k low within. subst (λ xs. IsFound K E (g.L.Turns.opens c.args.ledger.now) k (get_or xs k None)) (sym c.as_slice-found.ensures.value) (c.in-Ok-open_lanes.ensures.each k (omega (arith, within, as_many, ap length c.as_slice-found.ensures.value)));
@@ -70,8 +70,8 @@ lanes-preserved g c =
     let held_on = holds_later (g.L.Turns.capacity c.lanes.ledger) (g.L.Turns.capacity c.resume_next-came.new.ledger) did.keeps_ledger.capacity_same in
     let failed = HaveFailed (g.L.Turns.opened c.lanes.ledger) (g.L.Turns.faults c.lanes.ledger) in
     let fails = HaveFailed (g.L.Turns.opened c.resume_next-came.new.ledger) (g.L.Turns.faults c.resume_next-came.new.ledger) in
-    let holds = MayHold (g.L.Turns.capacity c.lanes.ledger) in
-    let held = MayHold (g.L.Turns.capacity c.resume_next-came.new.ledger) in
+    let holds = MayHoldBytes (g.L.Turns.capacity c.lanes.ledger) in
+    let held = MayHoldBytes (g.L.Turns.capacity c.resume_next-came.new.ledger) in
     let none_of = λ (none : c.or-first.result ≡ None). first_none c.lanes.first came (sym is ∙ none) in
     record {
       keeps_ledger = ledger_on so.keeps_ledger did.keeps_ledger;
@@ -107,13 +107,13 @@ returns-in-Some-first-clause-fault g c =
     let E = g.L.Turns.journals c.args.ledger.now in
     let X = g.L.Turns.journals c.lanes.ledger in
     let failed = HaveFailed (g.L.Turns.opened c.lanes.ledger) (g.L.Turns.faults c.lanes.ledger) in
-    let holds = MayHold (g.L.Turns.capacity c.lanes.ledger) in
+    let holds = MayHoldBytes (g.L.Turns.capacity c.lanes.ledger) in
     first_cause K E X failed holds c.in-Some-first.fault
     (first_end K c.lanes.lane E X failed holds c.in-Some-first.fault (omega (arith, c.lanes.invariant.count, c.lanes.auto.lane-end)) (c.lanes.invariant.first c.in-Some-first.fault c.in-Some-first.is))
 
 pub returns-in-Some-first-clause-least : goal.returns-in-Some-first-clause-least
 returns-in-Some-first-clause-least g c = inr (first_end (g.L.Turns.shape c.args.ledger.now) c.lanes.lane (g.L.Turns.journals c.args.ledger.now) (g.L.Turns.journals c.lanes.ledger)
-    (HaveFailed (g.L.Turns.opened c.lanes.ledger) (g.L.Turns.faults c.lanes.ledger)) (MayHold (g.L.Turns.capacity c.lanes.ledger)) c.in-Some-first.fault
+    (HaveFailed (g.L.Turns.opened c.lanes.ledger) (g.L.Turns.faults c.lanes.ledger)) (MayHoldBytes (g.L.Turns.capacity c.lanes.ledger)) c.in-Some-first.fault
     (omega (arith, c.lanes.invariant.count, c.lanes.auto.lane-end)) (c.lanes.invariant.first c.in-Some-first.fault c.in-Some-first.is))
 
 pub returns-in-Some-first-clause-rests : goal.returns-in-Some-first-clause-rests

@@ -6,10 +6,10 @@ use Rattle.cbdc_model.specs.Lanes.{IsEnd}
 use Rattle.run_laws.specs.WaveSteps.{ResumedSo}
 use Rattle.lane_driver.specs.declared.fault.LaneFault.{LaneFault}
 use Rattle.ledger_runs.specs.Keeping.{KeepsLedger}
-use Rattle.ledger_runs.specs.Turning.{phase_at, OfKept, StaysKept}
+use Rattle.ledger_runs.specs.Turning.{lane_phase, OfKept, StaysKept}
 use Rattle.ledger_runs.specs.Flying.{FliesOn, Launches}
 use Rattle.ledger_runs.specs.Telling.{TellResumed, SamePrepared}
-use Rattle.ledger_runs.specs.Faults.{TookLanes, HaveFailed, MayHold, Nothing, IsUntouched, RestsOrWaits}
+use Rattle.ledger_runs.specs.Faults.{TookLanes, HaveFailed, MayHoldBytes, Nothing, IsLaneUntouched, RestsOrWaits}
 use Rattle.ledger_runs.specs.Planning.{IsFound, IsPlanOf}
 use Rattle.ledger_runs.proofs.Onward.{FirstBelow}
 use Rattle.ledger_runs.proofs.resuming.resume_all.Given as goal
@@ -22,7 +22,7 @@ invariant-lanes g l =
     record {
       keeps_ledger : KeepsLedger g.L.Turns.shape g.L.Turns.opened g.L.Turns.faults g.L.Turns.capacity g.L.Turns.holds l.fn.ledger l.ledger;
       count : l.count ≡ K.coordinators * K.lanes;
-      idle : l.first ≡ None → (lane : ℕ) → lane < l.lane → phase_at K J lane ≡ Idle;
+      idle : l.first ≡ None → (lane : ℕ) → lane < l.lane → lane_phase K J lane ≡ Idle;
       keeps : OfKept K E (StaysKept K E J);
       so : l.first ≡ None → OfKept K E (λ _ _. ResumedSo K l.lane E J);
       told : l.first ≡ None → OfKept K E (λ _ _. TellResumed K E J l.lane l.batches.items);
@@ -33,8 +33,8 @@ invariant-lanes g l =
       checked : g.L.Turns.checked l.ledger;
       grows : (n : ℕ) → IsEnd (E n) (J n);
       order : TookLanes l.lane E J;
-      untouched : (lane : ℕ) → l.lane ≤ lane → IsUntouched lane E J;
-      first : (e : LaneFault) → l.first ≡ Some e → FirstBelow K l.lane E J (HaveFailed (g.L.Turns.opened l.ledger) (g.L.Turns.faults l.ledger)) (MayHold (g.L.Turns.capacity l.ledger)) e;
+      untouched : (lane : ℕ) → l.lane ≤ lane → IsLaneUntouched lane E J;
+      first : (e : LaneFault) → l.first ≡ Some e → FirstBelow K l.lane E J (HaveFailed (g.L.Turns.opened l.ledger) (g.L.Turns.faults l.ledger)) (MayHoldBytes (g.L.Turns.capacity l.ledger)) e;
       rests : (lane : ℕ) → lane < l.lane → RestsOrWaits K lane E J (HaveFailed (g.L.Turns.opened l.ledger) (g.L.Turns.faults l.ledger)) (g.L.Turns.wanting l.ledger lane);
       as_many : length l.found ≡ l.count;
       found : (k : ℕ) → l.lane ≤ k → k < l.count → IsFound K J (g.L.Turns.opens l.ledger) k (get_or l.found k None);

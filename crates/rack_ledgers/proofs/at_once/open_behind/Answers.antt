@@ -3,7 +3,7 @@ use Rattle.std.proofs.lemmas.Bool.{cases_lt}
 use Rattle.cbdc_types.specs.declared.answer.Answer.{Answer}
 use Rattle.rack_ledgers.specs.Places.{MayReturn}
 use Rattle.rack_ledgers.proofs.Told.{back_same}
-use Rattle.rack_ledgers.specs.Slots.{nodes_in, AreOpen, AreNotRefused, IsFirstFault, OpensAt, FailsAt}
+use Rattle.rack_ledgers.specs.Slots.{nodes_in, AreNodesOpen, AreNotRefused, IsFirstNodeFault, OpensAt, FailsAt}
 use Rattle.rack_ledgers.proofs.Beside.{outside_less, each_both, count_of, each_out, each_back, are_open, each_open, refused_first, fails_behind}
 use Rattle.rack_ledgers.proofs.at_once.open_behind.Goals as goal
 
@@ -35,7 +35,7 @@ returns-in-None-clause-opened g c =
     let can_put = g.R.Rack.can_put c.open_taken-slots.new.rack in
     let slots = c.open_taken-slots.result.items in
     let none : AreNotRefused slots = subst (λ l. AreNotRefused l) c.as_slice.ensures.value c.in-None.ensures.0 in
-    let are : AreOpen slots = are_open d n.disk_of n.opens n.fits n.refusals n.refused c.args.ledger.now held before c.args.first slots c.open_taken-slots.ensures.came none in
+    let are : AreNodesOpen slots = are_open d n.disk_of n.opens n.fits n.refusals n.refused c.args.ledger.now held before c.args.first slots c.open_taken-slots.ensures.came none in
     record {
       more = nodes_in slots;
       parts = c.nodes_onto.ensures ∙ ap (λ (l : List g.row.N.Denot). l ++ nodes_in slots) c.in-Ok.ensures.kept;
@@ -55,7 +55,7 @@ returns-in-Some-clause-refusal g c =
     let slots = c.open_taken-slots.result.items in
     let end = c.args.first + c.args.count in
     let node = c.args.first + length slots in
-    let why : IsFirstFault c.args.first c.args.count slots c.in-Some.fault = subst (λ l. IsFirstFault c.args.first c.args.count l c.in-Some.fault) c.as_slice.ensures.value c.in-Some.ensures in
+    let why : IsFirstNodeFault c.args.first c.args.count slots c.in-Some.fault = subst (λ l. IsFirstNodeFault c.args.first c.args.count l c.in-Some.fault) c.as_slice.ensures.value c.in-Some.ensures in
     ⊎_elim
     (λ refused. refused_first d n.disk_of n.opens n.fits n.refusals n.refused c.args.ledger.now held before now c.args.first end slots c.in-Some.fault
     (omega (arith, c.open_taken-slots.ensures.some)) c.open_taken-slots.ensures.came c.put_back.ensures.counted refused)

@@ -5,7 +5,7 @@ use Rattle.rack_ledgers.proofs.Range.{not_outside}
 use Rattle.rack_ledgers.proofs.Told.{of_told}
 use Rattle.rack_ledgers.specs.declared.slots.Slot.{Slot}
 use Rattle.rack_ledgers.specs.declared.slots.Slot.TheVariants as slots
-use Rattle.rack_ledgers.specs.Slots.{IsTaken, MayPut}
+use Rattle.rack_ledgers.specs.Slots.{IsTakenSlot, MayPut}
 use Rattle.rack_ledgers.proofs.Beside.{may_still}
 use Rattle.rack_ledgers.proofs.at_once.take_disks.Goals as goal
 
@@ -23,7 +23,7 @@ places-preserved g c =
     let node = c.args.first + c.places.place in
     let slot : Slot g.row.R-Disk.Denot g.row.N.Denot = slots.Waiting node c.in-Ok.disk in
     let longer : length c.push_reserved.new.self.items ≡ c.places.place + 1 = omega (arith, ap length c.push_reserved.ensures.items, length-append c.places.slots.items (slot ∷ []), place) in
-    let T = IsTaken {N = g.row.N.Denot} g.R.Disk.Disk (g.R.Rack.held c.args.rack.now) (g.R.Rack.count c.args.rack.now) in
+    let T = IsTakenSlot {N = g.row.N.Denot} g.R.Disk.Disk (g.R.Rack.held c.args.rack.now) (g.R.Rack.count c.args.rack.now) in
     let P = MayPut g.R.Disk.Disk g.N.OnDisk.disk_of (g.R.Rack.can_put c.places.rack) in
     let Q = MayPut g.R.Disk.Disk g.N.OnDisk.disk_of (g.R.Rack.can_put c.take.new.self) in
     let before = c.places.invariant.others_held node (inr (omega (arith, place))) in

@@ -1,6 +1,6 @@
 use Rattle.std.proofs.Common.{ℕ, Option, subst, inl, inr}
 use Rattle.std.specs.Prelude.{MatchOption}
-use Rattle.rack_ledgers.specs.Caused.{journals_of, AreCaused, HasUncaused}
+use Rattle.rack_ledgers.specs.Caused.{listed_journals, AreCaused, HasUncaused}
 use Rattle.rack_ledgers.proofs.Told.{same_back}
 use Rattle.rack_ledgers.proofs.Closed.{all_same}
 use Rattle.rack_ledgers.proofs.caused.open_caused.Goals as goal
@@ -21,7 +21,7 @@ returns-clause-refusal g c = elim c.match-first_uncaused.branch [
     opened = c.in-Ok.ensures.opened;
     place = w.in-Ok-Some.place;
     told = w.fault-is;
-    uncaused = subst (λ (o : Option ℕ). MatchOption o (AreCaused c.in-Ok.nodes.header.shape (journals_of c.in-Ok.nodes.logs.items c.in-Ok.nodes.shards.items)) (HasUncaused c.in-Ok.nodes.header.shape (journals_of c.in-Ok.nodes.logs.items c.in-Ok.nodes.shards.items))) w.in-Ok-Some.field-0-is w.in-Ok-Some.ensures;
+    uncaused = subst (λ (o : Option ℕ). MatchOption o (AreCaused c.in-Ok.nodes.header.shape (listed_journals c.in-Ok.nodes.logs.items c.in-Ok.nodes.shards.items)) (HasUncaused c.in-Ok.nodes.header.shape (listed_journals c.in-Ok.nodes.logs.items c.in-Ok.nodes.shards.items))) w.in-Ok-Some.field-0-is w.in-Ok-Some.ensures;
   }))
   | in-Err-first_uncaused w ↦ inr (inr w.fault-is)
 ]

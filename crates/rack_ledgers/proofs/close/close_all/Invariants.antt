@@ -1,6 +1,6 @@
 use Rattle.std.proofs.Common.{◌≡◌, ◌^◌, ◌+◌, ◌≤◌, ◌<◌, ℕ, length, vec_len}
-use Rattle.rack_ledgers.specs.Places.{EachFrom, MayReturn, IsOutside}
-use Rattle.rack_ledgers.specs.Racked.{OfTold, GoesOn}
+use Rattle.rack_ledgers.specs.Places.{EachFrom, MayReturn, IsOutsideRange}
+use Rattle.rack_ledgers.specs.Racked.{OfTold, ListGoesOn}
 use Rattle.rack_ledgers.proofs.close.close_all.Given as goal
 
 abbrev pub invariant-nodes : goal.invariant-nodes
@@ -8,12 +8,12 @@ invariant-nodes g l = record {
   few : l.first + length l.nodes.items < 2 ^ 32;
   fewer : length l.nodes.items ≤ length l.initial.nodes.items;
   out : EachFrom (MayReturn (λ n. g.R.Disk.Disk.count (g.N.OnDisk.disk_of n)) (g.R.Rack.can_put l.rack)) l.first l.nodes.items;
-  closed : GoesOn (λ n x. OfTold (g.R.Rack.held l.rack n) (λ now. now ≡ g.N.OnDisk.disk_of x)) l.first l.nodes.items l.initial.nodes.items;
-  counted : GoesOn (λ n x. g.R.Disk.Disk.count (g.N.OnDisk.disk_of x) ≤ g.R.Rack.count l.rack n) l.first l.nodes.items l.initial.nodes.items;
-  others_held : (n : ℕ) → IsOutside l.first (l.first + length l.initial.nodes.items) n → g.R.Rack.held l.rack n ≡ g.R.Rack.held l.initial.rack n;
+  closed : ListGoesOn (λ n x. OfTold (g.R.Rack.held l.rack n) (λ now. now ≡ g.N.OnDisk.disk_of x)) l.first l.nodes.items l.initial.nodes.items;
+  counted : ListGoesOn (λ n x. g.R.Disk.Disk.count (g.N.OnDisk.disk_of x) ≤ g.R.Rack.count l.rack n) l.first l.nodes.items l.initial.nodes.items;
+  others_held : (n : ℕ) → IsOutsideRange l.first (l.first + length l.initial.nodes.items) n → g.R.Rack.held l.rack n ≡ g.R.Rack.held l.initial.rack n;
   back : (n : ℕ) → l.first + length l.nodes.items ≤ n → n < l.first + length l.initial.nodes.items → g.R.Rack.can_take l.rack n;
-  others_in : (n : ℕ) → IsOutside l.first (l.first + length l.initial.nodes.items) n → g.R.Rack.can_take l.initial.rack n → g.R.Rack.can_take l.rack n;
-  others_out : (n k : ℕ) → IsOutside l.first (l.first + length l.initial.nodes.items) n → g.R.Rack.can_put l.initial.rack n k → g.R.Rack.can_put l.rack n k;
+  others_in : (n : ℕ) → IsOutsideRange l.first (l.first + length l.initial.nodes.items) n → g.R.Rack.can_take l.initial.rack n → g.R.Rack.can_take l.rack n;
+  others_out : (n k : ℕ) → IsOutsideRange l.first (l.first + length l.initial.nodes.items) n → g.R.Rack.can_put l.initial.rack n k → g.R.Rack.can_put l.rack n k;
   later : (n : ℕ) → g.R.Rack.count l.initial.rack n ≤ g.R.Rack.count l.rack n;
 }
 

@@ -4,7 +4,7 @@ use Rattle.node_journal.specs.Nodes.{NodeOf}
 use Rattle.coord_log.specs.Opening.{IsCoord}
 use Rattle.shard_node.specs.Opening.{IsShardHeader}
 use Rattle.rack_ledgers.specs.Places.{EachFrom, MayReturn}
-use Rattle.rack_ledgers.specs.Racked.{OfTold, IsBack}
+use Rattle.rack_ledgers.specs.Racked.{OfTold, IsDiskBack}
 use Rattle.rack_ledgers.proofs.Each.{each_weaker}
 use Rattle.rack_ledgers.proofs.Closing.{closed_whole}
 use Rattle.rack_ledgers.specs.Ledgers.{IsNodeAt}
@@ -83,7 +83,7 @@ returns-in-Err-open_at_once-clause-held g c =
     c.in-Ok.ensures.later c.close_all.ensures.later
     c.in-Ok.ensures.others_held
     (λ n small. by_two (IsNodeAt g.R.Disk.Disk (g.R.Rack.held c.args.rack.now) IsCoord c.in-Ok.opened.0) Q
-    (λ k. IsBack g.R.Disk.Disk (before k) (after k) (g.R.Rack.held c.args.rack.now k) (g.R.Rack.held c.close_all.new.rack k)) c.in-Ok.opened.1.items
+    (λ k. IsDiskBack g.R.Disk.Disk (before k) (after k) (g.R.Rack.held c.args.rack.now k) (g.R.Rack.held c.close_all.new.rack k)) c.in-Ok.opened.1.items
     (λ k x is put. node_back g.R.Disk.Disk IsCoord (g.R.Rack.held c.args.rack.now) (g.R.Rack.held c.close_all.new.rack) (before k) (after k) c.in-Ok.opened.0 k x is put)
     c.in-Ok.ensures.opened (by_place Q c.in-Ok.opened.1.items c.close_all.ensures.closed) n (omega (arith, small, count)))
     (λ n ge lt was is now is_now. c.in-Err-open_at_once.ensures.held n (omega (arith, ge, first, ap length c.new.ensures.items)) lt was is now

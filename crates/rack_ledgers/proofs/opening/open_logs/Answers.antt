@@ -4,7 +4,7 @@ use Rattle.cbdc_model.specs.Records.{Header}
 use Rattle.node_journal.specs.Nodes.{NodeOf}
 use Rattle.coord_log.specs.Opening.{IsCoord}
 use Rattle.rack_ledgers.specs.Places.{EachFrom}
-use Rattle.rack_ledgers.specs.Racked.{OfTold, IsBack}
+use Rattle.rack_ledgers.specs.Racked.{OfTold, IsDiskBack}
 use Rattle.rack_ledgers.specs.Ledgers.{IsNodeAt, IsMintOf}
 use Rattle.rack_ledgers.proofs.Opened.{led_whole, logs_since, node_back}
 use Rattle.rack_ledgers.proofs.LedgerBacks.{back_one, back_parts}
@@ -65,12 +65,12 @@ returns-in-Err-open_at_once-clause-held g c =
     (subst (λ (l : List (NodeOf g.row.R-Disk.Denot)). EachFrom Q 0 l) c.in-Ok-lead_alone.ensures.alone c.in-Err-open_at_once.ensures.closed).0 in
     let before = g.R.Rack.count c.args.rack.now in
     let after = g.R.Rack.count c.open_at_once.new.rack in
-    let here : IsBack g.R.Disk.Disk (before 0) (after 0) (g.R.Rack.held c.args.rack.now 0) (g.R.Rack.held c.open_at_once.new.rack 0) =
+    let here : IsDiskBack g.R.Disk.Disk (before 0) (after 0) (g.R.Rack.held c.args.rack.now 0) (g.R.Rack.held c.open_at_once.new.rack 0) =
     node_back g.R.Disk.Disk IsCoord (g.R.Rack.held c.args.rack.now) (g.R.Rack.held c.open_at_once.new.rack) (before 0) (after 0) c.header.result.now 0 c.in-Ok.lead lead put in
     back_parts g.R.Disk.Disk before after (g.R.Rack.count c.lead_alone.new.rack) after (g.R.Rack.held c.args.rack.now) (g.R.Rack.held c.lead_alone.new.rack) (g.R.Rack.held c.open_at_once.new.rack) 1 c.coordinators-count.result
     (λ n. omega (arith, c.in-Ok.ensures.later n, c.in-Ok-lead_alone.ensures.later n)) (λ n. omega arith)
     (λ n some. c.in-Ok-lead_alone.ensures.others_held n some ∙ c.in-Ok.ensures.others_held n (omega (arith, some)))
-    (λ n small. let none : 0 ≡ n = omega (arith, small) in subst (λ (k : ℕ). IsBack g.R.Disk.Disk (before k) (after k) (g.R.Rack.held c.args.rack.now k) (g.R.Rack.held c.open_at_once.new.rack k)) none here)
+    (λ n small. let none : 0 ≡ n = omega (arith, small) in subst (λ (k : ℕ). IsDiskBack g.R.Disk.Disk (before k) (after k) (g.R.Rack.held c.args.rack.now k) (g.R.Rack.held c.open_at_once.new.rack k)) none here)
     (λ n ge lt. c.in-Err-open_at_once.ensures.held n (omega (arith, ge, ap length c.in-Ok-lead_alone.ensures.alone)) (omega (arith, lt)))
     (λ n ge above. c.in-Err-open_at_once.ensures.others_held n (inr (omega (arith, above))))
 

@@ -1,5 +1,5 @@
 use Rattle.std.proofs.Common.{inl, inr, [], Err, refl, sym, subst, arith}
-use Rattle.file_runs.specs.Ledgers.{journals, IsChecked}
+use Rattle.file_runs.specs.Ledgers.{ledger_journals, IsChecked}
 use Rattle.rack_runs.specs.Resuming.{HasResumed}
 use Rattle.rack_runs.specs.Works.{entry_ledger}
 use Rattle.rack_runs.proofs.Behind.{is_ledger}
@@ -81,7 +81,7 @@ returns-in-Ok-came-clause-begun g c =
       begun,
       subst (λ k. HasResumed g.R.Disk.Disk (entry_ledger e) c.resume_ledger-ledger.result.ledger k) c.in-Ok-came.is
           (subst (λ l. HasResumed g.R.Disk.Disk l c.resume_ledger-ledger.result.ledger c.resume_ledger-ledger.result.came) c.ledger_of-ledger.ensures c.resume_ledger-ledger.ensures),
-      subst (λ l. (g.K.Work.tests c.args.work.now).passes l.header.shape (journals l)) c.ledger_of-ledger.ensures c.in_default.ensures.passes,
+      subst (λ l. (g.K.Work.tests c.args.work.now).passes l.header.shape (ledger_journals l)) c.ledger_of-ledger.ensures c.in_default.ensures.passes,
     )
 
 pub close_nodes-requires-2-clause-few : goal.close_nodes-requires-2-clause-few

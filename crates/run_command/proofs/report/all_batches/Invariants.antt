@@ -1,6 +1,6 @@
 use Rattle.std.proofs.Common.{take}
-use Rattle.run_command.specs.Told.{Counted, batches_told}
+use Rattle.run_command.specs.Told.{IsCounted, batches_told}
 use Rattle.run_command.proofs.report.all_batches.Given as goal
 
 abbrev pub invariant-waves : goal.invariant-waves
-invariant-waves l = Counted l.batches (batches_told (take l.wave-index l.waves))
+invariant-waves l = IsCounted l.batches (batches_told (take l.wave-index l.waves))

@@ -1,7 +1,7 @@
 use Rattle.std.proofs.Common.{◌≡◌, ◌+◌, ◌<◌, ◌++◌, length, drop, get_or, subst, sym, ap, ◌∙◌, arith}
 use Rattle.std.proofs.lemmas.List.{append-nil}
 use Rattle.std.proofs.lemmas.Result.{err_from_is_err_and}
-use Rattle.run_command.specs.Told.{told_of, told_line, told_file}
+use Rattle.run_command.specs.Told.{told_report, told_line, told_file}
 use Rattle.command_answers.proofs.Parts.{Goes, goes_begin}
 use Rattle.run_command.proofs.Pages.{gathered_more, gathered_cut}
 use Rattle.run_command.proofs.RunLines.{next_line, no_line}
@@ -28,7 +28,7 @@ lines-preserved g c =
     let new = g.O.Sink.taken c.gather_one.new.out in
     let whole = c.args.page.now.text.items ++ told_file c.args.file 0 lanes cs in
     let waited = c.lines.page.text.items in
-    let line_is : told_line c.args.file c.lines.place one.id c.report_of.result ≡ told_line c.args.file i one.id (told_of lanes one.judgement)
+    let line_is : told_line c.args.file c.lines.place one.id c.report_of.result ≡ told_line c.args.file i one.id (told_report lanes one.judgement)
     = ap (λ n. told_line c.args.file n one.id c.report_of.result) c.lines.invariant.at ∙ ap (told_line c.args.file i one.id) c.report_of.ensures in
     record {
       count = omega (arith, c.lines.invariant.count, c.in_ok-gather_one.ensures.cause.later);
@@ -52,7 +52,7 @@ returns-in_err-gather_one-clause-gathers g c =
     let new = g.O.Sink.taken c.gather_one.new.out in
     let whole = c.args.page.now.text.items ++ told_file c.args.file 0 lanes cs in
     let waited = c.lines.page.text.items in
-    let line_is : told_line c.args.file c.lines.place one.id c.report_of.result ≡ told_line c.args.file i one.id (told_of lanes one.judgement)
+    let line_is : told_line c.args.file c.lines.place one.id c.report_of.result ≡ told_line c.args.file i one.id (told_report lanes one.judgement)
     = ap (λ n. told_line c.args.file n one.id c.report_of.result) c.lines.invariant.at ∙ ap (told_line c.args.file i one.id) c.report_of.ensures in
     let p = err_from_is_err_and c.from_residual.result c.from_residual.ensures.1 in
     rw p.1 (

@@ -1,7 +1,7 @@
 use Rattle.std.proofs.Common.{◌≡◌, ◌+◌, ◌*◌, ◌<◌, ◌≤◌, length, sym, ap, subst}
 use Rattle.cbdc_model.specs.Coins.{tx_id as spec_id}
 use Rattle.sentinel.specs.FirstRefusal.{IsFirstRefusal}
-use Rattle.lane_sources.specs.Sources.{lanes_of, HasComeTo, SubmissionAt}
+use Rattle.lane_sources.specs.Sources.{count_of_lanes, HasComeTo, SubmissionAt}
 use Rattle.lane_sources.proofs.Noting.{noted_refused}
 use Rattle.lane_sources.proofs.source.LaneSource.note_refused.Goals as goal
 
@@ -12,7 +12,7 @@ invariant_of-self g c =
     let said : SubmissionAt g.F.Deals.file c.self.inside.at (λ t. (c.args.id ≡ spec_id t) × IsFirstRefusal t (g.F.Deals.verdicts (spec_id t)) c.args.refusal) = subst (λ a. SubmissionAt g.F.Deals.file a (λ t. (c.args.id ≡ spec_id t) × IsFirstRefusal t (g.F.Deals.verdicts (spec_id t)) c.args.refusal)) (sym at) c.requires.refused in
     record {
       come = subst (λ n. HasComeTo g.F.Deals.shape g.F.Deals.verdicts g.F.Deals.file c.self.inside.lane (c.self.inside.at + n) c.self.inside.sent c.push_reserved.new.self.items) (sym c.lanes-lanes.ensures.lanes)
-          (subst (λ xs. HasComeTo g.F.Deals.shape g.F.Deals.verdicts g.F.Deals.file c.self.inside.lane (c.self.inside.at + lanes_of g.F.Deals.shape) c.self.inside.sent xs) (sym c.push_reserved.ensures.items)
+          (subst (λ xs. HasComeTo g.F.Deals.shape g.F.Deals.verdicts g.F.Deals.file c.self.inside.lane (c.self.inside.at + count_of_lanes g.F.Deals.shape) c.self.inside.sent xs) (sym c.push_reserved.ensures.items)
           (noted_refused g.F.Deals.shape g.F.Deals.verdicts g.F.Deals.file c.self.inside.lane c.self.inside.at c.self.inside.sent c.self.inside.checked.items c.self.invariant.come inside c.args.id c.args.refusal said));
-      room = subst (λ m. length g.F.Deals.file ≤ lanes_of g.F.Deals.shape * m) (sym c.push_reserved.ensures.capacity) c.self.invariant.room;
+      room = subst (λ m. length g.F.Deals.file ≤ count_of_lanes g.F.Deals.shape * m) (sym c.push_reserved.ensures.capacity) c.self.invariant.room;
     }

@@ -1,6 +1,6 @@
 use Rattle.std.proofs.Common.{◌≡◌, ℕ, length, subst, arith}
 use Rattle.outside.specs.Counts.{Rose}
-use Rattle.rack_ledgers.specs.Blank.{AreWhole}
+use Rattle.rack_ledgers.specs.Blank.{AreWholeRecords}
 use Rattle.rack_ledgers.proofs.Wholes.{opened_whole}
 use Rattle.rack_ledgers.proofs.Blanks.{blank_opens, blank_refused, blank_same}
 use Rattle.rack_ledgers.proofs.blank.BlankOnDisk.open_disk.Goals as goal
@@ -9,14 +9,14 @@ pub returns-in-Ok-clause-opens : goal.returns-in-Ok-clause-opens
 returns-in-Ok-clause-opens g c =
     let len : length c.in-Ok.log.records.items ≡ c.len-records.result = omega (arith, c.len-records.ensures, c.in-Ok.log.records.ok) in
     blank_opens (λ b. b.node) (λ b. b.disk) (g.D.Disk.content c.args.disk) c.into_disk.result c.args.node c.len-records.result
-    (λ bytes told. subst (λ (n : ℕ). AreWhole n bytes) len (opened_whole c.in-Ok.log.header c.in-Ok.log.records.items bytes c.in-Ok.ensures.grammar (c.in-Ok.ensures.opens bytes told).0))
+    (λ bytes told. subst (λ (n : ℕ). AreWholeRecords n bytes) len (opened_whole c.in-Ok.log.header c.in-Ok.log.records.items bytes c.in-Ok.ensures.grammar (c.in-Ok.ensures.opens bytes told).0))
     c.blank_of.result c.blank_of.ensures.blank c.blank_of.ensures.unused
 
 pub returns-in-Ok-clause-refusal : goal.returns-in-Ok-clause-refusal
 returns-in-Ok-clause-refusal g c =
     let len : length c.in-Ok.log.records.items ≡ c.len-records.result = omega (arith, c.len-records.ensures, c.in-Ok.log.records.ok) in
     blank_refused (λ b. b.node) (λ b. b.disk) (g.D.Disk.content c.args.disk) c.into_disk.result c.args.node c.len-records.result
-    (λ bytes told. subst (λ (n : ℕ). AreWhole n bytes) len (opened_whole c.in-Ok.log.header c.in-Ok.log.records.items bytes c.in-Ok.ensures.grammar (c.in-Ok.ensures.opens bytes told).0))
+    (λ bytes told. subst (λ (n : ℕ). AreWholeRecords n bytes) len (opened_whole c.in-Ok.log.header c.in-Ok.log.records.items bytes c.in-Ok.ensures.grammar (c.in-Ok.ensures.opens bytes told).0))
     c.blank_of.result c.blank_of.ensures.blank c.blank_of.ensures.unused
 
 pub returns-in-Ok-records_of-clause-opens : goal.returns-in-Ok-records_of-clause-opens
