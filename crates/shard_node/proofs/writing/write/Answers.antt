@@ -1,47 +1,33 @@
-use Rattle.std.proofs.Common.{◌+◌, ◌∷◌, ◌++◌, [], List, Err, refl, ap, ◌∙◌}
-use Rattle.gate_journal.specs.Shown.{gate_of, broken_of}
-use Rattle.cbdc_model.specs.Records.{Record}
-use Rattle.node_journal.proofs.Leaving.{to_journal, from_journal, to_broken, written_between, failed_between}
+use Rattle.std.proofs.Common.{refl}
 use Rattle.shard_node.proofs.writing.write.Goals as goal
 
 pub returns-in-Ok-clause-written : goal.returns-in-Ok-clause-written
 returns-in-Ok-clause-written g c = record {
-  records = c.keep.ensures.kept ∙ ap (λ (l : List Record). l ++ c.args.next ∷ []) c.write.ensures.records;
-  header = c.keep.ensures.header ∙ c.write.ensures.header;
-  core_header = c.apply.ensures.header;
-  stands = c.apply.ensures.stands;
+  log = c.in-Ok.ensures.kept.0;
+  header = c.in-Ok.ensures.taken.1;
+  stands = c.in-Ok.ensures.taken.0;
   decisions = refl;
-  flight = refl;
+  flight = c.in-Ok.ensures.kept.1;
   opened = refl;
-  gate = ap gate_of c.keep.ensures.journal ∙ c.in-Ok.ensures.grows.0;
-  broken = ap broken_of c.keep.ensures.journal ∙ c.in-Ok.ensures.grows.1;
-  limit = rw c.keep.ensures.journal c.write.ensures.limit;
-  later = rw c.keep.ensures.journal c.write.ensures.later;
-  room = λ count bytes has. c.keep.ensures.room count bytes (c.write.ensures.keeps (count + 1) bytes has);
+}
+
+pub returns-in-Err-clause-failed : goal.returns-in-Err-clause-failed
+returns-in-Err-clause-failed g c = record {
+  log = c.in-Err.ensures.failed.0;
+  core = c.in-Err.ensures.failed.2;
+  decisions = refl;
+  flight = c.in-Err.ensures.failed.1;
+  opened = refl;
 }
 
 pub returns-in-Ok-clause-holds : goal.returns-in-Ok-clause-holds
-returns-in-Ok-clause-holds g c = λ old.
-    let p = c.args.parts.now in
-    let written = c.in-Ok.ensures.written p.log.records.items (from_journal p.log p.opened p.flight c.requires.whole old) in
-    let kept = c.keep.ensures.kept ∙ ap (λ (l : List Record). l ++ c.args.next ∷ []) c.write.ensures.records in
-    to_journal c.keep.new.self p.opened p.flight c.requires.landed (rw (c.keep.ensures.journal, kept) written)
+returns-in-Ok-clause-holds g c = c.write_next.ensures.holds c.args.parts.now.opened
+
+pub returns-in-Err-clause-holds : goal.returns-in-Err-clause-holds
+returns-in-Err-clause-holds g c = c.write_next.ensures.holds c.args.parts.now.opened
 
 pub returns-in-Ok-clause-leaves : goal.returns-in-Ok-clause-leaves
-returns-in-Ok-clause-leaves g c = λ holds.
-    let p = c.args.parts.now in
-    let left = c.write.ensures.leaves p.log.records.items (from_journal p.log p.opened p.flight c.requires.whole holds) in
-    written_between p.log c.keep.new.self p.opened p.flight c.args.next c.requires.landed (c.keep.ensures.kept ∙ ap (λ (l : List Record). l ++ c.args.next ∷ []) c.write.ensures.records)
-    (rw c.keep.ensures.journal left)
+returns-in-Ok-clause-leaves g c = c.write_next.ensures.leaves c.args.parts.now.opened
 
-pub returns-in-Err-DiskFault-clause-holds : goal.returns-in-Err-DiskFault-clause-holds
-returns-in-Err-DiskFault-clause-holds g c = λ old.
-    let p = c.args.parts.now in
-    let left = c.write.ensures.leaves p.log.records.items (from_journal p.log p.opened p.flight c.requires.whole old) in
-    to_broken c.write.new.self p.log.records.items p.opened c.args.next c.write.ensures.records (c.write.ensures.broken (c.in-Err-DiskFault.is ∙ ap (λ e. Err e) c.in-Err-DiskFault.field-0-is)) left.now
-
-pub returns-in-Err-DiskFault-clause-leaves : goal.returns-in-Err-DiskFault-clause-leaves
-returns-in-Err-DiskFault-clause-leaves g c = λ holds.
-    let p = c.args.parts.now in
-    let left = c.write.ensures.leaves p.log.records.items (from_journal p.log p.opened p.flight c.requires.whole holds) in
-    failed_between p.log c.write.new.self p.opened p.flight c.args.next c.write.ensures.records left
+pub returns-in-Err-clause-leaves : goal.returns-in-Err-clause-leaves
+returns-in-Err-clause-leaves g c = c.write_next.ensures.leaves c.args.parts.now.opened
