@@ -45,10 +45,7 @@ pub(crate) fn write<D: Disk>(
     ensures header { log.new.header ≡ log.old.header }
     ensures limit { D.limit (disk_of log.new.journal) ≡ D.limit (disk_of log.old.journal) }
 {
-    match write_next(log, core, flight, next) {
-        Ok(()) => Ok(()),
-        Err(fault) => Err(fault),
-    }
+    write_next(log, core, flight, next)
 }
 
 /// Takes the room for a Prepare of so many bytes and transactions and for all records that are still to come: on

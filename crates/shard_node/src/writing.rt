@@ -26,8 +26,5 @@ pub(crate) fn write<D: Disk>(parts: &mut Parts<D>, next: Record) -> Result<(), N
     ensures leaves { HoldsJournal D.content D.images (view_of parts.old)
         → LeavesBetween D.tells_past D.moment D.images_since D.images (view_of parts.old) (view_of parts.new) }
 {
-    match write_next(&mut parts.log, &mut parts.core, &mut parts.flight, next) {
-        Ok(()) => Ok(()),
-        Err(fault) => Err(fault),
-    }
+    write_next(&mut parts.log, &mut parts.core, &mut parts.flight, next)
 }

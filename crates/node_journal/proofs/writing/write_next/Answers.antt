@@ -4,8 +4,8 @@ use Rattle.cbdc_model.specs.Records.{Record}
 use Rattle.node_journal.proofs.Leaving.{to_journal, from_journal, to_broken, written_between, failed_between}
 use Rattle.node_journal.proofs.writing.write_next.Goals as goal
 
-pub returns-in-Ok-clause-kept : goal.returns-in-Ok-clause-kept
-returns-in-Ok-clause-kept g c = (
+pub returns-in-Ok-clause-written : goal.returns-in-Ok-clause-written
+returns-in-Ok-clause-written g c = (
   record {
     records = c.keep.ensures.kept ∙ ap (λ (l : List Record). l ++ c.args.next ∷ []) c.write.ensures.records;
     header = c.keep.ensures.header ∙ c.write.ensures.header;
@@ -16,6 +16,8 @@ returns-in-Ok-clause-kept g c = (
     room = λ count bytes has. c.keep.ensures.room count bytes (c.write.ensures.keeps (count + 1) bytes has);
   },
   refl,
+  c.apply.ensures.takes,
+  c.apply.ensures.header,
 )
 
 pub returns-in-Ok-clause-holds : goal.returns-in-Ok-clause-holds
