@@ -1,9 +1,9 @@
 -- What a write leaves of a coordinator's parts.
-use Rattle.std.proofs.Common.{◌≡◌, ℕ, ◌+◌, ◌≤◌, List, ◌∷◌, length, reverse, refl, ap, sym, ◌∙◌, subst, arith, Some, None, Option}
+use Rattle.std.proofs.Common.{◌≡◌, ℕ, ◌+◌, ◌≤◌, List, ◌∷◌, length, reverse, ap, sym, ◌∙◌, subst, arith, Some, None, Option}
 use Rattle.std.specs.Prelude.{IfSome, sum_by}
 use Rattle.std.proofs.lemmas.List.Sums.{sum_by-cons}
 use Rattle.outside.specs.declared.disk.Disk.{Ghosts}
-use Rattle.gate_journal.specs.Shown.{disk_of, gate_of, broken_of}
+use Rattle.gate_journal.specs.Shown.{disk_of, gate_of}
 use Rattle.cbdc_types.specs.Limits.{IsWithinLimits}
 use Rattle.cbdc_model.specs.Records.{Header, Record}
 use Rattle.cbdc_model.specs.After.{After, Follows, IsJournal}
