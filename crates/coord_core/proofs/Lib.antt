@@ -7,4 +7,3 @@ pub mod Same
 pub mod Rooms
 pub mod Journals
 pub mod Kept
-pub mod Roomy

@@ -353,7 +353,7 @@ impl CoordCore {
     }
 
     /// The same of a record that is known to be in the grammar of this coordinator's journals.
-    pub fn admit_known(&mut self, next: &Record) -> Result<bool, AllocError>
+    pub(crate) fn admit_known(&mut self, next: &Record) -> Result<bool, AllocError>
         requires { IsInGrammar self.old.header next.now }
         ensures next { IfOk result (λ b. IsTrue b ↔ IsAdmitted self.old next.now) }
         ensures after { IfOk result (λ b. (J : List AnyRecord) → StandsFor self.old J → J ≢ [] → (IsTrue b ↔ After self.old.header J next.now)) }

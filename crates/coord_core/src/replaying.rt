@@ -7,13 +7,15 @@ use std::alloc::{AllocError, Global};
 impl Core for CoordCore {
     ghost use Rattle.record_grammar.specs.Kinds.{IsCoord, IsGenesis};
     ghost use Rattle.coord_core.specs.Lanes.{IsNext};
-    ghost use Rattle.coord_core.specs.Stands.{IsRoomyFor};
+    ghost use Rattle.coord_core.specs.Stands.{IsRoomyFor, HasTaken};
 
     ghost header = { λ c. c.header };
 
     ghost stands = { IsRoomyFor };
 
     ghost admits = { IsNext };
+
+    ghost takes = { HasTaken };
 
     ghost kind = { IsCoord };
 

@@ -1,17 +1,11 @@
 -- What a write leaves of a coordinator's parts.
-use Rattle.std.proofs.Common.{◌≡◌, ℕ, ◌+◌, ◌≤◌, List, [], ◌∷◌, ◌++◌, length, reverse, refl, ap, sym, ◌∙◌, subst, arith, Some, None, Option, Result, Err}
-use Rattle.std.specs.Prelude.{MatchOption, IfSome, IsOkUnless, sum_by}
-use Rattle.std.proofs.lemmas.Bool.{le-ltb}
-use Rattle.std.proofs.lemmas.List.{reverse-append}
+use Rattle.std.proofs.Common.{◌≡◌, ℕ, ◌+◌, ◌≤◌, List, ◌∷◌, length, reverse, ap, sym, ◌∙◌, subst, arith, Some, None, Option}
+use Rattle.std.specs.Prelude.{IfSome, sum_by}
 use Rattle.std.proofs.lemmas.List.Sums.{sum_by-cons}
-use Rattle.outside.specs.Counts.{Rose}
 use Rattle.outside.specs.declared.disk.Disk.{Ghosts}
-use Rattle.gate_journal.specs.Shown.{disk_of, gate_of, broken_of}
-use Rattle.gate_journal.specs.Appending.{refusal}
-use Rattle.gate_journal.specs.declared.faults.AppendFault.{AppendFault}
+use Rattle.gate_journal.specs.Shown.{disk_of, gate_of}
 use Rattle.cbdc_types.specs.Limits.{IsWithinLimits}
 use Rattle.cbdc_model.specs.Records.{Header, Record}
-use Rattle.cbdc_model.specs.Grammar.{IsInGrammar}
 use Rattle.cbdc_model.specs.After.{After, Follows, IsJournal}
 use Rattle.cbdc_model.specs.Due.{used_of}
 use Rattle.cbdc_model.specs.Room.{size_of, need_of}
@@ -19,105 +13,88 @@ use Rattle.cbdc_model.specs.Sights.{HasRisen, IsBrokenSince}
 use Rattle.record_log.specs.Bodies.{body_of}
 use Rattle.record_log.proofs.LogSizes.{size_is}
 use Rattle.record_log.specs.Logs.{HasRoom}
-use Rattle.record_log.specs.declared.log.LogFault.{LogFault}
-use Rattle.record_log.specs.declared.log.LogFault.TheVariants.{DiskFault}
 use Rattle.record_log.specs.declared.log.RecordLog.{RecordLog}
-use Rattle.coord_core.specs.Lanes.{CoordOf, Takes, ahead_of}
-use Rattle.coord_core.specs.Stands.{StandsFor}
-use Rattle.coord_log.specs.Inside.{largest, HasPlace, IsSound, IsDue}
+use Rattle.coord_core.specs.Lanes.{CoordOf, ahead_of}
+use Rattle.coord_core.specs.Stands.{StandsFor, HasTaken}
 use Rattle.coord_core.proofs.Journals.{follows_next}
-use Rattle.node_journal.proofs.Journals.{goes_on}
 use Rattle.coord_core.proofs.Same.{takes_header}
+use Rattle.node_journal.specs.Writing.{HasKept, HasBroken}
+use Rattle.node_journal.proofs.Journals.{goes_on}
+use Rattle.node_journal.proofs.Behind.{pushed}
+use Rattle.coord_log.specs.Inside.{largest, HasPlace, IsSound, IsDue}
 
--- where there is room, only the disk can fail
-pub only_disk : {T : Type 0} (P : AppendFault → Type 0) (broken : Option ℕ) (used need limit : ℕ) (result : Result T LogFault) → broken ≡ None → used + need ≤ limit
-    → MatchOption (refusal broken used need limit) (IsOkUnless result DiskFault) P → IsOkUnless result DiskFault
-only_disk P broken used need limit result whole fits answer =
-    let f = le-ltb limit (used + need) fits in
-    let none : refusal broken used need limit ≡ None = rw whole (rw f refl) in
-    rw none at answer
+module _ {D : Type 0} {G : Ghosts D} where
+  -- memory and room for the record itself
+  pub own_memory : (l : RecordLog D G) (c : CoordOf) (flight : Option Record) (r : Record) → IsDue l c flight r → HasRoom l 1 (length (body_of r))
+  own_memory l c flight r due =
+      let size = size_is l.header r due.on.limits due.grammar in
+      record { records = due.size.records; body = omega (arith, due.size.body, size); row = omega (arith, due.size.row, size) }
 
--- a longer list, newest first
-newest : (xs : List Record) (r : Record) → reverse (xs ++ r ∷ []) ≡ r ∷ reverse xs
-newest xs r = reverse-append xs (r ∷ [])
+  pub own_room : (l : RecordLog D G) (c : CoordOf) (flight : Option Record) (r : Record) → IsDue l c flight r → gate_of l.journal + 1 + (9 + length (body_of r)) ≤ G.limit (disk_of l.journal)
+  own_room l c flight r due = omega (arith, size_is l.header r due.on.limits due.grammar, due.fits)
 
--- memory for the record itself
-pub own_room : {D : Type 0} {G : Ghosts D} (l : RecordLog D G) (h : Header) (r : Record) → IsWithinLimits h.shape → IsInGrammar h r → HasRoom l 1 (size_of r) → HasRoom l 1 (length (body_of r))
-own_room l h r limits is room =
-    let e = size_is h r limits is in
-    record { records = room.records; body = omega (arith, room.body, e); row = omega (arith, room.row, e) }
+  -- it is next
+  due_after : (l : RecordLog D G) (c : CoordOf) (flight : Option Record) (r : Record) → IsDue l c flight r → After l.header (reverse l.records.items) r
+  due_after l c flight r due =
+      let F : Header → Type 0 = λ h. Follows h (reverse l.records.items) r in
+      (due.grammar, subst F due.on.header (follows_next c (reverse l.records.items) r due.on.stands due.next))
 
--- where a due record was not written, the disk failed
-pub disk_failed : {D : Type 0} {G : Ghosts D} (l : RecordLog D G) (c : CoordOf) (flight : Option Record) (r : Record) (P : AppendFault → Type 0) (result : Result (Unit {0}) LogFault) (e : LogFault) → IsDue l c flight r → result ≡ Err e
-    → (HasRoom l 1 (length (body_of r)) → MatchOption (refusal (broken_of l.journal) (gate_of l.journal + 1) (9 + length (body_of r)) (G.limit (disk_of l.journal))) (e ≡ DiskFault) P)
-    → result ≡ Err DiskFault
-disk_failed {D} {G} l c flight r P result e due is answer =
-    let size = size_is l.header r due.on.limits due.grammar in
-    let room = own_room l l.header r due.on.limits due.grammar due.size in
-    is ∙ ap Err (only_disk {T = Unit {0}} P (broken_of l.journal) (gate_of l.journal + 1) (9 + length (body_of r)) (G.limit (disk_of l.journal)) (Err e) due.whole (omega (arith, size, due.fits)) (answer room))
-
--- the record was written
-pub sound_after : {D : Type 0} {G : Ghosts D} (old new : RecordLog D G) (c d : CoordOf) (flight : Option Record) (r : Record) (opened : ℕ)
-    → IsDue old c flight r → opened ≤ G.count (disk_of old.journal) → G.count (disk_of old.journal) ≤ G.count (disk_of new.journal)
-    → new.records.items ≡ old.records.items ++ r ∷ [] → new.header ≡ old.header → gate_of new.journal ≡ gate_of old.journal + 9 + length (body_of r) → broken_of new.journal ≡ None
-    → G.limit (disk_of new.journal) ≡ G.limit (disk_of old.journal) → ((count bytes : ℕ) → HasRoom old (count + 1) bytes → HasRoom new count bytes)
-    → Takes c d r → StandsFor d (r ∷ reverse old.records.items) → IsSound new d opened flight
-sound_after {D} {G} old new c d flight r opened due since later records header gate whole limit room takes stands =
-    let J : reverse new.records.items ≡ r ∷ reverse old.records.items = ap reverse records ∙ newest old.records.items r in
-    let size : 9 + length (body_of r) ≡ size_of r = size_is old.header r due.on.limits due.grammar in
-    let place : HasPlace old d (size_of r) 1 = due.place d takes in
-    let F : Header → Type 0 = λ h. Follows h (reverse old.records.items) r in
-    let after : After old.header (reverse old.records.items) r = (due.grammar, subst F due.on.header (follows_next c (reverse old.records.items) r due.on.stands due.next)) in
-    let sums : sum_by size_of (r ∷ reverse old.records.items) ≡ size_of r + sum_by size_of (reverse old.records.items) = sum_by-cons size_of r (reverse old.records.items) in
-    let u : used_of (reverse new.records.items) ≡ gate_of new.journal + 1 = ap used_of J ∙ omega (arith, sums, due.used) in
-    let memory : HasRoom new (ahead_of d.lanes) largest =
-    room (ahead_of d.lanes) largest (let P : ℕ → Type 0 = λ n. HasRoom old n largest in subst P (omega arith) place.memory) in
-    record {
-      on = record {
-        header = takes_header c d r takes ∙ due.on.header ∙ sym header;
-        limits = let P : Header → Type 0 = λ h. IsWithinLimits h.shape in subst P (sym header) due.on.limits;
-        stands = let P : List Record → Type 0 = λ x. StandsFor d x in subst P (sym J) stands;
-        journal = let P : Header → List Record → Type 0 = λ h x. IsJournal h x in rw (header, J) (goes_on old.header (reverse old.records.items) r due.on.journal after);
-      };
-      since_opened = omega arith;
-      broken = let B : Option ℕ → Type 0 = λ b. IsBrokenSince opened (G.count (disk_of new.journal)) b in subst B (sym whole) tt;
-      ready = λ e. record {
-        used = sym u;
-        none_left = due.none_left;
-        place = record {
-          space = omega (arith, place.space);
-          rooms = place.rooms;
-          memory = let P : ℕ → Type 0 = λ n. HasRoom new n largest in subst P (omega arith) memory;
+  -- the record was written
+  pub sound_after : (old new : RecordLog D G) (c d : CoordOf) (flight landed : Option Record) (r : Record) (opened : ℕ)
+      → IsDue old c flight r → opened ≤ G.count (disk_of old.journal) → HasKept old new r → landed ≡ None → HasTaken c d r → IsSound new d opened landed
+  sound_after old new c d flight landed r opened due since kept none taken =
+      let P : List Record = reverse old.records.items in
+      let J : reverse new.records.items ≡ r ∷ P = pushed old new r kept in
+      let size : 9 + length (body_of r) ≡ size_of r = size_is old.header r due.on.limits due.grammar in
+      let place : HasPlace old d (size_of r) 1 = due.place d taken.taken in
+      let sums : sum_by size_of (r ∷ P) ≡ size_of r + sum_by size_of P = sum_by-cons size_of r P in
+      let u : used_of (reverse new.records.items) ≡ gate_of new.journal + 1 = ap used_of J ∙ omega (arith, sums, due.used, kept.gate, size) in
+      let memory : HasRoom new (ahead_of d.lanes) largest =
+      kept.room (ahead_of d.lanes) largest (let M : ℕ → Type 0 = λ n. HasRoom old n largest in subst M (omega arith) place.memory) in
+      record {
+        on = record {
+          header = takes_header c d r taken.taken ∙ due.on.header ∙ sym kept.header;
+          limits = let L : Header → Type 0 = λ h. IsWithinLimits h.shape in subst L (sym kept.header) due.on.limits;
+          stands = let S : List Record → Type 0 = λ x. StandsFor d x in subst S (sym J) (taken.stands P due.on.stands);
+          journal = let I : Header → List Record → Type 0 = λ h x. IsJournal h x in rw (kept.header, J) (goes_on old.header P r due.on.journal (due_after old c flight r due));
         };
-      };
-      flying = let P : Option Record → Type 0 = λ f. IfSome f (After new.header (reverse new.records.items)) in subst P (sym due.none_left) tt;
-      unbroken = λ e. whole;
-      fits = let P : Option Record → Type 0 = λ f. IfSome f (λ q. used_of (reverse new.records.items) + need_of new.header.shape (reverse new.records.items) q ≤ G.limit (disk_of new.journal)) in subst P (sym due.none_left) tt;
-      free = omega (arith, u, gate, size, place.space, limit);
-    }
+        since_opened = omega (arith, since, kept.later);
+        broken = let B : Option ℕ → Type 0 = λ b. IsBrokenSince opened (G.count (disk_of new.journal)) b in subst B (sym kept.broken) tt;
+        ready = λ e. record {
+          used = sym u;
+          none_left = none;
+          place = record {
+            space = omega (arith, place.space, kept.gate, kept.limit, size);
+            rooms = place.rooms;
+            memory = let M : ℕ → Type 0 = λ n. HasRoom new n largest in subst M (omega arith) memory;
+          };
+        };
+        flying = let F : Option Record → Type 0 = λ f. IfSome f (After new.header (reverse new.records.items)) in subst F (sym none) tt;
+        unbroken = λ e. kept.broken;
+        fits = let F : Option Record → Type 0 = λ f. IfSome f (λ q. used_of (reverse new.records.items) + need_of new.header.shape (reverse new.records.items) q ≤ G.limit (disk_of new.journal)) in subst F (sym none) tt;
+        free = omega (arith, u, kept.gate, size, place.space, kept.limit);
+      }
 
--- the disk failed at it
-pub sound_broken : {D : Type 0} {G : Ghosts D} (old new : RecordLog D G) (c : CoordOf) (flight : Option Record) (r : Record) (opened : ℕ)
-    → IsDue old c flight r → opened ≤ G.count (disk_of old.journal) → Rose (G.count (disk_of old.journal)) (G.count (disk_of new.journal)) → G.count (disk_of old.journal) ≤ G.count (disk_of new.journal)
-    → new.records.items ≡ old.records.items → new.header ≡ old.header → broken_of new.journal ≡ Some (G.count (disk_of new.journal))
-    → G.limit (disk_of new.journal) ≡ G.limit (disk_of old.journal) → IsSound new c opened (Some r)
-sound_broken {D} {G} old new c flight r opened due since rose later records header broken limit =
-    let risen : HasRisen opened (G.count (disk_of new.journal)) = omega arith in
-    let B : Option ℕ → Type 0 = λ b. IsBrokenSince opened (G.count (disk_of new.journal)) b in
-    let F : Header → Type 0 = λ h. Follows h (reverse old.records.items) r in
-    let after : After old.header (reverse old.records.items) r = (due.grammar, subst F due.on.header (follows_next c (reverse old.records.items) r due.on.stands due.next)) in
-    record {
-      on = record {
-        header = due.on.header ∙ sym header;
-        limits = let P : Header → Type 0 = λ h. IsWithinLimits h.shape in subst P (sym header) due.on.limits;
-        stands = let P : List Record → Type 0 = λ x. StandsFor c (reverse x) in subst P (sym records) due.on.stands;
-        journal = rw (header, records) due.on.journal;
-      };
-      since_opened = omega arith;
-      broken = subst B (sym broken) (risen, omega arith);
-      ready = λ e. cc;
-      flying = let P : Header → List Record → Type 0 = λ h x. After h x r in rw (header, records) after;
-      unbroken = λ e. absurd (let z : Some r ≡ None = e in cc);
-      fits = rw (header, records, limit) due.needs;
-      free = omega (arith, ap (λ x. used_of (reverse x)) records, due.used, due.free, limit);
-    }
+  -- the disk failed at it
+  pub sound_broken : (old new : RecordLog D G) (c d : CoordOf) (flight landed : Option Record) (r : Record) (opened : ℕ)
+      → IsDue old c flight r → opened ≤ G.count (disk_of old.journal) → HasBroken old new → landed ≡ Some r → d ≡ c → IsSound new d opened landed
+  sound_broken old new c d flight landed r opened due since failed is same =
+      let risen : HasRisen opened (G.count (disk_of new.journal)) = omega (arith, since, failed.rose, failed.later) in
+      let B : Option ℕ → Type 0 = λ b. IsBrokenSince opened (G.count (disk_of new.journal)) b in
+      let S : CoordOf → Option Record → Type 0 = λ x f. IsSound new x opened f in
+      let sound : IsSound new c opened (Some r) = record {
+        on = record {
+          header = due.on.header ∙ sym failed.header;
+          limits = let L : Header → Type 0 = λ h. IsWithinLimits h.shape in subst L (sym failed.header) due.on.limits;
+          stands = let P : List Record → Type 0 = λ x. StandsFor c (reverse x) in subst P (sym failed.records) due.on.stands;
+          journal = rw (failed.header, failed.records) due.on.journal;
+        };
+        since_opened = omega (arith, since, failed.later);
+        broken = subst B (sym failed.broken) (risen, omega arith);
+        ready = λ e. absurd (let z : Some (G.count (disk_of new.journal)) ≡ None = sym failed.broken ∙ e in cc);
+        flying = let F : Header → List Record → Type 0 = λ h x. After h x r in rw (failed.header, failed.records) (due_after old c flight r due);
+        unbroken = λ e. absurd (let z : Some r ≡ None = e in cc);
+        fits = rw (failed.header, failed.records, failed.limit) due.needs;
+        free = omega (arith, ap (λ x. used_of (reverse x)) failed.records, due.used, due.free, failed.limit);
+      } in
+      rw (same, is) sound

@@ -12,6 +12,7 @@ ghost use Rattle.coord_log.specs.Inside.{largest, IsSound, IsDue, IsNoRoom};
 
 use cbdc_types::{NodeFault, Record};
 use coord_core::CoordCore;
+use node_journal::write_next;
 use outside::Disk;
 use record_log::RecordLog;
 
@@ -44,17 +45,7 @@ pub(crate) fn write<D: Disk>(
     ensures header { log.new.header ≡ log.old.header }
     ensures limit { D.limit (disk_of log.new.journal) ≡ D.limit (disk_of log.old.journal) }
 {
-    match log.write(&next) {
-        Ok(()) => {
-            core.apply(&next);
-            log.keep(next);
-            Ok(())
-        }
-        Err(_) => {
-            *flight = Some(next);
-            Err(NodeFault::DiskFault)
-        }
-    }
+    write_next(log, core, flight, next)
 }
 
 /// Takes the room for a Prepare of so many bytes and transactions and for all records that are still to come: on

@@ -3,3 +3,4 @@ pub mod Journals
 pub mod Kept
 pub mod Stops
 pub mod Playing
+pub mod Behind

@@ -2,3 +2,4 @@ pub mod Nodes
 pub mod Shown
 pub mod Opening
 pub mod Opened
+pub mod Writing

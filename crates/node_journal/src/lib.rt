@@ -1,5 +1,5 @@
-//! A node and the journal on its disk: what contracts see of a node, of either kind, what a disk's bytes are as a node's journal, and how a disk is
-//! opened into its log and its core.
+//! A node and the journal on its disk: what contracts see of a node, of either kind, what a disk's bytes are as a node's journal, how a disk is opened
+//! into its log and its core, and how a record is written and taken in.
 //!
 //! - Open: content holds for disks that tell it.
 //! - Tested in `node_rows` (`coordinators.rows`, `shards.rows`).
@@ -7,5 +7,7 @@
 
 mod opening;
 mod replaying;
+mod writing;
 
 pub use opening::{Opened, open_node};
+pub use writing::write_next;

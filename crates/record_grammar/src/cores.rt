@@ -25,6 +25,9 @@ pub trait Core: Sized + Drop {
     /// It can take this record in: the memory for it is there.
     ghost admits: { Self → AnyRecord → Type 0 };
 
+    /// What else is known of it behind a record that it took in.
+    ghost takes: { Self → Self → AnyRecord → Type 0 };
+
     /// The header names a node of this kind.
     ghost kind: { AnyHeader → Type 0 };
 
@@ -53,7 +56,8 @@ pub trait Core: Sized + Drop {
     fn apply(&mut self, next: &Record)
         requires { admits self.old next.now }
         ensures header { header self.new ≡ header self.old }
-        ensures stands { (J : List AnyRecord) → stands self.old J → stands self.new (next.now ∷ J) };
+        ensures stands { (J : List AnyRecord) → stands self.old J → stands self.new (next.now ∷ J) }
+        ensures takes { takes self.old self.new next.now };
 
     /// The bytes that are kept free for the later records of unfinished batches, or the greatest number where they are more.
     fn kept_room(&self) -> u64

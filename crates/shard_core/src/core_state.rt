@@ -352,7 +352,7 @@ impl ShardCore {
     }
 
     /// The same of a record that is known to be in the grammar of the shard's journals.
-    pub fn admit_known(&mut self, r: &Record) -> Result<bool, AllocError>
+    pub(crate) fn admit_known(&mut self, r: &Record) -> Result<bool, AllocError>
         requires { IsInGrammar self.old.header r.now }
         ensures same { IsSameState self.old self.new }
         ensures admitted { IfOk result (λ yes. OnTrue yes (IsAdmitted self.new r.now)) }

@@ -1,4 +1,7 @@
 // A shard takes in the records of its journal, as any node does.
+ghost use Rattle.std.specs.Prelude.{◌∷◌, List};
+ghost use Rattle.cbdc_model.specs.Records.{Record as AnyRecord};
+
 use crate::ShardCore;
 use cbdc_types::{Header, NodeOpenFault, Record};
 use record_grammar::Core;
@@ -14,6 +17,8 @@ impl Core for ShardCore {
     ghost stands = { Stands };
 
     ghost admits = { IsAdmitted };
+
+    ghost takes = { λ old new next. (J : List AnyRecord) → Stands old J → Stands new (next ∷ J) };
 
     ghost kind = { IsShardHeader };
 

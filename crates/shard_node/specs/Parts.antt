@@ -1,5 +1,5 @@
 -- What always holds of the parts of a shard.
-use Rattle.std.specs.Prelude.{◌≡◌, ℕ, ◌+◌, ◌*◌, ◌≤◌, Bool, List, [], ◌∷◌, ◌++◌, length, reverse, vec_capacity, Option, Some, None, IfSome, slice_get}
+use Rattle.std.specs.Prelude.{◌≡◌, ℕ, ◌+◌, ◌*◌, ◌≤◌, Bool, List, ◌∷◌, length, reverse, vec_capacity, Option, Some, None, IfSome, slice_get}
 use Rattle.std.specs.Global.{Vec}
 use Rattle.cbdc_types.specs.declared.calls.LockCall.{LockCall}
 use Rattle.cbdc_types.specs.declared.calls.Replied.{Replied}
@@ -16,14 +16,13 @@ use Rattle.outside.specs.declared.disk.Disk.{Ghosts}
 use Rattle.gate_journal.specs.Shown.{disk_of, gate_of, broken_of}
 use Rattle.record_log.specs.declared.log.RecordLog.{RecordLog}
 use Rattle.record_log.specs.Logs.{HasRoom}
-use Rattle.outside.specs.Counts.{Rose}
-use Rattle.record_log.specs.Bodies.{body_of}
 use Rattle.shard_core.specs.Stands.{Stands}
 use Rattle.shard_core.specs.declared.core_state.ShardCore.{ShardCore}
 use Rattle.shard_node.specs.declared.parts.Parts.{Parts}
 use Rattle.node_journal.specs.Nodes.{NodeOf}
 use Rattle.node_journal.specs.Shown.{shown}
 use Rattle.node_journal.specs.Opened.{IsOpened}
+use Rattle.node_journal.specs.Writing.{HasKept, HasBroken}
 use Rattle.node_journal.specs.declared.opening.Opened.{Opened}
 use Rattle.record_grammar.specs.Kinds.{IsShardHeader}
 
@@ -76,31 +75,20 @@ IsShardOpened o = IsOpened (λ core. core.header) Stands IsShardHeader o
 
 -- the record was written and taken in
 pub record HasWritten {D : Type 0} {G : Ghosts D} (old new : Parts D G) (r : Record) : Type 0 where
-  pub records : new.log.records.items ≡ old.log.records.items ++ r ∷ []
-  pub header : new.log.header ≡ old.log.header
-  pub core_header : new.core.header ≡ old.core.header
+  pub log : HasKept old.log new.log r
+  pub header : new.core.header ≡ old.core.header
   pub stands : (J : List Record) → Stands old.core J → Stands new.core (r ∷ J)
   pub decisions : new.decisions ≡ old.decisions
   pub flight : new.flight ≡ old.flight
   pub opened : new.opened ≡ old.opened
-  pub gate : gate_of new.log.journal ≡ gate_of old.log.journal + 9 + length (body_of r)
-  pub broken : broken_of new.log.journal ≡ None
-  pub limit : G.limit (disk_of new.log.journal) ≡ G.limit (disk_of old.log.journal)
-  pub later : G.count (disk_of old.log.journal) ≤ G.count (disk_of new.log.journal)
-  pub room : (count bytes : ℕ) → HasRoom old.log (count + 1) bytes → HasRoom new.log count bytes
 
 -- the disk failed at it
 pub record HasFailed {D : Type 0} {G : Ghosts D} (old new : Parts D G) (r : Record) : Type 0 where
-  pub records : new.log.records.items ≡ old.log.records.items
-  pub header : new.log.header ≡ old.log.header
+  pub log : HasBroken old.log new.log
   pub core : new.core ≡ old.core
   pub decisions : new.decisions ≡ old.decisions
   pub flight : new.flight ≡ Some r
   pub opened : new.opened ≡ old.opened
-  pub broken : broken_of new.log.journal ≡ Some (G.count (disk_of new.log.journal))
-  pub limit : G.limit (disk_of new.log.journal) ≡ G.limit (disk_of old.log.journal)
-  pub rose : Rose (G.count (disk_of old.log.journal)) (G.count (disk_of new.log.journal))
-  pub later : G.count (disk_of old.log.journal) ≤ G.count (disk_of new.log.journal)
 
 -- the record is the Lock of this call with these replies
 abbrev pub IsLockOf : Record → LockCall → Replied → Type 0

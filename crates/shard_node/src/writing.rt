@@ -9,9 +9,8 @@ ghost use Rattle.shard_node.specs.Parts.{HasWritten, HasFailed, view_of};
 
 use crate::parts::Parts;
 use cbdc_types::{NodeFault, Record};
+use node_journal::write_next;
 use outside::Disk;
-use record_grammar::Core;
-use record_log::LogFault;
 
 /// Writes a record, for which there is room, and then takes it in. Where the disk fails, the record is in flight.
 pub(crate) fn write<D: Disk>(parts: &mut Parts<D>, next: Record) -> Result<(), NodeFault>
@@ -27,16 +26,5 @@ pub(crate) fn write<D: Disk>(parts: &mut Parts<D>, next: Record) -> Result<(), N
     ensures leaves { HoldsJournal D.Disk (view_of parts.old)
         → LeavesBetween D.Disk (view_of parts.old) (view_of parts.new) }
 {
-    match parts.log.write(&next) {
-        Ok(()) => {
-            parts.core.apply(&next);
-            parts.log.keep(next);
-            Ok(())
-        }
-        Err(LogFault::DiskFault) => {
-            parts.flight = Some(next);
-            Err(NodeFault::DiskFault)
-        }
-        Err(_) => unreachable!(),
-    }
+    write_next(&mut parts.log, &mut parts.core, &mut parts.flight, next)
 }

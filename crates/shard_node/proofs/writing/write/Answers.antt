@@ -1,47 +1,15 @@
-use Rattle.std.proofs.Common.{◌+◌, ◌∷◌, ◌++◌, [], List, Err, refl, ap, ◌∙◌}
-use Rattle.gate_journal.specs.Shown.{gate_of, broken_of}
-use Rattle.cbdc_model.specs.Records.{Record}
-use Rattle.node_journal.proofs.Leaving.{to_journal, from_journal, to_broken, written_between, failed_between}
+use Rattle.std.proofs.Common.{refl}
+use Rattle.node_journal.proofs.Behind.{on_ok, on_err}
 use Rattle.shard_node.proofs.writing.write.Goals as goal
 
-pub returns-in-Ok-clause-written : goal.returns-in-Ok-clause-written
-returns-in-Ok-clause-written g c = record {
-  records = c.keep.ensures.kept ∙ ap (λ (l : List Record). l ++ c.args.next ∷ []) c.write.ensures.records;
-  header = c.keep.ensures.header ∙ c.write.ensures.header;
-  core_header = c.apply.ensures.header;
-  stands = c.apply.ensures.stands;
-  decisions = refl;
-  flight = refl;
-  opened = refl;
-  gate = ap gate_of c.keep.ensures.journal ∙ c.in-Ok.ensures.grows.0;
-  broken = ap broken_of c.keep.ensures.journal ∙ c.in-Ok.ensures.grows.1;
-  limit = rw c.keep.ensures.journal c.write.ensures.limit;
-  later = rw c.keep.ensures.journal c.write.ensures.later;
-  room = λ count bytes has. c.keep.ensures.room count bytes (c.write.ensures.keeps (count + 1) bytes has);
-}
+pub returns-clause-written : goal.returns-clause-written
+returns-clause-written g c = on_ok c.write_next.result c.write_next.ensures.written (λ w. record { log = w.0; header = w.3; stands = w.2; decisions = refl; flight = w.1; opened = refl })
 
-pub returns-in-Ok-clause-holds : goal.returns-in-Ok-clause-holds
-returns-in-Ok-clause-holds g c = λ old.
-    let p = c.args.parts.now in
-    let written = c.in-Ok.ensures.written p.log.records.items (from_journal p.log p.opened p.flight c.requires.whole old) in
-    let kept = c.keep.ensures.kept ∙ ap (λ (l : List Record). l ++ c.args.next ∷ []) c.write.ensures.records in
-    to_journal c.keep.new.self p.opened p.flight c.requires.landed (rw (c.keep.ensures.journal, kept) written)
+pub returns-clause-failed : goal.returns-clause-failed
+returns-clause-failed g c = on_err c.write_next.result c.write_next.ensures.failed (λ f. record { log = f.0; core = f.2; decisions = refl; flight = f.1; opened = refl })
 
-pub returns-in-Ok-clause-leaves : goal.returns-in-Ok-clause-leaves
-returns-in-Ok-clause-leaves g c = λ holds.
-    let p = c.args.parts.now in
-    let left = c.write.ensures.leaves p.log.records.items (from_journal p.log p.opened p.flight c.requires.whole holds) in
-    written_between p.log c.keep.new.self p.opened p.flight c.args.next c.requires.landed (c.keep.ensures.kept ∙ ap (λ (l : List Record). l ++ c.args.next ∷ []) c.write.ensures.records)
-    (rw c.keep.ensures.journal left)
+pub returns-clause-holds : goal.returns-clause-holds
+returns-clause-holds g c = c.write_next.ensures.holds c.args.parts.now.opened
 
-pub returns-in-Err-DiskFault-clause-holds : goal.returns-in-Err-DiskFault-clause-holds
-returns-in-Err-DiskFault-clause-holds g c = λ old.
-    let p = c.args.parts.now in
-    let left = c.write.ensures.leaves p.log.records.items (from_journal p.log p.opened p.flight c.requires.whole old) in
-    to_broken c.write.new.self p.log.records.items p.opened c.args.next c.write.ensures.records (c.write.ensures.broken (c.in-Err-DiskFault.is ∙ ap (λ e. Err e) c.in-Err-DiskFault.field-0-is)) left.now
-
-pub returns-in-Err-DiskFault-clause-leaves : goal.returns-in-Err-DiskFault-clause-leaves
-returns-in-Err-DiskFault-clause-leaves g c = λ holds.
-    let p = c.args.parts.now in
-    let left = c.write.ensures.leaves p.log.records.items (from_journal p.log p.opened p.flight c.requires.whole holds) in
-    failed_between p.log c.write.new.self p.opened p.flight c.args.next c.write.ensures.records left
+pub returns-clause-leaves : goal.returns-clause-leaves
+returns-clause-leaves g c = c.write_next.ensures.leaves c.args.parts.now.opened

@@ -1,0 +1,43 @@
+-- What is seen of a node behind a write.
+use Rattle.std.proofs.Common.{◌≡◌, ℕ, [], ◌∷◌, reverse, Option, Some, ap, ◌∙◌}
+use Rattle.std.specs.Prelude.{Result, Ok, Err, OnOk, OnErr, IfErr, MatchResult}
+use Rattle.std.proofs.lemmas.List.{reverse-append}
+use Rattle.cbdc_model.specs.Records.{Record}
+use Rattle.cbdc_model.specs.Sights.{Appends, Fails}
+use Rattle.outside.specs.declared.disk.Disk.{Ghosts}
+use Rattle.record_log.specs.declared.log.RecordLog.{RecordLog}
+use Rattle.node_journal.specs.Nodes.{sight}
+use Rattle.node_journal.specs.Shown.{shown}
+use Rattle.node_journal.specs.Writing.{HasKept, HasBroken}
+
+-- what follows of either result
+pub on_ok : {T E P Q : Type 0} (r : Result T E) → OnOk r P → (P → Q) → OnOk r Q
+on_ok (Ok a) p f = f p
+on_ok (Err e) p f = tt
+
+pub on_err : {T E P Q : Type 0} (r : Result T E) → OnErr r P → (P → Q) → OnErr r Q
+on_err (Ok a) p f = tt
+on_err (Err e) p f = f p
+
+pub either : {T E P Q R : Type 0} (r : Result T E) → OnOk r P → OnErr r Q → (P → R) → (Q → R) → R
+either (Ok a) p q f g = f p
+either (Err e) p q f g = g q
+
+pub matched : {T E P Q : Type 0} {L : E → Type 0} {A : T → Type 0} {B : E → Type 0} (r : Result T E) → OnOk r P → OnErr r Q → IfErr r L → (P → (a : T) → A a) → (Q → (e : E) → L e → B e) → MatchResult r A B
+matched (Ok a) p q l f g = f p a
+matched (Err e) p q l f g = g q e l
+
+module _ {D : Type 0} {G : Ghosts D} where
+  -- the record is the newest
+  pub pushed : (old new : RecordLog D G) (r : Record) → HasKept old new r → reverse new.records.items ≡ r ∷ reverse old.records.items
+  pushed old new r kept = ap reverse kept.records ∙ reverse-append old.records.items (r ∷ [])
+
+  pub appends : (old new : RecordLog D G) (opened since : ℕ) (flight landed : Option Record) (r : Record) → HasKept old new r → since ≡ opened → landed ≡ flight
+      → Appends (sight (shown old opened flight)) (sight (shown new since landed)) (reverse old.records.items) r
+  appends old new opened since flight landed r kept when same =
+      record { node = record { header = kept.header; opened = when; capacity = kept.limit; later = kept.later }; seen = pushed old new r kept; flight = same }
+
+  pub fails : (old new : RecordLog D G) (opened since : ℕ) (flight landed : Option Record) (r : Record) → HasBroken old new → since ≡ opened → landed ≡ Some r
+      → Fails (sight (shown old opened flight)) (sight (shown new since landed)) (reverse old.records.items) r
+  fails old new opened since flight landed r broken when same =
+      record { node = record { header = broken.header; opened = when; capacity = broken.limit; later = broken.later }; seen = ap reverse broken.records; flight = same; rose = broken.rose }
