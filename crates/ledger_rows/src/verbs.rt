@@ -58,7 +58,7 @@ const VERBS: [(&str, Verb, usize); 35] = [
     ("node", Verb::Node, ANY),
     ("crash", Verb::Crash, 3),
     ("room", Verb::Room, 2),
-    ("order", Verb::Order, 2),
+    ("order", Verb::Order, 3),
     ("used", Verb::Used, ANY),
     ("same", Verb::Same, 2),
     ("gates", Verb::Gates, ANY),
