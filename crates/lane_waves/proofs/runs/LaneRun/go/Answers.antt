@@ -12,7 +12,7 @@ returns g c =
       ends = record {
         seated = record { log = e.keeps_log.held c.requires.begins.seated.log; shards = e.keeps_shards.held c.requires.begins.seated.shards };
         lane = refl;
-        work = ap (λ txs. record { txs = txs; repeats = c.work.inside.repeats; decided = c.work.inside.lane.decided; batches = c.work.inside.lane.batches; fault = c.work.inside.lane.fault }) e.same ∙ c.work.view_is;
+        work = ap (λ txs. record { txs = txs; repeats = c.work.inside.repeats; decided = c.work.inside.lane.decided; batches = c.work.inside.lane.batches; fault = c.work.inside.lane.fault }) (c.end_ahead.ensures ∙ e.same) ∙ c.work.view_is;
         at = e.keeps_log.at_same;
         count_is = e.keeps_shards.count_same;
         of_lane = e.keeps_shards.served;
