@@ -192,7 +192,7 @@ module _ {D : Type 0} (files : Text → Option (List ℕ)) (files_before files_n
   free_alike (Audit mint clients) (Audit file others) alike free =
       subst (λ (names : List Text). CanAudit files files_before files_now device held before now file.name.now names) alike.1
       (subst (λ (name : Text). CanAudit files files_before files_now device held before now name (names_of clients.items)) alike.0 free)
-  free_alike (Gen shape seed size) (Gen kind number device.count) alike free = subst (λ k. Clean (mint_of number k) (all_submissions number k)) alike.2 (subst (λ k. Clean (mint_of k size) (all_submissions k size)) alike.1 free)
+  free_alike (Gen shape seed size) (Gen kind number count) alike free = subst (λ k. Clean (mint_of number k) (all_submissions number k)) alike.2 (subst (λ k. Clean (mint_of k size) (all_submissions k size)) alike.1 free)
   free_alike (Show text) (Show other) alike free = tt
   free_alike _ _ alike free = absurd alike
 

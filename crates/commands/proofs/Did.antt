@@ -35,7 +35,7 @@ module _ {D : Type 0} (files : Text → Option (List ℕ)) (device : Ghosts D) (
   did_by (Status hashes) is =
       record { shape = is.shape; genesis = is.genesis; journals = is.journals; limits = is.limits; opened = is.opened; room = is.room; back = is.back; holds = is.holds; prints = by _ is.prints }
   did_by (Audit mint clients) is = record { totals = is.totals; was = is.was; sentence = is.sentence; prints = by _ is.prints }
-  did_by (Gen shape seed device.count) is = (is.0, (is.1.0, is.1.1, by is.1.0 is.1.2))
+  did_by (Gen shape seed count) is = (is.0, (is.1.0, is.1.1, by is.1.0 is.1.2))
   did_by (Show text) is = by _ is
 
 -- nothing more was printed

@@ -111,7 +111,7 @@ module _ {D : Type 0} (device : Ghosts D) (held : ℕ → Option D) where
     exact_alike Recover Recover alike exact = exact
     exact_alike (Status hashes) (Status sought) alike exact = exact
     exact_alike (Audit mint clients) (Audit file words) alike exact = subst (λ (name : Text). HasNoCause device held (IsUnopenedOf files device held name)) alike.0 exact
-    exact_alike (Gen shape seed size) (Gen kind number device.count) alike exact = tt
+    exact_alike (Gen shape seed size) (Gen kind number count) alike exact = tt
     exact_alike (Show text) (Show other) alike exact = tt
     exact_alike _ _ alike exact = absurd alike
 

@@ -79,7 +79,7 @@ abbrev told_or : Option (List ℕ) → List ℕ
 told_or None = []
 told_or (Some c) = c
 
-module _ {D : Type 0} (device : Ghosts D) (reads : (d : D) (c : List ℕ) → device.content d ≡ Some c → device.images d c) (device : Ghosts D) (before now : ℕ → Option D)
+module _ {D : Type 0} (device : Ghosts D) (reads : (d : D) (c : List ℕ) → device.content d ≡ Some c → device.images d c) (before now : ℕ → Option D)
     (K : Shape) (mint : List Output) (submissions : List FullTx) (E : ℕ → List Record) (within : IsWithinLimits K) (shown : Shows device before K (genesis_id mint) E) (kept : KeptJournals K mint submissions E) where
   abbrev bytes_of : Option D → List ℕ
   bytes_of None = []

@@ -68,5 +68,5 @@ IsUnhindered files files_before files_now device held before now Recover = IsRac
 IsUnhindered files files_before files_now device held before now (Status hashes) = AreWhole hashes.items × IsRackReady device held before now none_sound []
 IsUnhindered files files_before files_now device held before now (Audit mint clients) =
     CanAudit files files_before files_now device held before now mint.name.now (names_of clients.items)
-IsUnhindered files files_before files_now device held before now (Gen shape seed device.count) = Clean (mint_of seed device.count) (all_submissions seed device.count)
+IsUnhindered files files_before files_now device held before now (Gen shape seed count) = Clean (mint_of seed count) (all_submissions seed count)
 IsUnhindered files files_before files_now device held before now (Show text) = Unit {0}
