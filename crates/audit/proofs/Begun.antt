@@ -4,7 +4,7 @@ use Rattle.std.specs.List.{All}
 use Rattle.std.proofs.lemmas.List.Elements.{All-head, All-tail}
 use Rattle.std.proofs.lemmas.Bool.Decides.{eqb_tells}
 use Rattle.std.proofs.lemmas.Bool.{cases_lt}
-use Rattle.cbdc_model.specs.Records.{Digest, Shape, Header, Compact, Record, Row, journal, Genesis, Lock, Finish, Forget, Start, Prepare, Commit, Discard, Done}
+use Rattle.cbdc_model.specs.Records.{Digest, Shape, Header, Compact, Record, Row, journal, Genesis, Start, Prepare}
 use Rattle.cbdc_model.specs.Ranges.{shard_of, shard_node, on_shard}
 use Rattle.cbdc_model.specs.Grammar.{IsShard, AreHere}
 use Rattle.cbdc_model.specs.After.{After, IsFirst, IsJournal}
@@ -94,24 +94,12 @@ module _ (K : Shape) (X : ℕ → List Record) (here : (s : ℕ) → s < K.shard
 log_first : (h : Header) (r : Record) → h.node < h.shape.coordinators → IsFirst r → After h [] r → r ≡ Start h
 log_first h (Start header) low first after = ap Start after.0.0
 log_first h (Genesis header hs) low first after = absurd (let shard : IsShard h.shape h.node = after.0.2 in omega (arith, low, shard.0))
-log_first h (Lock stamp b es) low first after = absurd first
-log_first h (Finish stamp b ds) low first after = absurd first
-log_first h (Forget stamp b) low first after = absurd first
-log_first h (Prepare stamp b txs) low first after = absurd first
-log_first h (Commit stamp b os) low first after = absurd first
-log_first h (Discard stamp b) low first after = absurd first
-log_first h (Done stamp b) low first after = absurd first
+log_first h other low first after = absurd first
 
 shard_first : (h : Header) (r : Record) → h.shape.coordinators ≤ h.node → IsFirst r → After h [] r → (r ≡ Genesis h (hashes_in r)) × AreHere h.shape h.node (hashes_in r)
 shard_first h (Genesis header hs) high first after = (ap (λ k. Genesis k hs) after.0.0, after.0.5)
 shard_first h (Start header) high first after = absurd (let low : h.node < h.shape.coordinators = after.0.2 in omega (arith, high, low))
-shard_first h (Lock stamp b es) high first after = absurd first
-shard_first h (Finish stamp b ds) high first after = absurd first
-shard_first h (Forget stamp b) high first after = absurd first
-shard_first h (Prepare stamp b txs) high first after = absurd first
-shard_first h (Commit stamp b os) high first after = absurd first
-shard_first h (Discard stamp b) high first after = absurd first
-shard_first h (Done stamp b) high first after = absurd first
+shard_first h other high first after = absurd first
 
 -- the journal ends in it
 record EndsIn (h : Header) (J : List Record) : Type 0 where
@@ -194,15 +182,8 @@ any_txs : (txs : List Compact) → All Any txs
 any_txs txs k d lt = tt
 
 any_pass : (r : Record) → TxsPass Any r
-any_pass (Genesis header hs) = tt
-any_pass (Lock stamp b es) = tt
-any_pass (Finish stamp b ds) = tt
-any_pass (Forget stamp b) = tt
-any_pass (Start header) = tt
 any_pass (Prepare stamp b txs) = any_txs txs
-any_pass (Commit stamp b os) = tt
-any_pass (Discard stamp b) = tt
-any_pass (Done stamp b) = tt
+any_pass other = tt
 
 -- ---- journals
 

@@ -5,7 +5,7 @@ use Rattle.cbdc_model.specs.Causes.{IsCaused}
 use Rattle.cbdc_model.specs.History.{won_of, committed, all_inputs, all_outputs, first_rows, Minted}
 use Rattle.cbdc_model.specs.Outcomes.{won_txs, won_at, decisions}
 use Rattle.cbdc_model.specs.Ranges.{shard_of, shard_node, journal_at, lane_journal}
-use Rattle.cbdc_model.specs.Records.{Digest, Shape, Batch, same_batch, Compact, Outcome, Answered, Record, Row, journal, Genesis, Lock, Finish, Forget, Start, Prepare, Commit, Discard, Done, lock_of, txs_of, outcomes_of}
+use Rattle.cbdc_model.specs.Records.{Digest, Shape, Batch, same_batch, Compact, Outcome, Answered, Record, Row, journal, Lock, Finish, lock_of, txs_of, outcomes_of}
 use Rattle.cbdc_model.specs.Replies.{entries}
 use Rattle.cbdc_model.specs.Status.{status, held_inputs, taken_inputs, returned_inputs, Unspent, Locked}
 use Rattle.ledger_laws.proofs.Next.{Next, has_lock, has_finish, Steady}
@@ -136,14 +136,7 @@ holder_next K node J x old (Lock stamp b es) next c =
           subst (λ l. OneHolder x l) (sym e) (subst (λ l. OneHolder x l) (sym next.4) (answered_one J b [] (entries es) x))
       | false ↦ λ t. let e : lock_of (Lock stamp b es ∷ J) c ≡ lock_of J c = rw t in subst (λ l. OneHolder x l) (sym e) (old c)
     ] refl
-holder_next K node J x old (Genesis header hs) next c = old c
-holder_next K node J x old (Finish stamp b ds) next c = old c
-holder_next K node J x old (Forget stamp b) next c = old c
-holder_next K node J x old (Start header) next c = old c
-holder_next K node J x old (Prepare stamp b txs) next c = old c
-holder_next K node J x old (Commit stamp b os) next c = old c
-holder_next K node J x old (Discard stamp b) next c = old c
-holder_next K node J x old (Done stamp b) next c = old c
+holder_next K node J x old other next c = old c
 
 decisions_of : (os : List Outcome) (es : List Answered) → decisions os (entries es) ≡ decided (won_at os) es
 decisions_of os [] = refl

@@ -46,14 +46,7 @@ any_passes (Prepare stamp b txs) = each txs
     each : (ts : List Compact) → AllProper Any (Prepare 0 (record { lane = 0; number = 0 }) ts)
     each [] = tt
     each (t ∷ ts) = (tt, each ts)
-any_passes (Genesis header hs) = tt
-any_passes (Lock stamp b es) = tt
-any_passes (Finish stamp b ds) = tt
-any_passes (Forget stamp b) = tt
-any_passes (Start header) = tt
-any_passes (Commit stamp b os) = tt
-any_passes (Discard stamp b) = tt
-any_passes (Done stamp b) = tt
+any_passes other = tt
 
 pub all_steady : (K : Shape) (m : Minted) (later : List Row) → AllAfter K m later → AllCaused K (later ++ first_rows K m) → Steady K m Any later
 all_steady K m [] after caused = tt
@@ -159,14 +152,7 @@ module _ (K : Shape) where
 
   done_here : (J : ℕ → List Record) (r : Record) (b : Batch) → IsDone K J r → ((kind_of r == 6) && is_of b r) ≡ true → has_done (J (home_of K b.lane)) b ≡ true
   done_here J (Prepare stamp c txs) b d t = subst (λ e. has_done (J (home_of K e.lane)) e ≡ true) (split_test 6 6 c b t).1 d
-  done_here J (Genesis header hs) b d t = absurd (let z : false ≡ true = t in cc)
-  done_here J (Lock stamp c es) b d t = absurd (let z : false ≡ true = t in cc)
-  done_here J (Finish stamp c ds) b d t = absurd (let z : false ≡ true = t in cc)
-  done_here J (Forget stamp c) b d t = absurd (let z : false ≡ true = t in cc)
-  done_here J (Start header) b d t = absurd (let z : false ≡ true = t in cc)
-  done_here J (Commit stamp c os) b d t = absurd (let z : false ≡ true = t in cc)
-  done_here J (Discard stamp c) b d t = absurd (let z : false ≡ true = t in cc)
-  done_here J (Done stamp c) b d t = absurd (let z : false ≡ true = t in cc)
+  done_here J other b d t = absurd (let z : false ≡ true = t in cc)
 
   pub done_of : (J : ℕ → List Record) (past : List Row) (n : ℕ) (b : Batch) → EachDone J past → has_prepare (journal n past) b ≡ true → has_done (J (home_of K b.lane)) b ≡ true
   done_of J [] n b done h = absurd (let z : false ≡ true = h in cc)

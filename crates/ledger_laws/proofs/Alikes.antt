@@ -3,7 +3,7 @@ use Rattle.std.proofs.Common.{◌≡◌, inl, inr, ℕ, ◌+◌, ◌<◌, ◌≤
 use Rattle.cbdc_model.specs.History.{first_rows, Minted}
 use Rattle.cbdc_model.specs.Outcomes.{decisions}
 use Rattle.cbdc_model.specs.Ranges.{shard_node, part, Concerned, is_no_part}
-use Rattle.cbdc_model.specs.Records.{Shape, Batch, Compact, Record, Row, journal, record_of, kind_of, is_of, decisions_in, Genesis, Lock, Finish, Forget, Start, Prepare, Commit, Discard, Done, lock_of, txs_of, outcomes_of}
+use Rattle.cbdc_model.specs.Records.{Shape, Batch, Compact, Record, Row, journal, record_of, kind_of, is_of, decisions_in, Finish, lock_of, txs_of, outcomes_of}
 use Rattle.cbdc_model.specs.Replies.{entries}
 use Rattle.cbdc_model.specs.World.{count_of, IsAlike, Alike}
 use Rattle.ledger_laws.proofs.Ledger.{SteadyJournals}
@@ -107,14 +107,7 @@ module _ (K : Shape) (minting : Minted) (P : Compact → Type 0) (shards : 0 < K
             by_kind s (Finish stamp c ds) t f =
                 subst (λ d. has_lock (journal (shard_node K s) (whole later)) d ≡ true × (ds ≡ decisions (outcomes_of (lane_of later d) d) (entries (lock_of (journal (shard_node K s) (whole later)) d))))
                 (split_test 3 3 c b t).1 (f.1, f.2)
-            by_kind s (Genesis header hs) t f = absurd (let z : false ≡ true = t in cc)
-            by_kind s (Start header) t f = absurd (let z : false ≡ true = t in cc)
-            by_kind s (Lock stamp c es) t f = absurd (let z : false ≡ true = t in cc)
-            by_kind s (Forget stamp c) t f = absurd (let z : false ≡ true = t in cc)
-            by_kind s (Prepare stamp c txs) t f = absurd (let z : false ≡ true = t in cc)
-            by_kind s (Commit stamp c os) t f = absurd (let z : false ≡ true = t in cc)
-            by_kind s (Discard stamp c) t f = absurd (let z : false ≡ true = t in cc)
-            by_kind s (Done stamp c) t f = absurd (let z : false ≡ true = t in cc)
+            by_kind s other t f = absurd (let z : false ≡ true = t in cc)
 
     none_there : (s : ℕ) → is_no_part (part K.shards s 0 (txs_of (lane_of later b) b)) ≡ true → has_lock (journal (shard_node K s) (whole later)) b ≡ false
     none_there s e = not_true _ (λ h. true_false _ e (concerned s h))

@@ -4,7 +4,7 @@ use Rattle.cbdc_model.specs.Causes.{at_shards, AllHave, IsCaused}
 use Rattle.cbdc_model.specs.History.{first_rows, Minted}
 use Rattle.cbdc_model.specs.Lanes.{IsEnd, first_of}
 use Rattle.cbdc_model.specs.Ranges.{shard_node, part, Concerned}
-use Rattle.cbdc_model.specs.Records.{Shape, Batch, Compact, Record, record_of, kind_of, is_of, txs_in, Genesis, Lock, Finish, Forget, Start, Prepare, Commit, Discard, Done}
+use Rattle.cbdc_model.specs.Records.{Shape, Batch, Compact, Record, record_of, kind_of, is_of, txs_in, Genesis, Lock, Finish, Forget, Start, Commit, Discard, Done}
 use Rattle.cbdc_model.specs.World.{replaced}
 use Rattle.ledger_laws.proofs.Ledger.{SteadyLists}
 use Rattle.ledger_laws.proofs.Next.{Next, has_lock, has_prepare}
@@ -75,13 +75,7 @@ first_once (Start header ∷ J) f = (λ kind c t. absurd (no_test (5 == kind) t)
   where
     no_test : (a : Bool) → (a && false) ≡ true → ⊥
     no_test a h = grind arith
-first_once (Lock stamp c es ∷ J) f = absurd f.0
-first_once (Finish stamp c es ∷ J) f = absurd f.0
-first_once (Forget stamp c ∷ J) f = absurd f.0
-first_once (Prepare stamp c es ∷ J) f = absurd f.0
-first_once (Commit stamp c es ∷ J) f = absurd f.0
-first_once (Discard stamp c ∷ J) f = absurd f.0
-first_once (Done stamp c ∷ J) f = absurd f.0
+first_once (other ∷ J) f = absurd f.0
 
 module _ (K : Shape) (minting : Minted) (P : Compact → Type 0) (shards : 0 < K.shards) where
   first_oks : (n : ℕ) → Oks (first_of K minting n)
@@ -148,14 +142,6 @@ module _ (K : Shape) (minting : Minted) (P : Compact → Type 0) (shards : 0 < K
 
         lock_is : (q : Record) (newer rest : List Record) → X (shard_node K s) ≡ newer ++ q ∷ rest → ((kind_of q == 2) && is_of b q) ≡ true
             → Concerned K (txs_in (record_of 6 (X (b.lane / K.lanes)) b)) s
-        lock_is (Genesis header hs) newer rest e t = absurd (let z : false ≡ true = t in cc)
-        lock_is (Start header) newer rest e t = absurd (let z : false ≡ true = t in cc)
-        lock_is (Finish stamp c ds) newer rest e t = absurd (let z : false ≡ true = t in cc)
-        lock_is (Forget stamp c) newer rest e t = absurd (let z : false ≡ true = t in cc)
-        lock_is (Prepare stamp c txs) newer rest e t = absurd (let z : false ≡ true = t in cc)
-        lock_is (Commit stamp c os) newer rest e t = absurd (let z : false ≡ true = t in cc)
-        lock_is (Discard stamp c) newer rest e t = absurd (let z : false ≡ true = t in cc)
-        lock_is (Done stamp c) newer rest e t = absurd (let z : false ≡ true = t in cc)
         lock_is (Lock stamp c es) newer rest e t =
             let back : IsEnd (first_of K minting (shard_node K s)) rest = behind (shard_node K s) newer rest (Lock stamp c es) e (λ f. f) in
             let f = kept.each (shard_node K s) newer rest (Lock stamp c es) e back in
@@ -168,6 +154,7 @@ module _ (K : Shape) (minting : Minted) (P : Compact → Type 0) (shards : 0 < K
               in_range K (shard_node K s) rest (Lock stamp c es) f.0 s refl,
               not_empty es _ (f.1.caused.1 s refl ∙ ap (λ o. part K.shards s 0 (txs_in o)) cause) f.0.5,
             )
+        lock_is other newer rest e t = absurd (let z : false ≡ true = t in cc)
 
     -- so is that of any later record of it
     shard_part : (kind s : ℕ) (b : Batch) → IsShardKind kind → (b.lane / K.lanes == shard_node K s) ≡ false → is_some (record_of kind (X (shard_node K s)) b) ≡ true
@@ -186,13 +173,7 @@ module _ (K : Shape) (minting : Minted) (P : Compact → Type 0) (shards : 0 < K
         not_first : (q : Record) (kind : ℕ) (b : Batch) → ((kind_of q == kind) && is_of b q) ≡ true → IsFirst q → ⊥
         not_first (Genesis header hs) kind b t f = no_test (1 == kind) t
         not_first (Start header) kind b t f = no_test (5 == kind) t
-        not_first (Lock stamp c es) kind b t f = f
-        not_first (Finish stamp c ds) kind b t f = f
-        not_first (Forget stamp c) kind b t f = f
-        not_first (Prepare stamp c txs) kind b t f = f
-        not_first (Commit stamp c os) kind b t f = f
-        not_first (Discard stamp c) kind b t f = f
-        not_first (Done stamp c) kind b t f = f
+        not_first other kind b t f = f
 
     -- what was caused by beginnings of the journals is caused by the journals
     module _ (n : ℕ) (rest : List Record) (r : Record) (rest_end : IsEnd rest (X n)) (back : IsEnd (first_of K minting n) rest) (V : ℕ → List Record) (ends : (m : ℕ) → IsEnd (V m) (X m)) where
@@ -217,9 +198,6 @@ module _ (K : Shape) (minting : Minted) (P : Compact → Type 0) (shards : 0 < K
               true_false _ (all s (subst (λ o. Concerned K (txs_in o) s) here c)) t
 
       causes_same : (q : Record) → Next K n rest q → IsCaused K (replaced V n rest) n q → SameCauses K (replaced V n rest) (replaced X n rest) q
-      causes_same (Genesis header hs) next c = tt
-      causes_same (Start header) next c = tt
-      causes_same (Prepare stamp b txs) next c = tt
       causes_same (Lock stamp b es) next c = found_there n rest V ends (b.lane / K.lanes) 6 b c.0
       causes_same (Finish stamp b ds) next c = found_there n rest V ends (b.lane / K.lanes) 7 b c.0
       causes_same (Forget stamp b) next c = found_there n rest V ends (b.lane / K.lanes) 8 b c.0
@@ -235,6 +213,7 @@ module _ (K : Shape) (minting : Minted) (P : Compact → Type 0) (shards : 0 < K
         replaced_at V n rest (b.lane / K.lanes) next.2 ∙ sym (replaced_at X n rest (b.lane / K.lanes) next.2),
         same_at 4 (inr (inr refl)) b next.1 next.2 ((oks_at n rest_end.0 rest rest_end.1 back).phases.discard_here b next.3 next.4).0 c.0,
       )
+      causes_same other next c = tt
 
       pub now_caused : Next K n rest r → IsCaused K (replaced V n rest) n r → IsCaused K (replaced X n rest) n r
       now_caused next c = caused_same K (replaced V n rest) (replaced X n rest) n r

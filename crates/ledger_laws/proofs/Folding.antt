@@ -10,7 +10,7 @@ use Rattle.cbdc_model.specs.Coins.{Output, Coin, FullTx, coin_hash, tx_id, tx_co
 use Rattle.cbdc_model.specs.History.{first_rows, committed, newly_won, won_of, all_inputs, all_outputs, same_compact, AreHandedIn, minted, history_of, Minted}
 use Rattle.cbdc_model.specs.Next.{same_digests}
 use Rattle.cbdc_model.specs.Outcomes.{won_txs}
-use Rattle.cbdc_model.specs.Records.{Digest, same_digest, Shape, Compact, Outcome, is_won, Record, Row, journal, Genesis, Lock, Finish, Forget, Start, Prepare, Commit, Discard, Done, txs_of}
+use Rattle.cbdc_model.specs.Records.{Digest, same_digest, Shape, Compact, Outcome, is_won, Record, Row, journal, Commit, txs_of}
 use Rattle.cbdc_model.specs.Status.{Unspent, Locked}
 use Rattle.ledger_laws.proofs.Next.{Next, Each, Steady}
 use Rattle.ledger_laws.specs.Sets.{IsPlaced, Folds}
@@ -96,16 +96,9 @@ won_each P (t ∷ ts) (o ∷ os) each = elim (is_won o) as (λ c. Each P (if c t
 
 module _ (K : Shape) (P : Compact → Type 0) where
   newly_each : (past : List Row) (st : Structure K P past) (node : ℕ) (r : Record) → Next K node (journal node past) r → Each P (newly_won r (journal node past))
-  newly_each past st node (Genesis header hs) next = tt
-  newly_each past st node (Start header) next = tt
-  newly_each past st node (Lock stamp b es) next = tt
-  newly_each past st node (Finish stamp b ds) next = tt
-  newly_each past st node (Forget stamp b) next = tt
-  newly_each past st node (Prepare stamp b txs) next = tt
-  newly_each past st node (Discard stamp b) next = tt
-  newly_each past st node (Done stamp b) next = tt
   newly_each past st node (Commit stamp b os) next =
       won_each P (txs_of (journal node past) b) os (subst (λ n. Each P (txs_of (journal n past) b)) (sym next.2) (st.proper b))
+  newly_each past st node other next = tt
 
   pub kept_each : (minting : Minted) → 0 < K.shards → Apart (λ x. count x minting.hashes) P → (later : List Row) → Steady K minting P later
       → Each P (committed (later ++ first_rows K minting))

@@ -71,14 +71,7 @@ module _ (K : Shape) (minting : Minted) (P : Compact → Type 0) (shards : 0 < K
             size = subst (λ fs. (1 ≤ length fs) × (length fs ≤ K.batch)) is g.3;
             all = subst (λ fs. AllByRecursion (IsEntry K n) fs) is (recursion_from_All (IsEntry K n) es g.5);
           }
-      of_record (Genesis header hs) e t g = absurd (let z : false ≡ true = t in cc)
-      of_record (Start header) e t g = absurd (let z : false ≡ true = t in cc)
-      of_record (Finish stamp c ds) e t g = absurd (let z : false ≡ true = t in cc)
-      of_record (Forget stamp c) e t g = absurd (let z : false ≡ true = t in cc)
-      of_record (Prepare stamp c txs) e t g = absurd (let z : false ≡ true = t in cc)
-      of_record (Commit stamp c os) e t g = absurd (let z : false ≡ true = t in cc)
-      of_record (Discard stamp c) e t g = absurd (let z : false ≡ true = t in cc)
-      of_record (Done stamp c) e t g = absurd (let z : false ≡ true = t in cc)
+      of_record other e t g = absurd (let z : false ≡ true = t in cc)
 
   -- where the lane is idle at a shard with this number, the batch is forgotten there
   pub forgot_here : (s : ℕ) (b : Batch) → 1 ≤ b.number → (slot (J (shard_node K s)) b.lane).number ≡ b.number → (slot (J (shard_node K s)) b.lane).phase ≡ Idle → has_forget (J (shard_node K s)) b ≡ true

@@ -1,7 +1,7 @@
 -- Laws of one history, as the functions state them.
 use Rattle.std.proofs.Common.{◌≡◌, inl, inr, ℕ, true, false, ◌==◌, if◌then◌else◌, List, [], ◌∷◌, ◌++◌, refl, sym, ap, ◌∙◌, subst}
 use Rattle.std.proofs.lemmas.List.{append_cancel_right}
-use Rattle.cbdc_model.specs.Records.{Compact, Record, Row, journal, lock_of, Genesis, Lock, Finish, Forget, Start, Prepare, Commit, Discard, Done}
+use Rattle.cbdc_model.specs.Records.{Compact, Record, Row, journal, lock_of, Prepare}
 use Rattle.cbdc_model.specs.Replies.{entries}
 use Rattle.cbdc_model.specs.Ranges.{shard_node}
 use Rattle.cbdc_model.specs.Outcomes.{decisions}
@@ -65,14 +65,7 @@ each_more P Q f (Prepare stamp b txs) h = all_more txs h
     all_more : (ts : List Compact) → Each P ts → Each Q ts
     all_more [] h = tt
     all_more (t ∷ ts) h = (f t h.0, all_more ts h.1)
-each_more P Q f (Genesis header hs) h = tt
-each_more P Q f (Lock stamp b es) h = tt
-each_more P Q f (Finish stamp b ds) h = tt
-each_more P Q f (Forget stamp b) h = tt
-each_more P Q f (Start header) h = tt
-each_more P Q f (Commit stamp b os) h = tt
-each_more P Q f (Discard stamp b) h = tt
-each_more P Q f (Done stamp b) h = tt
+each_more P Q f other h = tt
 
 pub more_law : MoreLaw
 more_law K mint txs more [] sub kept = tt

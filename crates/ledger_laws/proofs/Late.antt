@@ -33,9 +33,6 @@ module _ (K : Shape) (n : ℕ) (J : List Record) (ok : JournalOk J) (more : More
   nothing_behind : (r : Record) (b : Batch) → Next K n J r → is_of b r ≡ true → has_done J b ≡ true → ⊥
   nothing_behind (Genesis header hs) b next t h = absurd next
   nothing_behind (Start header) b next t h = absurd next
-  nothing_behind (Lock stamp c es) b next t h = at_shard b next.1.0 h
-  nothing_behind (Finish stamp c ds) b next t h = at_shard b next.1.0 h
-  nothing_behind (Forget stamp c) b next t h = at_shard b next.1.0 h
   nothing_behind (Prepare stamp c txs) b next t h =
       let e : c ≡ b = same_batch_is c b t in
       let m : b.number ≡ (slot J b.lane).number + 1 = subst (λ d. d.number ≡ (slot J d.lane).number + 1) e next.4 in
@@ -49,6 +46,7 @@ module _ (K : Shape) (n : ℕ) (J : List Record) (ok : JournalOk J) (more : More
   nothing_behind (Done stamp c) b next t h =
       let e : c ≡ b = same_batch_is c b t in
       true_false _ h (more.in_discard b (subst (λ d. (slot J d.lane).phase ≡ InDiscard) e next.3) (subst (λ d. (slot J d.lane).number ≡ d.number) e next.4))
+  nothing_behind other b next t h = at_shard b next.1.0 h
 
 found_new : (kind : ℕ) (q : Record) (J : List Record) (b : Batch) → ((kind_of q == kind) && is_of b q) ≡ true → record_of kind (q ∷ J) b ≡ Some q
 found_new kind q J b t = rw t
@@ -194,14 +192,7 @@ module _ (K : Shape) (minting : Minted) (P : Compact → Type 0) (shards : 0 < K
       where
         of_record : (r : Record) → ((kind_of r == 6) && is_of b r) ≡ true → IsInGrammar (header_of K minting.id (b.lane / K.lanes)) r → stamp_of r ≤ 2 ^ 62
         of_record (Prepare stamp c txs) t g = g.0.1
-        of_record (Genesis header hs) t g = absurd (let z : false ≡ true = t in cc)
-        of_record (Start header) t g = absurd (let z : false ≡ true = t in cc)
-        of_record (Lock stamp c es) t g = absurd (let z : false ≡ true = t in cc)
-        of_record (Finish stamp c ds) t g = absurd (let z : false ≡ true = t in cc)
-        of_record (Forget stamp c) t g = absurd (let z : false ≡ true = t in cc)
-        of_record (Commit stamp c os) t g = absurd (let z : false ≡ true = t in cc)
-        of_record (Discard stamp c) t g = absurd (let z : false ≡ true = t in cc)
-        of_record (Done stamp c) t g = absurd (let z : false ≡ true = t in cc)
+        of_record other t g = absurd (let z : false ≡ true = t in cc)
 
     -- a late record is one
     found : (n kind : ℕ) (b : Batch) → 2 ^ 62 < stamp_in (record_of kind (J n) b) → (r : Record) × (record_of kind (J n) b ≡ Some r)

@@ -3,7 +3,7 @@ use Rattle.std.proofs.Common.{◌≡◌, inl, inr, ℕ, ◌<◌, ◌≤◌, ◌/
 use Rattle.cbdc_model.specs.Causes.{greatest, at_shards, IsCaused}
 use Rattle.cbdc_model.specs.History.{first_rows, goes_above, IsOrdered, Minted}
 use Rattle.cbdc_model.specs.Ranges.{shard_node}
-use Rattle.cbdc_model.specs.Records.{Shape, Batch, Compact, Record, Row, journal, record_of, kind_of, is_of, stamp_of, stamp_in, Genesis, Lock, Finish, Forget, Start, Prepare, Commit, Discard, Done}
+use Rattle.cbdc_model.specs.Records.{Shape, Batch, Compact, Record, Row, journal, record_of, kind_of, is_of, stamp_of, stamp_in, Lock, Finish, Forget, Commit, Discard, Done}
 use Rattle.cbdc_model.specs.World.{replaced}
 use Rattle.ledger_laws.proofs.Ledger.{EachSteady}
 use Rattle.ledger_laws.proofs.Next.{Next, Steady}
@@ -44,15 +44,13 @@ module _ (K : Shape) (n : ℕ) (r : Record) (I J : ℕ → List Record) (next : 
 
   module _ (m : ℕ) (apart : (n == m) ≡ false) where
     causes_before : (q : Record) → stamp_of q ≤ stamp_of r → Next K m (I m) q → IsCaused K I m q → SameCauses K I J q
-    causes_before (Genesis header hs) le at_q c = tt
-    causes_before (Start header) le at_q c = tt
-    causes_before (Prepare stamp b txs) le at_q c = tt
     causes_before (Lock stamp b es) le at_q c = older 6 (b.lane / K.lanes) b (omega (arith, c.2))
     causes_before (Finish stamp b ds) le at_q c = older 7 (b.lane / K.lanes) b (omega (arith, c.2))
     causes_before (Forget stamp b) le at_q c = older 8 (b.lane / K.lanes) b (omega (arith, c.1))
     causes_before (Commit stamp b os) le at_q c = (subst (λ k. I k ≡ J k) at_q.2 (others m apart), older_shards 2 b stamp le (omega (arith, c.2)))
     causes_before (Discard stamp b) le at_q c = (subst (λ k. I k ≡ J k) at_q.2 (others m apart), older_shards 3 b stamp le (omega (arith, c.1)))
     causes_before (Done stamp b) le at_q c = (subst (λ k. I k ≡ J k) at_q.2 (others m apart), older_shards 4 b stamp le (omega (arith, c.1)))
+    causes_before other le at_q c = tt
 
     was_caused_there : (q : Record) → stamp_of q ≤ stamp_of r → Next K m (I m) q → IsCaused K I m q → IsCaused K J m q
     was_caused_there q le at_q c = caused_same K I J m q (others m apart) (causes_before q le at_q c) c

@@ -1,6 +1,6 @@
 -- The Commit and the Finish that made a hash are older than a Lock that holds it.
 use Rattle.std.proofs.Common.{◌≡◌, ℕ, ◌<◌, ◌≤◌, Bool, true, false, ◌&&◌, ◌==◌, if◌then◌else◌, List, [], ◌∷◌, ◌++◌, Some, None, is_some, refl, sym, ap, ◌∙◌, subst, arith}
-use Rattle.cbdc_model.specs.Records.{Digest, Shape, Batch, Compact, Outcome, Answered, Record, Row, journal, same_batch, record_of, lock_of, txs_of, outcomes_of, decisions_in, entries_in, kind_of, is_of, stamp_in, last_stamp, Genesis, Lock, Finish, Forget, Start, Prepare, Commit, Discard, Done}
+use Rattle.cbdc_model.specs.Records.{Digest, Shape, Batch, Compact, Outcome, Answered, Record, Row, journal, same_batch, record_of, lock_of, txs_of, outcomes_of, decisions_in, entries_in, kind_of, is_of, stamp_in, last_stamp, Genesis, Lock, Finish, Start, Commit}
 use Rattle.cbdc_model.specs.Status.{Status, status, has, held_inputs, made_outputs, returned_inputs, taken_inputs, finished_status, Unspent, Locked, Absent}
 use Rattle.cbdc_model.specs.Replies.{entries}
 use Rattle.cbdc_model.specs.Ranges.{shard_of, shard_node, journal_at, lane_journal}
@@ -136,11 +136,7 @@ next_older K node x J (Genesis header hs) ok order next was = absurd next
 next_older K node x J (Start header) ok order next was = absurd next
 next_older K node x J (Lock stamp d es) ok order next was = lock_older x J ok order was stamp d es next.0 next.3
 next_older K node x J (Finish stamp d ds) ok order next was = finish_older x J ok order was stamp d ds
-next_older K node x J (Forget stamp d) ok order next was = record { locked = was.locked; older = was.older }
-next_older K node x J (Prepare stamp d txs) ok order next was = record { locked = was.locked; older = was.older }
-next_older K node x J (Commit stamp d os) ok order next was = record { locked = was.locked; older = was.older }
-next_older K node x J (Discard stamp d) ok order next was = record { locked = was.locked; older = was.older }
-next_older K node x J (Done stamp d) ok order next was = record { locked = was.locked; older = was.older }
+next_older K node x J another ok order next was = record { locked = was.locked; older = was.older }
 
 never_locked : (x : Digest) (J : List Record) → AllFirst J → (c : Batch) → status J x ≡ Locked c → ⊥
 never_locked x [] first c e = not_there c e
@@ -149,13 +145,7 @@ never_locked x (Genesis header hs ∷ J) first c e = elim (has hs x) as (λ v. (
   | false ↦ λ e. never_locked x J first.1 c e
 ] e
 never_locked x (Start header ∷ J) first c e = never_locked x J first.1 c e
-never_locked x (Lock stamp d es ∷ J) first c e = absurd first.0
-never_locked x (Finish stamp d es ∷ J) first c e = absurd first.0
-never_locked x (Forget stamp d ∷ J) first c e = absurd first.0
-never_locked x (Prepare stamp d es ∷ J) first c e = absurd first.0
-never_locked x (Commit stamp d es ∷ J) first c e = absurd first.0
-never_locked x (Discard stamp d ∷ J) first c e = absurd first.0
-never_locked x (Done stamp d ∷ J) first c e = absurd first.0
+never_locked x (another ∷ J) first c e = absurd first.0
 
 decisions-decided : (os : List Outcome) (es : List Answered) → decisions os (entries es) ≡ decided (won_at os) es
 decisions-decided os [] = refl
@@ -204,14 +194,7 @@ module _ (K : Shape) (minting : Minted) (P : Compact → Type 0) (shards : 0 < K
               decided_by = ap decisions_in e ∙ subst (λ d. ds ≡ decisions (outcomes_of (lane_journal K (whole later) d) d) (entries (lock_of J d))) s f.2;
               later_than = subst (λ r. stamp_in (record_of 7 home b) < stamp_in r) (sym e) (subst (λ d. stamp_in (record_of 7 (lane_journal K (whole later) d) d) < stamp) s f.3);
             }
-        of_record (Genesis header hs) e t f = absurd (let z : false ≡ true = t in cc)
-        of_record (Start header) e t f = absurd (let z : false ≡ true = t in cc)
-        of_record (Lock stamp c es) e t f = absurd (let z : false ≡ true = t in cc)
-        of_record (Forget stamp c) e t f = absurd (let z : false ≡ true = t in cc)
-        of_record (Prepare stamp c txs) e t f = absurd (let z : false ≡ true = t in cc)
-        of_record (Commit stamp c os) e t f = absurd (let z : false ≡ true = t in cc)
-        of_record (Discard stamp c) e t f = absurd (let z : false ≡ true = t in cc)
-        of_record (Done stamp c) e t f = absurd (let z : false ≡ true = t in cc)
+        of_record another e t f = absurd (let z : false ≡ true = t in cc)
 
     pub made_earlier : (c : Batch) → 0 < count x (all_outputs (won_of K (whole later) b)) → has_finish J b ≡ true → status J x ≡ Locked c
         → (stamp_in (record_of 7 home b) < stamp_in (record_of 2 J c)) × (stamp_in (record_of 3 J b) < stamp_in (record_of 2 J c))

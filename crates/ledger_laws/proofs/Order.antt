@@ -1,6 +1,6 @@
 -- Stamps in one journal: a Done of an earlier batch is older than a Prepare of a later one; and what a lane's last record is.
 use Rattle.std.proofs.Common.{◌≡◌, ℕ, ◌<◌, ◌≤◌, true, false, ◌&&◌, ◌==◌, List, ◌∷◌, Some, is_some, refl, sym, ap, ◌∙◌, subst, arith}
-use Rattle.cbdc_model.specs.Records.{Shape, Batch, Record, record_of, kind_of, is_of, stamp_of, stamp_in, last_stamp, Genesis, Lock, Finish, Forget, Start, Prepare, Commit, Discard, Done}
+use Rattle.cbdc_model.specs.Records.{Shape, Batch, Record, record_of, kind_of, is_of, stamp_of, stamp_in, last_stamp, Genesis, Start, Prepare, Done}
 use Rattle.cbdc_model.specs.Slots.{slot}
 use Rattle.ledger_laws.proofs.Next.{Next}
 use Rattle.ledger_laws.proofs.Slots.{JournalOk}
@@ -14,13 +14,7 @@ pub record OrderOk (J : List Record) : Type 0 where
 after_stamp : (K : Shape) (node : ℕ) (J : List Record) (r : Record) → Next K node J r → last_stamp J < stamp_of r
 after_stamp K node J (Genesis header hs) next = absurd next
 after_stamp K node J (Start header) next = absurd next
-after_stamp K node J (Lock stamp b es) next = next.0
-after_stamp K node J (Finish stamp b ds) next = next.0
-after_stamp K node J (Forget stamp b) next = next.0
-after_stamp K node J (Prepare stamp b txs) next = next.0
-after_stamp K node J (Commit stamp b os) next = next.0
-after_stamp K node J (Discard stamp b) next = next.0
-after_stamp K node J (Done stamp b) next = next.0
+after_stamp K node J other next = next.0
 
 found_here : (kind : ℕ) (r : Record) (J : List Record) (b : Batch) → ((kind_of r == kind) && is_of b r) ≡ true → record_of kind (r ∷ J) b ≡ Some r
 found_here kind r J b t = rw t
@@ -35,24 +29,12 @@ done_number K node J (Done stamp d) ok next c b lanes lt t prepared =
     omega (arith, ok.prepare_below b prepared)
 done_number K node J (Genesis header hs) ok next c b lanes lt t prepared = absurd next
 done_number K node J (Start header) ok next c b lanes lt t prepared = absurd next
-done_number K node J (Lock stamp d es) ok next c b lanes lt t prepared = absurd (let z : false ≡ true = t in cc)
-done_number K node J (Finish stamp d es) ok next c b lanes lt t prepared = absurd (let z : false ≡ true = t in cc)
-done_number K node J (Forget stamp d) ok next c b lanes lt t prepared = absurd (let z : false ≡ true = t in cc)
-done_number K node J (Prepare stamp d es) ok next c b lanes lt t prepared = absurd (let z : false ≡ true = t in cc)
-done_number K node J (Commit stamp d es) ok next c b lanes lt t prepared = absurd (let z : false ≡ true = t in cc)
-done_number K node J (Discard stamp d) ok next c b lanes lt t prepared = absurd (let z : false ≡ true = t in cc)
+done_number K node J other ok next c b lanes lt t prepared = absurd (let z : false ≡ true = t in cc)
 
 -- one record is no Done and no Prepare at once
 not_both : (r : Record) (c b : Batch) → ((kind_of r == 9) && is_of c r) ≡ true → ((kind_of r == 6) && is_of b r) ≡ true → ⊥
 not_both (Done stamp d) c b t u = let z : false ≡ true = u in cc
-not_both (Prepare stamp d txs) c b t u = let z : false ≡ true = t in cc
-not_both (Genesis header hs) c b t u = let z : false ≡ true = t in cc
-not_both (Start header) c b t u = let z : false ≡ true = t in cc
-not_both (Lock stamp d es) c b t u = let z : false ≡ true = t in cc
-not_both (Finish stamp d es) c b t u = let z : false ≡ true = t in cc
-not_both (Forget stamp d) c b t u = let z : false ≡ true = t in cc
-not_both (Commit stamp d es) c b t u = let z : false ≡ true = t in cc
-not_both (Discard stamp d) c b t u = let z : false ≡ true = t in cc
+not_both other c b t u = let z : false ≡ true = t in cc
 
 pub next_order : (K : Shape) (node : ℕ) (J : List Record) (r : Record) → JournalOk J → Next K node J r → OrderOk J → OrderOk (r ∷ J)
 next_order K node J r ok next order =

@@ -1,6 +1,6 @@
 -- The phases of a batch stand in order, by what each record that stands says of its causes.
 use Rattle.std.proofs.Common.{◌≡◌, ℕ, ◌<◌, ◌≤◌, ◌/◌, true, false, ◌&&◌, ◌==◌, List, ◌++◌, Some, None, is_some, refl, sym, ap, subst, arith}
-use Rattle.cbdc_model.specs.Records.{Shape, Batch, Compact, Record, Row, journal, record_of, kind_of, is_of, stamp_of, stamp_in, Genesis, Lock, Finish, Forget, Start, Prepare, Commit, Discard, Done}
+use Rattle.cbdc_model.specs.Records.{Shape, Batch, Compact, Record, Row, journal, record_of, kind_of, is_of, stamp_of, stamp_in, Lock, Finish, Forget, Commit, Discard, Done}
 use Rattle.cbdc_model.specs.Ranges.{shard_node}
 use Rattle.cbdc_model.specs.Slots.{slot}
 use Rattle.cbdc_model.specs.Causes.{AllHave}
@@ -20,74 +20,32 @@ module _ (K : Shape) (J : ℕ → List Record) (n : ℕ) (b : Batch) where
   lock_says : (r : Record) → ((kind_of r == 2) && is_of b r) ≡ true → Facts K J n r
       → (is_some (record_of 6 (J (b.lane / K.lanes)) b) ≡ true) × (stamp_in (record_of 6 (J (b.lane / K.lanes)) b) < stamp_of r)
   lock_says (Lock stamp c es) t f = subst (λ d. (is_some (record_of 6 (J (d.lane / K.lanes)) d) ≡ true) × (stamp_in (record_of 6 (J (d.lane / K.lanes)) d) < stamp)) (split_test 2 2 c b t).1 (f.0, f.2)
-  lock_says (Genesis header hs) t f = absurd (let z : false ≡ true = t in cc)
-  lock_says (Start header) t f = absurd (let z : false ≡ true = t in cc)
-  lock_says (Finish stamp c ds) t f = absurd (let z : false ≡ true = t in cc)
-  lock_says (Forget stamp c) t f = absurd (let z : false ≡ true = t in cc)
-  lock_says (Prepare stamp c txs) t f = absurd (let z : false ≡ true = t in cc)
-  lock_says (Commit stamp c os) t f = absurd (let z : false ≡ true = t in cc)
-  lock_says (Discard stamp c) t f = absurd (let z : false ≡ true = t in cc)
-  lock_says (Done stamp c) t f = absurd (let z : false ≡ true = t in cc)
+  lock_says other t f = absurd (let z : false ≡ true = t in cc)
 
   finish_says : (r : Record) → ((kind_of r == 3) && is_of b r) ≡ true → Facts K J n r
       → (is_some (record_of 2 (J n) b) ≡ true) × (is_some (record_of 7 (J (b.lane / K.lanes)) b) ≡ true) × (stamp_in (record_of 7 (J (b.lane / K.lanes)) b) < stamp_of r)
   finish_says (Finish stamp c ds) t f = subst (λ d. (is_some (record_of 2 (J n) d) ≡ true) × (is_some (record_of 7 (J (d.lane / K.lanes)) d) ≡ true) × (stamp_in (record_of 7 (J (d.lane / K.lanes)) d) < stamp)) (split_test 3 3 c b t).1 (f.1, f.0, f.3)
-  finish_says (Genesis header hs) t f = absurd (let z : false ≡ true = t in cc)
-  finish_says (Start header) t f = absurd (let z : false ≡ true = t in cc)
-  finish_says (Lock stamp c es) t f = absurd (let z : false ≡ true = t in cc)
-  finish_says (Forget stamp c) t f = absurd (let z : false ≡ true = t in cc)
-  finish_says (Prepare stamp c txs) t f = absurd (let z : false ≡ true = t in cc)
-  finish_says (Commit stamp c os) t f = absurd (let z : false ≡ true = t in cc)
-  finish_says (Discard stamp c) t f = absurd (let z : false ≡ true = t in cc)
-  finish_says (Done stamp c) t f = absurd (let z : false ≡ true = t in cc)
+  finish_says other t f = absurd (let z : false ≡ true = t in cc)
 
   forget_says : (r : Record) → ((kind_of r == 4) && is_of b r) ≡ true → Facts K J n r
       → (is_some (record_of 8 (J (b.lane / K.lanes)) b) ≡ true) × (stamp_in (record_of 8 (J (b.lane / K.lanes)) b) < stamp_of r)
   forget_says (Forget stamp c) t f = subst (λ d. (is_some (record_of 8 (J (d.lane / K.lanes)) d) ≡ true) × (stamp_in (record_of 8 (J (d.lane / K.lanes)) d) < stamp)) (split_test 4 4 c b t).1 (f.0, f.1)
-  forget_says (Genesis header hs) t f = absurd (let z : false ≡ true = t in cc)
-  forget_says (Start header) t f = absurd (let z : false ≡ true = t in cc)
-  forget_says (Lock stamp c es) t f = absurd (let z : false ≡ true = t in cc)
-  forget_says (Finish stamp c ds) t f = absurd (let z : false ≡ true = t in cc)
-  forget_says (Prepare stamp c txs) t f = absurd (let z : false ≡ true = t in cc)
-  forget_says (Commit stamp c os) t f = absurd (let z : false ≡ true = t in cc)
-  forget_says (Discard stamp c) t f = absurd (let z : false ≡ true = t in cc)
-  forget_says (Done stamp c) t f = absurd (let z : false ≡ true = t in cc)
+  forget_says other t f = absurd (let z : false ≡ true = t in cc)
 
   commit_says : (r : Record) → ((kind_of r == 7) && is_of b r) ≡ true → Facts K J n r
       → (is_some (record_of 6 (J (b.lane / K.lanes)) b) ≡ true) × AllHave K J 2 b × AllOlder K J 2 b (stamp_of r)
   commit_says (Commit stamp c os) t f = subst (λ d. (is_some (record_of 6 (J (d.lane / K.lanes)) d) ≡ true) × AllHave K J 2 d × AllOlder K J 2 d stamp) (split_test 7 7 c b t).1 (f.0, f.1, f.3)
-  commit_says (Genesis header hs) t f = absurd (let z : false ≡ true = t in cc)
-  commit_says (Start header) t f = absurd (let z : false ≡ true = t in cc)
-  commit_says (Lock stamp c es) t f = absurd (let z : false ≡ true = t in cc)
-  commit_says (Finish stamp c ds) t f = absurd (let z : false ≡ true = t in cc)
-  commit_says (Forget stamp c) t f = absurd (let z : false ≡ true = t in cc)
-  commit_says (Prepare stamp c txs) t f = absurd (let z : false ≡ true = t in cc)
-  commit_says (Discard stamp c) t f = absurd (let z : false ≡ true = t in cc)
-  commit_says (Done stamp c) t f = absurd (let z : false ≡ true = t in cc)
+  commit_says other t f = absurd (let z : false ≡ true = t in cc)
 
   discard_says : (r : Record) → ((kind_of r == 8) && is_of b r) ≡ true → Facts K J n r
       → (is_some (record_of 6 (J (b.lane / K.lanes)) b) ≡ true) × AllHave K J 3 b × AllOlder K J 3 b (stamp_of r)
   discard_says (Discard stamp c) t f = subst (λ d. (is_some (record_of 6 (J (d.lane / K.lanes)) d) ≡ true) × AllHave K J 3 d × AllOlder K J 3 d stamp) (split_test 8 8 c b t).1 (f.0, f.1, f.2)
-  discard_says (Genesis header hs) t f = absurd (let z : false ≡ true = t in cc)
-  discard_says (Start header) t f = absurd (let z : false ≡ true = t in cc)
-  discard_says (Lock stamp c es) t f = absurd (let z : false ≡ true = t in cc)
-  discard_says (Finish stamp c ds) t f = absurd (let z : false ≡ true = t in cc)
-  discard_says (Forget stamp c) t f = absurd (let z : false ≡ true = t in cc)
-  discard_says (Prepare stamp c txs) t f = absurd (let z : false ≡ true = t in cc)
-  discard_says (Commit stamp c os) t f = absurd (let z : false ≡ true = t in cc)
-  discard_says (Done stamp c) t f = absurd (let z : false ≡ true = t in cc)
+  discard_says other t f = absurd (let z : false ≡ true = t in cc)
 
   done_says : (r : Record) → ((kind_of r == 9) && is_of b r) ≡ true → Facts K J n r
       → (is_some (record_of 6 (J (b.lane / K.lanes)) b) ≡ true) × AllHave K J 4 b × AllOlder K J 4 b (stamp_of r)
   done_says (Done stamp c) t f = subst (λ d. (is_some (record_of 6 (J (d.lane / K.lanes)) d) ≡ true) × AllHave K J 4 d × AllOlder K J 4 d stamp) (split_test 9 9 c b t).1 (f.0, f.1, f.2)
-  done_says (Genesis header hs) t f = absurd (let z : false ≡ true = t in cc)
-  done_says (Start header) t f = absurd (let z : false ≡ true = t in cc)
-  done_says (Lock stamp c es) t f = absurd (let z : false ≡ true = t in cc)
-  done_says (Finish stamp c ds) t f = absurd (let z : false ≡ true = t in cc)
-  done_says (Forget stamp c) t f = absurd (let z : false ≡ true = t in cc)
-  done_says (Prepare stamp c txs) t f = absurd (let z : false ≡ true = t in cc)
-  done_says (Commit stamp c os) t f = absurd (let z : false ≡ true = t in cc)
-  done_says (Discard stamp c) t f = absurd (let z : false ≡ true = t in cc)
+  done_says other t f = absurd (let z : false ≡ true = t in cc)
 
 module _ (K : Shape) (minting : Minted) (P : Compact → Type 0) (shards : 0 < K.shards) (later : List Row) (kept : Steady K minting P later) where
   abbrev J : ℕ → List Record

@@ -3,7 +3,7 @@ use Rattle.std.proofs.Common.{◌≡◌, inl, inr, ℕ, ◌+◌, ◌<◌, true, 
 use Rattle.std.proofs.lemmas.List.FromFn.{length-map-range_with_len}
 use Rattle.cbdc_model.specs.Causes.{IsCaused}
 use Rattle.cbdc_model.specs.History.{header_of, first_rows, Minted}
-use Rattle.cbdc_model.specs.Records.{Shape, Compact, Record, Row, journal, Genesis, Lock, Finish, Forget, Start, Prepare, Commit, Discard, Done}
+use Rattle.cbdc_model.specs.Records.{Shape, Compact, Record, Row, journal, Genesis, Lock, Finish, Forget, Start}
 use Rattle.cbdc_model.specs.World.{World, Node, Event, Begin, End, node_at, journals, flushed, IsQuiet, effect, Run, init, first_node}
 use Rattle.ledger_laws.proofs.Next.{Next, Steady}
 use Rattle.ledger_laws.specs.Reach.{events_of, Reached}
@@ -25,10 +25,7 @@ at_a_node K node J (Start header) next = absurd next
 at_a_node K node J (Lock stamp b es) next = next.1.1
 at_a_node K node J (Finish stamp b ds) next = next.1.1
 at_a_node K node J (Forget stamp b) next = next.1.1
-at_a_node K node J (Prepare stamp b txs) next = omega (arith, next.1)
-at_a_node K node J (Commit stamp b os) next = omega (arith, next.1)
-at_a_node K node J (Discard stamp b) next = omega (arith, next.1)
-at_a_node K node J (Done stamp b) next = omega (arith, next.1)
+at_a_node K node J other next = omega (arith, next.1)
 
 module _ (K : Shape) (minting : Minted) (P : Compact → Type 0) (shards : 0 < K.shards) where
   -- one record begins and ends

@@ -4,7 +4,7 @@ use Rattle.cbdc_model.specs.Causes.{at_shards, AllHave, IsCaused}
 use Rattle.cbdc_model.specs.History.{first_rows, won_of, all_outputs, Minted}
 use Rattle.cbdc_model.specs.Outcomes.{won_txs, won_at}
 use Rattle.cbdc_model.specs.Ranges.{shard_of, shard_node, journal_at, part, Concerned, is_no_part}
-use Rattle.cbdc_model.specs.Records.{Digest, Shape, Batch, Compact, Outcome, Entry, Record, Row, journal, record_of, kind_of, is_of, txs_in, Genesis, Lock, Finish, Forget, Start, Prepare, Commit, Discard, Done, lock_of, txs_of, outcomes_of}
+use Rattle.cbdc_model.specs.Records.{Digest, Shape, Batch, Compact, Outcome, Entry, Record, Row, journal, record_of, kind_of, is_of, txs_in, Genesis, Start, Done, lock_of, txs_of, outcomes_of}
 use Rattle.cbdc_model.specs.Replies.{entries}
 use Rattle.cbdc_model.specs.Slots.{slot, Idle, InFinish}
 use Rattle.cbdc_model.specs.Status.{status, held_inputs, Locked}
@@ -81,12 +81,7 @@ module _ (K : Shape) (minting : Minted) (P : Compact → Type 0) (shards : 0 < K
       (caused.0, (phases.discard_here c next.3 next.4).0)
   done_caused past node (Genesis header hs) b phases next caused t = absurd next
   done_caused past node (Start header) b phases next caused t = absurd next
-  done_caused past node (Lock stamp c es) b phases next caused t = absurd (let z : false ≡ true = t in cc)
-  done_caused past node (Finish stamp c ds) b phases next caused t = absurd (let z : false ≡ true = t in cc)
-  done_caused past node (Forget stamp c) b phases next caused t = absurd (let z : false ≡ true = t in cc)
-  done_caused past node (Prepare stamp c txs) b phases next caused t = absurd (let z : false ≡ true = t in cc)
-  done_caused past node (Commit stamp c os) b phases next caused t = absurd (let z : false ≡ true = t in cc)
-  done_caused past node (Discard stamp c) b phases next caused t = absurd (let z : false ≡ true = t in cc)
+  done_caused past node other b phases next caused t = absurd (let z : false ≡ true = t in cc)
 
   -- what all concerned shards have they keep
   all_have_kept : (later : List Row) → Steady K minting P later → (row : Row) → Next K row.node (journal row.node (whole later)) row.what

@@ -105,14 +105,7 @@ module _ (K : Shape) (minting : Minted) (P : Compact → Type 0) (shards : 0 < K
       where
         by_kind : (n : ℕ) (b : Batch) (r : Record) → ((kind_of r == 3) && is_of b r) ≡ true → Facts K (λ n. journal n (later ++ first_rows K minting)) n r → has_lock (J n) b ≡ true
         by_kind n b (Finish stamp c ds) t f = subst (λ d. has_lock (J n) d ≡ true) (split_test 3 3 c b t).1 f.1
-        by_kind n b (Genesis header hs) t f = absurd (let z : false ≡ true = t in cc)
-        by_kind n b (Start header) t f = absurd (let z : false ≡ true = t in cc)
-        by_kind n b (Lock stamp c es) t f = absurd (let z : false ≡ true = t in cc)
-        by_kind n b (Forget stamp c) t f = absurd (let z : false ≡ true = t in cc)
-        by_kind n b (Prepare stamp c txs) t f = absurd (let z : false ≡ true = t in cc)
-        by_kind n b (Commit stamp c os) t f = absurd (let z : false ≡ true = t in cc)
-        by_kind n b (Discard stamp c) t f = absurd (let z : false ≡ true = t in cc)
-        by_kind n b (Done stamp c) t f = absurd (let z : false ≡ true = t in cc)
+        by_kind n b other t f = absurd (let z : false ≡ true = t in cc)
 
     -- a Done is younger than each Forget
     done_younger : (b : Batch) → has_done (J (b.lane / K.lanes)) b ≡ true → (s : ℕ) → s < K.shards
@@ -126,14 +119,7 @@ module _ (K : Shape) (minting : Minted) (P : Compact → Type 0) (shards : 0 < K
         by_kind : (b : Batch) (s : ℕ) → s < K.shards → (r : Record) → ((kind_of r == 9) && is_of b r) ≡ true → Facts K (λ n. journal n (later ++ first_rows K minting)) (b.lane / K.lanes) r
             → stamp_in (record_of 4 (J (shard_node K s)) b) < stamp_of r
         by_kind b s lt (Done stamp c) t f = subst (λ d. stamp_in (record_of 4 (J (shard_node K s)) d) < stamp) (split_test 9 9 c b t).1 (f.2 s lt)
-        by_kind b s lt (Genesis header hs) t f = absurd (let z : false ≡ true = t in cc)
-        by_kind b s lt (Start header) t f = absurd (let z : false ≡ true = t in cc)
-        by_kind b s lt (Lock stamp c es) t f = absurd (let z : false ≡ true = t in cc)
-        by_kind b s lt (Finish stamp c ds) t f = absurd (let z : false ≡ true = t in cc)
-        by_kind b s lt (Forget stamp c) t f = absurd (let z : false ≡ true = t in cc)
-        by_kind b s lt (Prepare stamp c txs) t f = absurd (let z : false ≡ true = t in cc)
-        by_kind b s lt (Commit stamp c os) t f = absurd (let z : false ≡ true = t in cc)
-        by_kind b s lt (Discard stamp c) t f = absurd (let z : false ≡ true = t in cc)
+        by_kind b s lt other t f = absurd (let z : false ≡ true = t in cc)
 
     pure : (s : ℕ) (b : Batch) → has_prepare (J (shard_node K s)) b ≡ false
     pure s b = (all_dones K minting P shards later kept (shard_node K s)).pure b (omega arith)
@@ -261,25 +247,19 @@ module _ (K : Shape) (minting : Minted) (P : Compact → Type 0) (shards : 0 < K
       where
         is_lock : (kind : ℕ) (r : Record) → record_of kind (J (shard_node K s)) b ≡ Some r → kind_of r ≡ kind → (slot_by (Some r)).phase ≡ InLock → record_of 2 (J (shard_node K s)) b ≡ Some r
         is_lock kind (Lock stamp c es) e k p = subst (λ n. record_of n (J (shard_node K s)) b ≡ Some (Lock stamp c es)) (sym k) e
-        is_lock kind (Genesis header hs) e k p = absurd (let z : Idle ≡ InLock = p in cc)
-        is_lock kind (Start header) e k p = absurd (let z : Idle ≡ InLock = p in cc)
         is_lock kind (Finish stamp c ds) e k p = absurd (let z : InFinish ≡ InLock = p in cc)
-        is_lock kind (Forget stamp c) e k p = absurd (let z : Idle ≡ InLock = p in cc)
         is_lock kind (Prepare stamp c txs) e k p = absurd (let z : InPrepare ≡ InLock = p in cc)
         is_lock kind (Commit stamp c os) e k p = absurd (let z : InCommit ≡ InLock = p in cc)
         is_lock kind (Discard stamp c) e k p = absurd (let z : InDiscard ≡ InLock = p in cc)
-        is_lock kind (Done stamp c) e k p = absurd (let z : Idle ≡ InLock = p in cc)
+        is_lock kind other e k p = absurd (let z : Idle ≡ InLock = p in cc)
 
         is_finish : (kind : ℕ) (r : Record) → record_of kind (J (shard_node K s)) b ≡ Some r → kind_of r ≡ kind → (slot_by (Some r)).phase ≡ InFinish → record_of 3 (J (shard_node K s)) b ≡ Some r
         is_finish kind (Finish stamp c ds) e k p = subst (λ n. record_of n (J (shard_node K s)) b ≡ Some (Finish stamp c ds)) (sym k) e
-        is_finish kind (Genesis header hs) e k p = absurd (let z : Idle ≡ InFinish = p in cc)
-        is_finish kind (Start header) e k p = absurd (let z : Idle ≡ InFinish = p in cc)
         is_finish kind (Lock stamp c es) e k p = absurd (let z : InLock ≡ InFinish = p in cc)
-        is_finish kind (Forget stamp c) e k p = absurd (let z : Idle ≡ InFinish = p in cc)
         is_finish kind (Prepare stamp c txs) e k p = absurd (let z : InPrepare ≡ InFinish = p in cc)
         is_finish kind (Commit stamp c os) e k p = absurd (let z : InCommit ≡ InFinish = p in cc)
         is_finish kind (Discard stamp c) e k p = absurd (let z : InDiscard ≡ InFinish = p in cc)
-        is_finish kind (Done stamp c) e k p = absurd (let z : Idle ≡ InFinish = p in cc)
+        is_finish kind other e k p = absurd (let z : Idle ≡ InFinish = p in cc)
 
         by_last : LastIs (J (shard_node K s)) b
             → ((slot (J (shard_node K s)) b.lane).phase ≡ InLock → slot_stamp (J (shard_node K s)) b.lane ≡ stamp_in (record_of 2 (J (shard_node K s)) b))
@@ -315,14 +295,7 @@ module _ (K : Shape) (minting : Minted) (P : Compact → Type 0) (shards : 0 < K
             by_kind (Finish stamp d ds) t f =
                 (subst (λ a. ds ≡ decisions (outcomes_in (record_of 7 (J (a.lane / K.lanes)) a)) (entries (lock_of (J (shard_node K s)) a))) (split_test 3 3 d b t).1 f.2)
                 ∙ ap (λ r. decisions (outcomes_in r) (entries (lock_of (J (shard_node K s)) b))) stands
-            by_kind (Genesis header hs) t f = absurd (let z : false ≡ true = t in cc)
-            by_kind (Start header) t f = absurd (let z : false ≡ true = t in cc)
-            by_kind (Lock stamp d es) t f = absurd (let z : false ≡ true = t in cc)
-            by_kind (Forget stamp d) t f = absurd (let z : false ≡ true = t in cc)
-            by_kind (Prepare stamp d txs) t f = absurd (let z : false ≡ true = t in cc)
-            by_kind (Commit stamp d os) t f = absurd (let z : false ≡ true = t in cc)
-            by_kind (Discard stamp d) t f = absurd (let z : false ≡ true = t in cc)
-            by_kind (Done stamp d) t f = absurd (let z : false ≡ true = t in cc)
+            by_kind other t f = absurd (let z : false ≡ true = t in cc)
 
         fits : Facts K (λ n. journal n (later ++ first_rows K minting)) (b.lane / K.lanes) (Commit cause b os) → has_lock (J (shard_node K s)) b ≡ true
             → FitsReplies (lock_of (J (shard_node K s)) b) (decisions os (entries (lock_of (J (shard_node K s)) b)))

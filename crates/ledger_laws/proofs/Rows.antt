@@ -2,7 +2,7 @@
 use Rattle.std.proofs.Common.{◌≡◌, ℕ, ◌+◌, true, false, ◌==◌, if◌then◌else◌, List, [], ◌∷◌, ◌++◌, refl, ap, ◌∙◌, subst, arith, append-nil}
 use Rattle.cbdc_model.specs.History.{won_of, committed, newly_won, all_inputs, all_outputs}
 use Rattle.cbdc_model.specs.Ranges.{shard_of, shard_node, journal_at, lane_journal, part}
-use Rattle.cbdc_model.specs.Records.{Digest, Shape, Batch, Compact, Record, Row, journal, Genesis, Lock, Finish, Forget, Start, Prepare, Commit, Discard, Done, lock_of, txs_of}
+use Rattle.cbdc_model.specs.Records.{Digest, Shape, Batch, Compact, Record, Row, journal, Genesis, Finish, lock_of, txs_of}
 use Rattle.cbdc_model.specs.Replies.{entries}
 use Rattle.cbdc_model.specs.Status.{status, held_inputs, made_outputs}
 use Rattle.ledger_laws.proofs.Next.{Next, has_lock, has_finish, has_prepare, has_commit, Each}
@@ -15,13 +15,7 @@ abbrev pub arrived : List Record → Digest → ℕ
 arrived [] x = 0
 arrived (Genesis header hs ∷ past) x = count x hs + arrived past x
 arrived (Finish stamp b ds ∷ past) x = count x (made_outputs (lock_of past b) ds) + arrived past x
-arrived (Lock stamp b es ∷ past) x = arrived past x
-arrived (Forget stamp b ∷ past) x = arrived past x
-arrived (Start header ∷ past) x = arrived past x
-arrived (Prepare stamp b txs ∷ past) x = arrived past x
-arrived (Commit stamp b os ∷ past) x = arrived past x
-arrived (Discard stamp b ∷ past) x = arrived past x
-arrived (Done stamp b ∷ past) x = arrived past x
+arrived (other ∷ past) x = arrived past x
 
 pub takes_of : Shape → List Row → Batch → Digest → ℕ
 takes_of K past b x = count x (all_inputs (won_of K past b))

@@ -93,13 +93,7 @@ module _ (K : Shape) (minting : Minted) (P : Compact → Type 0) (shards : 0 < K
   after_stamp : (n : ℕ) (J : List Record) (r : Record) → Next K n J r → last_stamp J < stamp_of r
   after_stamp n J (Genesis header hs) next = absurd next
   after_stamp n J (Start header) next = absurd next
-  after_stamp n J (Lock stamp b es) next = next.0
-  after_stamp n J (Finish stamp b ds) next = next.0
-  after_stamp n J (Forget stamp b) next = next.0
-  after_stamp n J (Prepare stamp b txs) next = next.0
-  after_stamp n J (Commit stamp b os) next = next.0
-  after_stamp n J (Discard stamp b) next = next.0
-  after_stamp n J (Done stamp b) next = next.0
+  after_stamp n J other next = next.0
 
   after_node : (n : ℕ) (J : List Record) (r : Record) → Next K n J r → n < K.coordinators + K.shards
   after_node n J (Genesis header hs) next = absurd next
@@ -107,10 +101,7 @@ module _ (K : Shape) (minting : Minted) (P : Compact → Type 0) (shards : 0 < K
   after_node n J (Lock stamp b es) next = next.1.1
   after_node n J (Finish stamp b ds) next = next.1.1
   after_node n J (Forget stamp b) next = next.1.1
-  after_node n J (Prepare stamp b txs) next = omega (arith, next.1)
-  after_node n J (Commit stamp b os) next = omega (arith, next.1)
-  after_node n J (Discard stamp b) next = omega (arith, next.1)
-  after_node n J (Done stamp b) next = omega (arith, next.1)
+  after_node n J other next = omega (arith, next.1)
 
   module _ (X : ℕ → List Record) (kept : SteadyLists K minting P X) where
     abbrev later_of : ℕ → List Record
@@ -202,14 +193,7 @@ module _ (K : Shape) (minting : Minted) (P : Compact → Type 0) (shards : 0 < K
 
   proper_of : (pieces : List (List Compact)) → AllPass P pieces → (r : Record) → Holds pieces r → AllProper P r
   proper_of pieces pass (Prepare stamp b txs) h = each_is P txs (pass txs h)
-  proper_of pieces pass (Genesis header hs) h = tt
-  proper_of pieces pass (Lock stamp b es) h = tt
-  proper_of pieces pass (Finish stamp b ds) h = tt
-  proper_of pieces pass (Forget stamp b) h = tt
-  proper_of pieces pass (Start header) h = tt
-  proper_of pieces pass (Commit stamp b os) h = tt
-  proper_of pieces pass (Discard stamp b) h = tt
-  proper_of pieces pass (Done stamp b) h = tt
+  proper_of pieces pass other h = tt
 
   -- THE lemma of a wave: kept journals, and what each lane made as it saw it, give kept journals
   pub wave_keeps : (pieces : ℕ → List (List Compact)) → ((lane : ℕ) → AllPass P (pieces lane)) → (E X : ℕ → List Record) → SteadyLists K minting P E → Wave K minting pieces E X → SteadyLists K minting P X

@@ -2,7 +2,7 @@
 use Rattle.std.proofs.Common.{◌≡◌, inl, inr, ℕ, ◌<◌, ◌≤◌, true, false, ◌==◌, if◌then◌else◌, List, [], ◌∷◌, ◌++◌, length, Option, Some, None, set, get_or-set_same, get_or-set_other, refl, sym, ap, ◌∙◌, subst, arith}
 use Rattle.cbdc_model.specs.Causes.{IsCaused}
 use Rattle.cbdc_model.specs.History.{header_of, first_rows, goes_above, IsAbove, IsOrdered, Minted}
-use Rattle.cbdc_model.specs.Records.{Shape, Compact, Record, Row, journal, stamp_of, last_stamp, Genesis, Lock, Finish, Forget, Start, Prepare, Commit, Discard, Done}
+use Rattle.cbdc_model.specs.Records.{Shape, Compact, Record, Row, journal, stamp_of, last_stamp, Genesis, Start}
 use Rattle.cbdc_model.specs.Grammar.{IsInGrammar}
 use Rattle.cbdc_model.specs.After.{After}
 use Rattle.cbdc_model.specs.World.{EventPasses, EventsPass, Node, World, no_node, node_at, journals, record_for, Event, Begin, End, Crash, Reopen, Repeat, flushed, Allowed, effect, Step, Run}
@@ -15,13 +15,7 @@ use Rattle.ledger_laws.proofs.Moves.{stays, was_caused, all_structure, all_more}
 after_stamp : (K : Shape) (node : ℕ) (J : List Record) (r : Record) → Next K node J r → last_stamp J < stamp_of r
 after_stamp K node J (Genesis header hs) next = absurd next
 after_stamp K node J (Start header) next = absurd next
-after_stamp K node J (Lock stamp b es) next = next.0
-after_stamp K node J (Finish stamp b ds) next = next.0
-after_stamp K node J (Forget stamp b) next = next.0
-after_stamp K node J (Prepare stamp b txs) next = next.0
-after_stamp K node J (Commit stamp b os) next = next.0
-after_stamp K node J (Discard stamp b) next = next.0
-after_stamp K node J (Done stamp b) next = next.0
+after_stamp K node J other next = next.0
 
 not_above : (row head : Row) → goes_above row head ≡ false → stamp_of row.what ≤ stamp_of head.what
 not_above row head h = grind arith

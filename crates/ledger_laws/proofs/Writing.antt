@@ -38,15 +38,8 @@ pub data Grows (J I : List Record) : Type 0 where
   by_one : (r : Record) → IsNoPrepare r → I ≡ r ∷ J → Grows J I
 
 same_txs : (r : Record) (J : List Record) (c : Batch) → IsNoPrepare r → txs_of (r ∷ J) c ≡ txs_of J c
-same_txs (Genesis header hs) J c h = refl
-same_txs (Start header) J c h = refl
-same_txs (Lock stamp d es) J c h = refl
-same_txs (Finish stamp d ds) J c h = refl
-same_txs (Forget stamp d) J c h = refl
 same_txs (Prepare stamp d txs) J c h = absurd h
-same_txs (Commit stamp d os) J c h = refl
-same_txs (Discard stamp d) J c h = refl
-same_txs (Done stamp d) J c h = refl
+same_txs other J c h = refl
 
 more_locks : (r : Record) (J : List Record) (c : Batch) → is_some (record_of 2 J c) ≡ true → is_some (record_of 2 (r ∷ J) c) ≡ true
 more_locks r J c h = elim ((kind_of r == 2) && is_of c r) as (λ t. is_some (cond t (Some r) (record_of 2 J c)) ≡ true) [ true ↦ refl | false ↦ h ]

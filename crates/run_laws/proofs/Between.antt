@@ -1,7 +1,7 @@
 -- Journals between those of a run are kept.
 use Rattle.std.proofs.Common.{◌≡◌, ◌⊎◌, inl, inr, ℕ, zero, suc, ◌<◌, Bool, true, false, ◌&&◌, ◌==◌, List, [], ◌∷◌, ◌++◌, take, drop, Some, None, is_some, refl, sym, ap, ◌∙◌, subst, arith, append_assoc}
 use Rattle.std.specs.Prelude.{slice_get}
-use Rattle.cbdc_model.specs.Records.{Shape, Batch, same_batch, Record, record_of, kind_of, is_of, Genesis, Lock, Finish, Forget, Start, Prepare, Commit, Discard, Done}
+use Rattle.cbdc_model.specs.Records.{Shape, Batch, same_batch, Record, record_of, kind_of, is_of, Lock, Finish, Forget, Commit, Discard, Done}
 use Rattle.cbdc_model.specs.Ranges.{home_of, shard_node}
 use Rattle.cbdc_model.specs.Coins.{Output, FullTx}
 use Rattle.cbdc_model.specs.Clean.{IsProperCompact}
@@ -104,15 +104,13 @@ module _ (K : Shape) (n : ℕ) (rest : List Record) (L S : ℕ → List Record) 
   at_home m e = replaced_at L n rest m e ∙ sym (replaced_at S n rest m e)
 
   same_causes : (genesis : List ℕ) (r : Record) → Follows (header_of K genesis n) rest r → ((c : Batch) → is_of c r ≡ true → Alike c) → SameCauses K (replaced L n rest) (replaced S n rest) r
-  same_causes genesis (Genesis header hs) follows alike = tt
-  same_causes genesis (Start header) follows alike = tt
-  same_causes genesis (Prepare stamp b txs) follows alike = tt
   same_causes genesis (Lock stamp b es) follows alike = found_alike b (alike b (itself b)) (home_of K b.lane) 6
   same_causes genesis (Finish stamp b ds) follows alike = found_alike b (alike b (itself b)) (home_of K b.lane) 7
   same_causes genesis (Forget stamp b) follows alike = found_alike b (alike b (itself b)) (home_of K b.lane) 8
   same_causes genesis (Commit stamp b os) follows alike = (at_home (home_of K b.lane) follows.1, λ s. found_alike b (alike b (itself b)) (shard_node K s) 2)
   same_causes genesis (Discard stamp b) follows alike = (at_home (home_of K b.lane) follows.1, λ s. found_alike b (alike b (itself b)) (shard_node K s) 3)
   same_causes genesis (Done stamp b) follows alike = (at_home (home_of K b.lane) follows.1, λ s. found_alike b (alike b (itself b)) (shard_node K s) 4)
+  same_causes genesis other follows alike = tt
 
 module _ (K : Shape) (mint : List Output) (submissions : List FullTx) (some : 0 < K.shards) (E M X : ℕ → List Record) (kept : KeptJournals K mint submissions E) (kept' : KeptJournals K mint submissions X)
     (new : Adds (λ b. has_prepare K M b ≡ true) E M) (later : Adds (λ b. has_prepare K M b ≡ false) M X) where

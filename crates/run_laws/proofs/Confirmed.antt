@@ -3,7 +3,7 @@ use Rattle.std.proofs.Common.{◌≡◌, inl, inr, ℕ, suc, ◌+◌, ◌*◌, �
 use Rattle.std.specs.List.{filter, AllByRecursion}
 use Rattle.std.proofs.lemmas.List.{reverse-reverse, append_cancel_right, length-append, length-map}
 use Rattle.std.proofs.lemmas.List.Elements.{recursion_from_All}
-use Rattle.cbdc_model.specs.Records.{Digest, Shape, Batch, same_batch, Compact, Record, Row, journal, record_of, kind_of, is_of, entries_in, txs_in, txs_of, outcomes_of, lock_of, Won, Genesis, Lock, Finish, Forget, Start, Prepare, Commit, Discard, Done}
+use Rattle.cbdc_model.specs.Records.{Digest, Shape, Batch, same_batch, Compact, Record, Row, journal, record_of, kind_of, is_of, entries_in, txs_in, txs_of, outcomes_of, lock_of, Won, Lock, Prepare, Commit}
 use Rattle.cbdc_model.specs.Status.{status, has, Unspent}
 use Rattle.cbdc_model.specs.Slots.{slot, Idle}
 use Rattle.cbdc_model.specs.Replies.{answered, entries}
@@ -179,14 +179,6 @@ module _ (K : Shape) (minting : Minted) (P : Compact → Type 0) (some : 0 < K.s
     module _ (unspent : (x : Digest) → has (compact t).inputs x ≡ true → IsUnspent K I x) (s : ℕ) where
       locked_good : (q : Record) (newer rest : List Record) → J (shard_node K s) ≡ newer ++ q ∷ rest → ((kind_of q == 2) && is_of b q) ≡ true → record_of 2 (J (shard_node K s)) b ≡ Some q → IsEnd (I (shard_node K s)) rest
           → IsGood (reply_at (lock_of (J (shard_node K s)) b) (length lies.first))
-      locked_good (Genesis header hs) newer rest e u found h = absurd (let z : false ≡ true = u in cc)
-      locked_good (Start header) newer rest e u found h = absurd (let z : false ≡ true = u in cc)
-      locked_good (Finish stamp c ds) newer rest e u found h = absurd (let z : false ≡ true = u in cc)
-      locked_good (Forget stamp c) newer rest e u found h = absurd (let z : false ≡ true = u in cc)
-      locked_good (Prepare stamp c txs) newer rest e u found h = absurd (let z : false ≡ true = u in cc)
-      locked_good (Commit stamp c os) newer rest e u found h = absurd (let z : false ≡ true = u in cc)
-      locked_good (Discard stamp c) newer rest e u found h = absurd (let z : false ≡ true = u in cc)
-      locked_good (Done stamp c) newer rest e u found h = absurd (let z : false ≡ true = u in cc)
       locked_good (Lock stamp c es) newer rest e u found h =
           let same : c ≡ b = (split_test 2 2 c b u).1 in
           let next = next_in K minting P some old new kept kept' (shard_node K s) newer rest (Lock stamp c es) e h in
@@ -207,6 +199,7 @@ module _ (K : Shape) (minting : Minted) (P : Compact → Type 0) (some : 0 < K.s
           still x on e h free =
               unspent_until K minting P some old new kept kept' run.adds s b x (lacks x on.0) (newer ++ Lock stamp c es ∷ []) rest (e ∙ sym (append_assoc newer (Lock stamp c es ∷ []) rest)) h free
               (subst (λ m. status (I (shard_node K m)) x ≡ Unspent) on.1 (unspent x on.0))
+      locked_good other newer rest e u found h = absurd (let z : false ≡ true = u in cc)
 
       good : IsGood (reply_at (lock_of (J (shard_node K s)) b) (length lies.first))
       good = elim (has_lock (J (shard_node K s)) b) as (λ c. has_lock (J (shard_node K s)) b ≡ c → IsGood (reply_at (lock_of (J (shard_node K s)) b) (length lies.first))) [

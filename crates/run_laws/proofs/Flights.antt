@@ -1,6 +1,6 @@
 -- What a stopped turn left in flight is caused, and journals stay kept with it or without.
 use Rattle.std.proofs.Common.{◌≡◌, ◌≢◌, ◌⊎◌, inl, inr, ℕ, ◌+◌, ◌-◌, ◌<◌, ◌≤◌, true, false, ◌||◌, not, ◌==◌, nat_lt, if◌then◌else◌, List, [], ◌∷◌, ◌++◌, Option, Some, refl, sym, ap, ◌∙◌, subst, arith, append-nil}
-use Rattle.cbdc_model.specs.Records.{Shape, Compact, Record, Genesis, Lock, Finish, Forget, Start, Prepare, Commit, Discard, Done}
+use Rattle.cbdc_model.specs.Records.{Shape, Compact, Record, Prepare}
 use Rattle.cbdc_model.specs.Ranges.{home_of, shard_node}
 use Rattle.cbdc_model.specs.Clean.{IsProperCompact}
 use Rattle.cbdc_model.specs.After.{After}
@@ -17,14 +17,7 @@ use Rattle.run_laws.proofs.TurnStep.{sees, seen_view}
 
 pub passes : (P : Compact → Type 0) (pieces : List (List Compact)) (r : Record) → AllPass P pieces → Holds pieces r → TxsPass P r
 passes P pieces (Prepare stamp b txs) all h = all txs h
-passes P pieces (Genesis header hs) all h = tt
-passes P pieces (Start header) all h = tt
-passes P pieces (Lock stamp b es) all h = tt
-passes P pieces (Finish stamp b ds) all h = tt
-passes P pieces (Forget stamp b) all h = tt
-passes P pieces (Commit stamp b os) all h = tt
-passes P pieces (Discard stamp b) all h = tt
-passes P pieces (Done stamp b) all h = tt
+passes P pieces other all h = tt
 
 same_record : (q r : Record) → Some q ≡ Some r → q ≡ r
 same_record q r e = cc

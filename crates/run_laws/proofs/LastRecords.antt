@@ -18,13 +18,9 @@ kind_in InDiscard = 8
 by_phase : (r : Record) → ((slot_by (Some r)).phase ≡ Idle) ⊎ (kind_of r ≡ kind_in (slot_by (Some r)).phase)
 by_phase (Genesis header hs) = inl refl
 by_phase (Start header) = inl refl
-by_phase (Lock stamp b es) = inr refl
-by_phase (Finish stamp b ds) = inr refl
 by_phase (Forget stamp b) = inl refl
-by_phase (Prepare stamp b txs) = inr refl
-by_phase (Commit stamp b os) = inr refl
-by_phase (Discard stamp b) = inr refl
 by_phase (Done stamp b) = inl refl
+by_phase other = inr refl
 
 -- the last record of the batch of a slot that is not idle
 pub record LastStands (J : List Record) (b : Batch) : Type 0 where
@@ -64,15 +60,9 @@ IsShardPhase InCommit = ⊥
 IsShardPhase InDiscard = ⊥
 
 pub of_shard : (h : Header) (r : Record) → IsInGrammar h r → IsShardPhase (slot_by (Some r)).phase → h.shape.coordinators ≤ h.node
-of_shard h (Genesis header hs) g p = absurd p
-of_shard h (Start header) g p = absurd p
 of_shard h (Lock stamp b es) g p = g.2.0
 of_shard h (Finish stamp b ds) g p = g.2.0
-of_shard h (Forget stamp b) g p = absurd p
-of_shard h (Prepare stamp b txs) g p = absurd p
-of_shard h (Commit stamp b os) g p = absurd p
-of_shard h (Discard stamp b) g p = absurd p
-of_shard h (Done stamp b) g p = absurd p
+of_shard h other g p = absurd p
 
 early : (t : ℕ) → t ≤ 2 ^ 62 → t < 2 ^ 63
 early t le = omega (arith, le)
@@ -98,41 +88,20 @@ module _ (J : List Record) (b : Batch) where
       let batch : c ≡ b = (split_test 6 6 c b t).1 in
       let held : txs ≡ txs_of J b = ap txs_in (sym e) in
       (stamp, e ∙ (λ i. Some (Prepare stamp (batch i) (held i))))
-  prepare_is (Genesis header hs) e t = absurd (let z : false ≡ true = t in cc)
-  prepare_is (Start header) e t = absurd (let z : false ≡ true = t in cc)
-  prepare_is (Lock stamp c es) e t = absurd (let z : false ≡ true = t in cc)
-  prepare_is (Finish stamp c ds) e t = absurd (let z : false ≡ true = t in cc)
-  prepare_is (Forget stamp c) e t = absurd (let z : false ≡ true = t in cc)
-  prepare_is (Commit stamp c os) e t = absurd (let z : false ≡ true = t in cc)
-  prepare_is (Discard stamp c) e t = absurd (let z : false ≡ true = t in cc)
-  prepare_is (Done stamp c) e t = absurd (let z : false ≡ true = t in cc)
+  prepare_is other e t = absurd (let z : false ≡ true = t in cc)
 
   commit_is : (r : Record) → record_of 7 J b ≡ Some r → ((kind_of r == 7) && is_of b r) ≡ true → (stamp : ℕ) × (record_of 7 J b ≡ Some (Commit stamp b (outcomes_of J b)))
   commit_is (Commit stamp c os) e t =
       let batch : c ≡ b = (split_test 7 7 c b t).1 in
       let held : os ≡ outcomes_of J b = ap outcomes_in (sym e) in
       (stamp, e ∙ (λ i. Some (Commit stamp (batch i) (held i))))
-  commit_is (Genesis header hs) e t = absurd (let z : false ≡ true = t in cc)
-  commit_is (Start header) e t = absurd (let z : false ≡ true = t in cc)
-  commit_is (Lock stamp c es) e t = absurd (let z : false ≡ true = t in cc)
-  commit_is (Finish stamp c ds) e t = absurd (let z : false ≡ true = t in cc)
-  commit_is (Forget stamp c) e t = absurd (let z : false ≡ true = t in cc)
-  commit_is (Prepare stamp c txs) e t = absurd (let z : false ≡ true = t in cc)
-  commit_is (Discard stamp c) e t = absurd (let z : false ≡ true = t in cc)
-  commit_is (Done stamp c) e t = absurd (let z : false ≡ true = t in cc)
+  commit_is other e t = absurd (let z : false ≡ true = t in cc)
 
   discard_is : (r : Record) → record_of 8 J b ≡ Some r → ((kind_of r == 8) && is_of b r) ≡ true → (stamp : ℕ) × (record_of 8 J b ≡ Some (Discard stamp b))
   discard_is (Discard stamp c) e t =
       let batch : c ≡ b = (split_test 8 8 c b t).1 in
       (stamp, e ∙ (λ i. Some (Discard stamp (batch i))))
-  discard_is (Genesis header hs) e t = absurd (let z : false ≡ true = t in cc)
-  discard_is (Start header) e t = absurd (let z : false ≡ true = t in cc)
-  discard_is (Lock stamp c es) e t = absurd (let z : false ≡ true = t in cc)
-  discard_is (Finish stamp c ds) e t = absurd (let z : false ≡ true = t in cc)
-  discard_is (Forget stamp c) e t = absurd (let z : false ≡ true = t in cc)
-  discard_is (Prepare stamp c txs) e t = absurd (let z : false ≡ true = t in cc)
-  discard_is (Commit stamp c os) e t = absurd (let z : false ≡ true = t in cc)
-  discard_is (Done stamp c) e t = absurd (let z : false ≡ true = t in cc)
+  discard_is other e t = absurd (let z : false ≡ true = t in cc)
 
   pub some_there : (kind : ℕ) → is_some (record_of kind J b) ≡ true → (r : Record) × (record_of kind J b ≡ Some r)
   some_there kind h = elim (record_of kind J b) as (λ o. record_of kind J b ≡ o → is_some o ≡ true → (r : Record) × (record_of kind J b ≡ Some r)) [

@@ -1,7 +1,7 @@
 -- A Lock that is still to come may be written, where the stamp that it needs is not above 2^62, whatever stamps stand elsewhere.
 use Rattle.std.proofs.Common.{◌≡◌, inl, inr, ℕ, suc, ◌^◌, ◌<◌, ◌≤◌, ◌/◌, max, true, false, ◌&&◌, ◌==◌, List, [], ◌∷◌, ◌++◌, length, Some, None, is_some, refl, sym, ap, ◌∙◌, subst, arith}
 use Rattle.std.proofs.lemmas.List.Elements.{All-from_recursion, recursion_from_All}
-use Rattle.cbdc_model.specs.Records.{Digest, Shape, Batch, Compact, Entry, Answered, Record, Row, journal, record_of, kind_of, is_of, txs_in, txs_of, lock_of, stamp_of, stamp_in, last_stamp, Genesis, Lock, Finish, Forget, Start, Prepare, Commit, Discard, Done}
+use Rattle.cbdc_model.specs.Records.{Digest, Shape, Batch, Compact, Entry, Answered, Record, Row, journal, record_of, kind_of, is_of, txs_in, txs_of, lock_of, stamp_of, stamp_in, last_stamp, Lock, Prepare}
 use Rattle.cbdc_model.specs.Slots.{slot}
 use Rattle.cbdc_model.specs.Replies.{answered, entries}
 use Rattle.cbdc_model.specs.Ranges.{shard_node, part, is_no_part, Concerned}
@@ -49,14 +49,7 @@ has_prepare K J b s h = elim (record_of 6 J b) as (λ o. record_of 6 J b ≡ o �
     of_record : (r : Record) → record_of 6 J b ≡ Some r → ((kind_of r == 6) && is_of b r) ≡ true → HasPrepare J b
     of_record (Prepare stamp c txs) e t =
         record { cause = stamp; txs = txs; stands = subst (λ d. record_of 6 J b ≡ Some (Prepare stamp d txs)) (split_test 6 6 c b t).1 e }
-    of_record (Genesis header hs) e t = absurd (let z : false ≡ true = t in cc)
-    of_record (Start header) e t = absurd (let z : false ≡ true = t in cc)
-    of_record (Lock stamp c es) e t = absurd (let z : false ≡ true = t in cc)
-    of_record (Finish stamp c ds) e t = absurd (let z : false ≡ true = t in cc)
-    of_record (Forget stamp c) e t = absurd (let z : false ≡ true = t in cc)
-    of_record (Commit stamp c os) e t = absurd (let z : false ≡ true = t in cc)
-    of_record (Discard stamp c) e t = absurd (let z : false ≡ true = t in cc)
-    of_record (Done stamp c) e t = absurd (let z : false ≡ true = t in cc)
+    of_record other e t = absurd (let z : false ≡ true = t in cc)
 
 some_entries : (p : List Entry) (es : List Answered) → entries es ≡ p → is_no_part p ≡ false → 0 < length es
 some_entries p [] e h = absurd (let z : true ≡ false = ap is_no_part e ∙ h in cc)

@@ -81,12 +81,7 @@ module _ (K : Shape) (minting : Minted) (P Q : Compact → Type 0) (some : 0 < K
           omega (arith, below, above)
       not_again (Genesis header hs) next t = absurd next
       not_again (Start header) next t = absurd next
-      not_again (Lock stamp b es) next t = absurd (let z : false ≡ true = t in cc)
-      not_again (Finish stamp b ds) next t = absurd (let z : false ≡ true = t in cc)
-      not_again (Forget stamp b) next t = absurd (let z : false ≡ true = t in cc)
-      not_again (Commit stamp b os) next t = absurd (let z : false ≡ true = t in cc)
-      not_again (Discard stamp b) next t = absurd (let z : false ≡ true = t in cc)
-      not_again (Done stamp b) next t = absurd (let z : false ≡ true = t in cc)
+      not_again other next t = absurd (let z : false ≡ true = t in cc)
 
   module _ (grows : (n : ℕ) → IsEnd (I n) (J n)) where
     same_prepare : (n : ℕ) (c : Batch) → is_prepared (I n) c ≡ true → record_of 6 (J n) c ≡ record_of 6 (I n) c
@@ -162,14 +157,7 @@ longer lane (Prepare stamp b txs) L = elim (b.lane == lane) as (λ t. (b.lane ==
   | true ↦ λ t. rw t (omega arith)
   | false ↦ λ t. rw t (omega arith)
 ] refl
-longer lane (Genesis header hs) L = omega arith
-longer lane (Start header) L = omega arith
-longer lane (Lock stamp b es) L = omega arith
-longer lane (Finish stamp b ds) L = omega arith
-longer lane (Forget stamp b) L = omega arith
-longer lane (Commit stamp b os) L = omega arith
-longer lane (Discard stamp b) L = omega arith
-longer lane (Done stamp b) L = omega arith
+longer lane other L = omega arith
 
 longest : (lane : ℕ) (more L : List Record) → length (prepared lane L) ≤ length (prepared lane (more ++ L))
 longest lane [] L = omega arith
@@ -184,14 +172,7 @@ no_prepare b (Prepare stamp c txs) L le = not_true _ (λ t.
     let e : c ≡ b = (split_test 6 6 c b t).1 in
     let z : (c.lane == b.lane) ≡ true = grind (arith, ap (λ d. d.lane) e) in
     omega (arith, le, one_more b c stamp txs L z))
-no_prepare b (Genesis header hs) L le = refl
-no_prepare b (Start header) L le = refl
-no_prepare b (Lock stamp c es) L le = refl
-no_prepare b (Finish stamp c ds) L le = refl
-no_prepare b (Forget stamp c) L le = refl
-no_prepare b (Commit stamp c os) L le = refl
-no_prepare b (Discard stamp c) L le = refl
-no_prepare b (Done stamp c) L le = refl
+no_prepare b other L le = refl
 
 unprepared : (b : Batch) (more L : List Record) → length (prepared b.lane (more ++ L)) ≤ length (prepared b.lane L) → record_of 6 (more ++ L) b ≡ record_of 6 L b
 unprepared b [] L le = refl

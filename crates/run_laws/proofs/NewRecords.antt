@@ -52,25 +52,11 @@ same_of lane number c l n = grind arith
 -- what holds of a Prepare alone holds of no record that is none
 no_prepare_found : (r : Record) (L : List Record) (c : Batch) → Holds [] r → record_of 6 (r ∷ L) c ≡ record_of 6 L c
 no_prepare_found (Prepare stamp b txs) L c h = absurd (held_none txs h)
-no_prepare_found (Genesis header hs) L c h = refl
-no_prepare_found (Start header) L c h = refl
-no_prepare_found (Lock stamp b es) L c h = refl
-no_prepare_found (Finish stamp b ds) L c h = refl
-no_prepare_found (Forget stamp b) L c h = refl
-no_prepare_found (Commit stamp b os) L c h = refl
-no_prepare_found (Discard stamp b) L c h = refl
-no_prepare_found (Done stamp b) L c h = refl
+no_prepare_found other L c h = refl
 
 none_prepared : (lane : ℕ) (r : Record) (L : List Record) → Holds [] r → prepared lane (r ∷ L) ≡ prepared lane L
 none_prepared lane (Prepare stamp b txs) L h = absurd (held_none txs h)
-none_prepared lane (Genesis header hs) L h = refl
-none_prepared lane (Start header) L h = refl
-none_prepared lane (Lock stamp b es) L h = refl
-none_prepared lane (Finish stamp b ds) L h = refl
-none_prepared lane (Forget stamp b) L h = refl
-none_prepared lane (Commit stamp b os) L h = refl
-none_prepared lane (Discard stamp b) L h = refl
-none_prepared lane (Done stamp b) L h = refl
+none_prepared lane other L h = refl
 
 not_alone : (lane : ℕ) (r : Record) → may_come true lane r ≡ true → ⊥
 not_alone lane r h = grind (arith, h)
@@ -127,13 +113,11 @@ module _ (K : Shape) (minting : Minted) (P : Compact → Type 0) (some : 0 < K.s
     number_step : (r : Record) (past : List Record) → is_in_lane lane r ≡ true → Holds [] r → Next K (home_of K lane) past r → (slot (r ∷ past) lane).number ≡ (slot past lane).number
     number_step (Genesis header hs) past l h next = absurd next
     number_step (Start header) past l h next = absurd next
-    number_step (Lock stamp c es) past l h next = absurd (omega (arith, home, next.1.0))
-    number_step (Finish stamp c ds) past l h next = absurd (omega (arith, home, next.1.0))
-    number_step (Forget stamp c) past l h next = absurd (omega (arith, home, next.1.0))
     number_step (Prepare stamp c txs) past l h next = absurd (held_none txs h)
     number_step (Commit stamp c os) past l h next = rw l (sym next.4 ∙ ap (λ m. (slot past m).number) (lane_is c.lane lane l))
     number_step (Discard stamp c) past l h next = rw l (sym next.4 ∙ ap (λ m. (slot past m).number) (lane_is c.lane lane l))
     number_step (Done stamp c) past l h next = rw l (sym next.4 ∙ ap (λ m. (slot past m).number) (lane_is c.lane lane l))
+    number_step other past l h next = absurd (omega (arith, home, next.1.0))
 
     number_from : (more newer : List Record) → J (home_of K lane) ≡ newer ++ (more ++ I (home_of K lane)) → (slot (more ++ I (home_of K lane)) lane).number ≡ (slot (I (home_of K lane)) lane).number
     number_from [] newer e = refl

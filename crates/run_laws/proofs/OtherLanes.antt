@@ -29,15 +29,8 @@ slot_step lane other (Done stamp b) past apart h = passed (b.lane == other) _ (s
 
 -- and is no Prepare of another
 prepared_step : (lane other : ℕ) (r : Record) (past : List Record) → other ≢ lane → is_in_lane lane r ≡ true → prepared other (r ∷ past) ≡ prepared other past
-prepared_step lane other (Genesis header hs) past apart h = refl
-prepared_step lane other (Start header) past apart h = refl
-prepared_step lane other (Lock stamp b es) past apart h = refl
-prepared_step lane other (Finish stamp b ds) past apart h = refl
-prepared_step lane other (Forget stamp b) past apart h = refl
 prepared_step lane other (Prepare stamp b txs) past apart h = passed (b.lane == other) (txs ∷ prepared other past) (prepared other past) (elsewhere b.lane lane other apart h)
-prepared_step lane other (Commit stamp b os) past apart h = refl
-prepared_step lane other (Discard stamp b) past apart h = refl
-prepared_step lane other (Done stamp b) past apart h = refl
+prepared_step lane other another past apart h = refl
 
 module _ (K : Shape) (pieces : List (List Compact)) (lane : ℕ) (I J : ℕ → List Record) (made : Made K pieces true lane I J) where
   not_alone : (r : Record) → may_come true lane r ≡ true → ⊥

@@ -58,10 +58,7 @@ node_below K n J (Start header) next = absurd next
 node_below K n J (Lock stamp b es) next = next.1.1
 node_below K n J (Finish stamp b ds) next = next.1.1
 node_below K n J (Forget stamp b) next = next.1.1
-node_below K n J (Prepare stamp b txs) next = omega (arith, next.1)
-node_below K n J (Commit stamp b os) next = omega (arith, next.1)
-node_below K n J (Discard stamp b) next = omega (arith, next.1)
-node_below K n J (Done stamp b) next = omega (arith, next.1)
+node_below K n J other next = omega (arith, next.1)
 
 -- behind the last node there is no journal
 pub none_beyond : (K : Shape) (minting : Minted) (P : Compact → Type 0) (later : List Row) → Steady K minting P later → (n : ℕ) → K.coordinators + K.shards ≤ n

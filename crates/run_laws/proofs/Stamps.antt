@@ -19,24 +19,12 @@ first_stamp : (J : List Record) → AllFirst J → last_stamp J ≡ 0
 first_stamp [] f = refl
 first_stamp (Genesis header hs ∷ J) f = refl
 first_stamp (Start header ∷ J) f = refl
-first_stamp (Lock stamp b es ∷ J) f = absurd f.0
-first_stamp (Finish stamp b ds ∷ J) f = absurd f.0
-first_stamp (Forget stamp b ∷ J) f = absurd f.0
-first_stamp (Prepare stamp b txs ∷ J) f = absurd f.0
-first_stamp (Commit stamp b os ∷ J) f = absurd f.0
-first_stamp (Discard stamp b ∷ J) f = absurd f.0
-first_stamp (Done stamp b ∷ J) f = absurd f.0
+first_stamp (other ∷ J) f = absurd f.0
 
 rising : (K : Shape) (n : ℕ) (J : List Record) (r : Record) → Next K n J r → last_stamp J < stamp_of r
 rising K n J (Genesis header hs) next = absurd next
 rising K n J (Start header) next = absurd next
-rising K n J (Lock stamp b es) next = next.0
-rising K n J (Finish stamp b ds) next = next.0
-rising K n J (Forget stamp b) next = next.0
-rising K n J (Prepare stamp b txs) next = next.0
-rising K n J (Commit stamp b os) next = next.0
-rising K n J (Discard stamp b) next = next.0
-rising K n J (Done stamp b) next = next.0
+rising K n J other next = next.0
 
 inside_of : (K : Shape) (n : ℕ) (J : List Record) (r : Record) → Next K n J r → n < K.coordinators + K.shards
 inside_of K n J (Genesis header hs) next = absurd next
@@ -44,10 +32,7 @@ inside_of K n J (Start header) next = absurd next
 inside_of K n J (Lock stamp b es) next = next.1.1
 inside_of K n J (Finish stamp b ds) next = next.1.1
 inside_of K n J (Forget stamp b) next = next.1.1
-inside_of K n J (Prepare stamp b txs) next = omega (arith, next.1)
-inside_of K n J (Commit stamp b os) next = omega (arith, next.1)
-inside_of K n J (Discard stamp b) next = omega (arith, next.1)
-inside_of K n J (Done stamp b) next = omega (arith, next.1)
+inside_of K n J other next = omega (arith, next.1)
 
 greatest_most : (f : ℕ → ℕ) (n bound : ℕ) → ((k : ℕ) → f k ≤ bound) → greatest f n ≤ bound
 greatest_most f zero bound all = omega arith

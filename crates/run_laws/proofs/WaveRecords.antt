@@ -1,6 +1,6 @@
 -- Records that kept journals have newly: each is next, is the one of its kind and batch, and what it makes of a hash's status.
 use Rattle.std.proofs.Common.{◌≡◌, ℕ, suc, ◌<◌, Bool, true, false, ◌&&◌, ◌==◌, if◌then◌else◌, List, [], ◌∷◌, ◌++◌, Some, is_some, refl, sym, ap, ◌∙◌, subst, arith, append_assoc}
-use Rattle.cbdc_model.specs.Records.{Digest, Shape, Batch, same_batch, Compact, Entry, Answered, Record, Row, journal, record_of, kind_of, is_of, is_held, entries_in, txs_of, lock_of, Genesis, Lock, Finish, Forget, Start, Prepare, Commit, Discard, Done}
+use Rattle.cbdc_model.specs.Records.{Digest, Shape, Batch, same_batch, Compact, Entry, Answered, Record, Row, journal, record_of, kind_of, is_of, is_held, entries_in, txs_of, lock_of, Genesis, Lock, Finish, Start}
 use Rattle.cbdc_model.specs.Status.{Status, status, has, held_inputs, made_outputs, returned_inputs, taken_inputs, finished_status, Unspent, Locked, Absent}
 use Rattle.cbdc_model.specs.Replies.{entries}
 use Rattle.cbdc_model.specs.Ranges.{home_of, shard_node, on_shard, is_empty, entry_of, part}
@@ -172,11 +172,7 @@ module _ (K : Shape) (minting : Minted) (P : Compact → Type 0) (some : 0 < K.s
             unspent = stays_unspent x (lock_of past c) ds (status past x) (stays.spares c (of_new n newer past (Finish stamp c ds) c e h (itself 3 c)) (λ same. free (subst (λ d. has_lock past d ≡ true) same locked))) stays.unspent;
             spares = stays.spares;
           }
-      step newer past (Forget stamp c) e h free stays = record { unspent = stays.unspent; spares = stays.spares }
-      step newer past (Prepare stamp c txs) e h free stays = record { unspent = stays.unspent; spares = stays.spares }
-      step newer past (Commit stamp c os) e h free stays = record { unspent = stays.unspent; spares = stays.spares }
-      step newer past (Discard stamp c) e h free stays = record { unspent = stays.unspent; spares = stays.spares }
-      step newer past (Done stamp c) e h free stays = record { unspent = stays.unspent; spares = stays.spares }
+      step newer past other e h free stays = record { unspent = stays.unspent; spares = stays.spares }
 
       go : status (I n) x ≡ Unspent → (more newer : List Record) → J n ≡ newer ++ (more ++ I n) → (has_lock (more ++ I n) b ≡ true → ⊥) → Stays (more ++ I n)
       go base [] newer e free = record { unspent = base; spares = λ c new apart. subst (λ es. NoneSpends x (entries es)) (sym (no_lock (I n) c (not_true _ (never_locked c n new)))) tt }

@@ -75,13 +75,7 @@ first_low : (J : List Record) → AllFirst J → last_stamp J ≤ 2 ^ 62 + 0
 first_low [] h = omega arith
 first_low (Genesis header hs ∷ J) h = omega arith
 first_low (Start header ∷ J) h = omega arith
-first_low (Lock stamp b es ∷ J) h = absurd h.0
-first_low (Finish stamp b ds ∷ J) h = absurd h.0
-first_low (Forget stamp b ∷ J) h = absurd h.0
-first_low (Prepare stamp b txs ∷ J) h = absurd h.0
-first_low (Commit stamp b os ∷ J) h = absurd h.0
-first_low (Discard stamp b ∷ J) h = absurd h.0
-first_low (Done stamp b ∷ J) h = absurd h.0
+first_low (other ∷ J) h = absurd h.0
 
 module _ (K : Shape) (minting : Minted) (P : Compact → Type 0) (shards : 0 < K.shards) where
   abbrev whole : List Row → ℕ → List Record

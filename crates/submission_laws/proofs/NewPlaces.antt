@@ -2,7 +2,7 @@
 use Rattle.std.proofs.Common.{◌≡◌, inl, inr, ℕ, ◌+◌, ◌-◌, ◌<◌, ◌≤◌, true, false, ◌&&◌, ◌==◌, nat_lt, if◌then◌else◌, List, [], ◌∷◌, ◌++◌, map, reverse, length, Option, Some, None, is_some, refl, sym, ap, ◌∙◌, subst, arith, append_assoc}
 use Rattle.std.proofs.lemmas.Bool.{cases_lt}
 use Rattle.std.proofs.lemmas.List.{reverse-append}
-use Rattle.cbdc_model.specs.Records.{Shape, Batch, same_batch, Compact, Record, Row, journal, record_of, txs_in, txs_of, Genesis, Lock, Finish, Forget, Start, Prepare, Commit, Discard, Done}
+use Rattle.cbdc_model.specs.Records.{Shape, Batch, same_batch, Compact, Record, Row, journal, record_of, txs_in, txs_of, Prepare}
 use Rattle.cbdc_model.specs.Ranges.{home_of}
 use Rattle.cbdc_model.specs.History.{Minted, first_rows}
 use Rattle.cbdc_model.specs.Waves.{has_prepare}
@@ -89,14 +89,7 @@ told_both lane (r ∷ A) B = ap (told_before lane r) (told_both lane A B) ∙ be
   where
     before_both : (lane : ℕ) (r : Record) (S T : List Told) → told_before lane r (S ++ T) ≡ told_before lane r S ++ T
     before_both lane (Prepare stamp b txs) S T = elim (b.lane == lane) as (λ c. (if c then (b, txs) ∷ (S ++ T) else S ++ T) ≡ (if c then (b, txs) ∷ S else S) ++ T) [ true ↦ refl | false ↦ refl ]
-    before_both lane (Genesis header hs) S T = refl
-    before_both lane (Start header) S T = refl
-    before_both lane (Lock stamp b es) S T = refl
-    before_both lane (Finish stamp b ds) S T = refl
-    before_both lane (Forget stamp b) S T = refl
-    before_both lane (Commit stamp b os) S T = refl
-    before_both lane (Discard stamp b) S T = refl
-    before_both lane (Done stamp b) S T = refl
+    before_both lane other S T = refl
 
 pub told_parts : (lane : ℕ) (A B : List Record) → told_in lane (A ++ B) ≡ told_in lane A ++ told_in lane B
 told_parts lane A B = told_both lane A B
@@ -183,14 +176,7 @@ module _ (K : Shape) (minting : Minted) (P : Compact → Type 0) (some : 0 < K.s
         still_in newer later stamp' c txs' back f t =
             subst (λ l. is_some (record_of 6 l b) ≡ true) (sym (ap (λ l. l ++ I (home_of K lane)) f ∙ append_assoc newer (Prepare stamp' c txs' ∷ later) (I (home_of K lane))))
             (in_journal newer (later ++ I (home_of K lane)) (Prepare stamp' c txs') 6 b t)
-    apart_step (Genesis header hs) back front e h = h
-    apart_step (Start header) back front e h = h
-    apart_step (Lock stamp b es) back front e h = h
-    apart_step (Finish stamp b ds) back front e h = h
-    apart_step (Forget stamp b) back front e h = h
-    apart_step (Commit stamp b os) back front e h = h
-    apart_step (Discard stamp b) back front e h = h
-    apart_step (Done stamp b) back front e h = h
+    apart_step other back front e h = h
 
     apart_from : (rest front : List Record) → front ++ rest ≡ more → Apart (told_in lane rest)
     apart_from [] front e = tt

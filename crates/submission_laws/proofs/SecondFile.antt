@@ -2,7 +2,7 @@
 use Rattle.std.proofs.Common.{◌≡◌, ◌⊎◌, inl, inr, ℕ, zero, suc, ◌*◌, ◌<◌, true, ◌&&◌, ◌==◌, List, [], ◌∷◌, ◌++◌, Some, None, refl, sym, ap, ◌∙◌, subst, arith}
 use Rattle.std.specs.Prelude.{slice_get, All}
 use Rattle.std.proofs.lemmas.List.Elements.{All-cons, All-nil}
-use Rattle.cbdc_model.specs.Records.{Digest, Shape, Batch, same_batch, Compact, Record, Row, journal, record_of, txs_in, txs_of, Genesis, Lock, Finish, Forget, Start, Prepare, Commit, Discard, Done}
+use Rattle.cbdc_model.specs.Records.{Digest, Shape, Batch, same_batch, Compact, Record, Row, journal, record_of, txs_in, txs_of, Prepare}
 use Rattle.cbdc_model.specs.Status.{has, status}
 use Rattle.cbdc_model.specs.Ranges.{home_of, shard_of, shard_node}
 use Rattle.cbdc_model.specs.Coins.{Output, FullTx, coin_hash, tx_id, compact, genesis_id}
@@ -73,15 +73,8 @@ module _ (K : Shape) (mint : List Output) (all these : List FullTx) (some : 0 < 
   lists = (local_law K mint all J some).0 kept
 
   pass : (n : ℕ) (newer rest : List Record) (r : Record) → J n ≡ newer ++ r ∷ rest → IsEnd (first_of K (minted mint) n) rest → After (header_of K (minted mint).id n) rest r → TxsPass (IsProperCompact these) r
-  pass n newer rest (Genesis header hs) e h after = tt
-  pass n newer rest (Start header) e h after = tt
-  pass n newer rest (Lock stamp b es) e h after = tt
-  pass n newer rest (Finish stamp b ds) e h after = tt
-  pass n newer rest (Forget stamp b) e h after = tt
   pass n newer rest (Prepare stamp b txs) e h after = are n newer rest stamp b txs e h after.1.1
-  pass n newer rest (Commit stamp b os) e h after = tt
-  pass n newer rest (Discard stamp b) e h after = tt
-  pass n newer rest (Done stamp b) e h after = tt
+  pass n newer rest other e h after = tt
 
   pub kept_by_these : KeptJournals K mint these J
   kept_by_these = (local_law K mint these J some).1 (record {

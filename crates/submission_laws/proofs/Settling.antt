@@ -1,7 +1,7 @@
 -- Each sound submission of a run has its one place among the transactions of the new Prepares, and an outcome by the shards' replies.
 use Rattle.std.proofs.Common.{◌≡◌, ℕ, ◌*◌, ◌<◌, Bool, true, false, ◌&&◌, ◌==◌, if◌then◌else◌, List, [], ◌∷◌, ◌++◌, map, reverse, take, Option, Some, None, is_some, refl, sym, ap, ◌∙◌, subst, arith, append_assoc, append-nil, mod-lt}
 use Rattle.std.specs.Prelude.{option_map}
-use Rattle.cbdc_model.specs.Records.{Shape, Batch, same_batch, Compact, Outcome, Record, Row, journal, record_of, txs_of, txs_in, lock_of, Genesis, Lock, Finish, Forget, Start, Prepare, Commit, Discard, Done}
+use Rattle.cbdc_model.specs.Records.{Shape, Batch, same_batch, Compact, Outcome, Record, Row, journal, record_of, txs_of, txs_in, lock_of, Prepare}
 use Rattle.cbdc_model.specs.Slots.{slot, Idle}
 use Rattle.cbdc_model.specs.Ranges.{home_of, shard_node}
 use Rattle.cbdc_model.specs.Coins.{Output, FullTx, compact, tx_id}
@@ -85,14 +85,7 @@ module _ (K : Shape) (minting : Minted) (P : Compact → Type 0) (some : 0 < K.s
       where
         lane_is : (l m : ℕ) → (l == m) ≡ true → l ≡ m
         lane_is l m h = grind (arith, h)
-    none_step (Genesis header hs) rest newer T e none = none
-    none_step (Start header) rest newer T e none = none
-    none_step (Lock stamp b es) rest newer T e none = none
-    none_step (Finish stamp b ds) rest newer T e none = none
-    none_step (Forget stamp b) rest newer T e none = none
-    none_step (Commit stamp b os) rest newer T e none = none
-    none_step (Discard stamp b) rest newer T e none = none
-    none_step (Done stamp b) rest newer T e none = none
+    none_step other rest newer T e none = none
 
     none_from : (rest newer : List Record) → R (home_of K lane) ≡ newer ++ (rest ++ I (home_of K lane)) → told_in lane rest ≡ []
     none_from [] newer e = refl
