@@ -1,18 +1,18 @@
 -- The journals of a ledger begin as some mint's, and caused rows of them are lists of records that are each after their journal and caused.
 use Rattle.std.proofs.Common.{◌≡◌, ◌≢◌, ◌⊎◌, inl, inr, ℕ, zero, suc, ◌+◌, ◌-◌, ◌<◌, ◌≤◌, Bool, true, false, ◌==◌, nat_lt, if◌then◌else◌, List, [], ◌∷◌, ◌++◌, refl, sym, ap, ◌∙◌, subst, arith, append-nil}
-use Rattle.std.specs.List.{All}
 use Rattle.std.proofs.lemmas.List.Elements.{All-head, All-tail}
 use Rattle.std.proofs.lemmas.Bool.Decides.{eqb_tells}
 use Rattle.std.proofs.lemmas.Bool.{cases_lt}
-use Rattle.cbdc_model.specs.Records.{Digest, Shape, Header, Compact, Record, Row, journal, Genesis, Start, Prepare}
+use Rattle.cbdc_model.specs.Records.{Digest, Shape, Header, Record, Row, journal, Genesis, Start}
 use Rattle.cbdc_model.specs.Ranges.{shard_of, shard_node, on_shard}
 use Rattle.cbdc_model.specs.Grammar.{IsShard, AreHere}
 use Rattle.cbdc_model.specs.After.{After, IsFirst, IsJournal}
 use Rattle.cbdc_model.specs.Causes.{IsCaused}
-use Rattle.cbdc_model.specs.History.{Minted, header_of, TxsPass}
+use Rattle.cbdc_model.specs.History.{Minted, header_of}
 use Rattle.cbdc_model.specs.World.{replaced}
 use Rattle.cbdc_model.specs.Lanes.{IsEnd, Seen}
 use Rattle.audit.specs.Walks.{AllCaused}
+use Rattle.ledger_laws.proofs.Ledger.{each_passes}
 use Rattle.ledger_laws.proofs.Cuts.{end_trans}
 use Rattle.ledger_laws.proofs.FirstJournals.{first_is, first_beyond}
 use Rattle.audit.specs.Journals.{AreJournals, BeginAs}
@@ -177,14 +177,6 @@ all_seen K (row ∷ past) caused n newer rest r e = go (λ more is. all_seen K p
     go below (inl (b, at)) = here below newer (sym (at_row row past n at) ∙ e) at
     go below (inr (b, off)) = older below newer (sym (off_row row past n off) ∙ e)
 
--- any transactions pass
-any_txs : (txs : List Compact) → All Any txs
-any_txs txs k d lt = tt
-
-any_pass : (r : Record) → TxsPass Any r
-any_pass (Prepare stamp b txs) = any_txs txs
-any_pass other = tt
-
 -- ---- journals
 
 module _ (K : Shape) (genesis : Digest) (J : ℕ → List Record) (are : AreJournals K genesis J) where
@@ -247,7 +239,7 @@ after_in h (q ∷ newer) rest r j = after_in h newer rest r (below h q r newer r
 pub caused_lists : CausedListsLaw
 caused_lists K m past are begin caused = record {
   begins = begin;
-  each = λ n newer rest r e h. (after n newer rest r e (cases_lt n (K.coordinators + K.shards)), all_seen K past caused n newer rest r e, any_pass r);
+  each = λ n newer rest r e h. (after n newer rest r e (cases_lt n (K.coordinators + K.shards)), all_seen K past caused n newer rest r e, each_passes Any (λ t. tt) r);
 }
   where
     after : (n : ℕ) (newer rest : List Record) (r : Record) → journal n past ≡ newer ++ r ∷ rest → (n < K.coordinators + K.shards) ⊎ (K.coordinators + K.shards ≤ n) → After (header_of K m.id n) rest r

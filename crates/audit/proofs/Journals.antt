@@ -1,10 +1,9 @@
 -- Stamps rise along a journal, and a merge read the other way round has each journal so.
-use Rattle.std.proofs.Common.{◌≡◌, ◌<◌, ℕ, true, false, ◌==◌, if◌then◌else◌, List, [], ◌∷◌, ◌++◌, reverse, refl, sym, ap, ◌∙◌, subst, arith}
+use Rattle.std.proofs.Common.{◌≡◌, ◌<◌, ℕ, true, false, ◌==◌, if◌then◌else◌, List, [], ◌∷◌, reverse, refl, ◌∙◌, subst, arith}
 use mathlib.Core.List.{reverse_aux}
-use Rattle.std.specs.List.{All}
 use Rattle.std.proofs.lemmas.List.{reverse-reverse}
 use Rattle.std.proofs.lemmas.List.Elements.{All-nil, All-cons, All-weaker}
-use Rattle.cbdc_model.specs.Records.{Header, Record, Row, journal, stamp_of, last_stamp, Genesis, Start}
+use Rattle.cbdc_model.specs.Records.{Header, Record, Row, journal, stamp_of, Genesis, Start}
 use Rattle.cbdc_model.specs.After.{After, IsJournal}
 use Rattle.audit.specs.Rows.{Rises}
 

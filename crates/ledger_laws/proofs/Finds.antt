@@ -1,13 +1,14 @@
 -- A record found in a beginning of a journal is found in the whole of it; what was caused by beginnings is caused by the whole.
-use Rattle.std.proofs.Common.{◌≡◌, ◌⊎◌, inl, inr, ℕ, ◌+◌, ◌<◌, ◌/◌, Bool, true, false, ◌&&◌, ◌==◌, List, [], ◌∷◌, ◌++◌, Some, is_some, refl, sym, ap, ◌∙◌, subst, arith, append_assoc}
+use Rattle.std.proofs.Common.{◌≡◌, ◌⊎◌, inl, inr, ℕ, ◌+◌, ◌<◌, ◌/◌, true, false, ◌&&◌, ◌==◌, List, [], ◌∷◌, ◌++◌, Some, is_some, refl, sym, ap, ◌∙◌, subst, arith, append_assoc}
 use Rattle.cbdc_model.specs.Causes.{at_shards, AllHave, IsCaused}
 use Rattle.cbdc_model.specs.History.{first_rows, Minted}
 use Rattle.cbdc_model.specs.Lanes.{IsEnd, first_of}
 use Rattle.cbdc_model.specs.Ranges.{shard_node, part, Concerned}
-use Rattle.cbdc_model.specs.Records.{Shape, Batch, Compact, Record, record_of, kind_of, is_of, txs_in, Genesis, Lock, Finish, Forget, Start, Commit, Discard, Done}
+use Rattle.cbdc_model.specs.Records.{Shape, Batch, Compact, Record, record_of, kind_of, is_of, txs_in, Lock, Finish, Forget, Commit, Discard, Done}
 use Rattle.cbdc_model.specs.World.{replaced}
 use Rattle.ledger_laws.proofs.Ledger.{SteadyLists}
 use Rattle.ledger_laws.proofs.Next.{Next, has_lock, has_prepare}
+use Rattle.ledger_laws.proofs.Kinds.{test_batch, found_new, not_of_first}
 use Rattle.ledger_laws.proofs.Slots.{JournalOk, next_ok}
 use Rattle.ledger_laws.proofs.More.{MoreOk, next_more}
 use Rattle.ledger_laws.proofs.Dones.{PhaseOk, next_phase}
@@ -49,14 +50,11 @@ stands [] kind b h = absurd (let z : false ≡ true = h in cc)
 stands (r ∷ J) kind b h =
     elim ((kind_of r == kind) && is_of b r) as (λ t. ((kind_of r == kind) && is_of b r) ≡ t
     → (newer : List Record) × (q : Record) × (rest : List Record) × (r ∷ J ≡ newer ++ q ∷ rest) × (((kind_of q == kind) && is_of b q) ≡ true) × (record_of kind (r ∷ J) b ≡ Some q)) [
-      | true ↦ λ t. ([], r, J, refl, t, found kind r J b t)
+      | true ↦ λ t. ([], r, J, refl, t, found_new kind r J b t)
       | false ↦ λ t.
           let s = stands J kind b (subst (λ q. is_some q ≡ true) (test_step kind r J b t) h) in
           (r ∷ s.0, s.1, s.2, ap (λ L. r ∷ L) s.3, s.4, test_step kind r J b t ∙ s.5)
     ] refl
-  where
-    found : (kind : ℕ) (q : Record) (J : List Record) (b : Batch) → ((kind_of q == kind) && is_of b q) ≡ true → record_of kind (q ∷ J) b ≡ Some q
-    found kind q J b t = rw t
 
 -- of each journal, when each record of it is next
 record Oks (J : List Record) : Type 0 where
@@ -65,17 +63,9 @@ record Oks (J : List Record) : Type 0 where
   pub phases : PhaseOk J
   pub once : Once J
 
-first_once : (J : List Record) → AllFirst J → Once J
+pub first_once : (J : List Record) → AllFirst J → Once J
 first_once [] f = tt
-first_once (Genesis header hs ∷ J) f = (λ kind c t. absurd (no_test (1 == kind) t), first_once J f.1)
-  where
-    no_test : (a : Bool) → (a && false) ≡ true → ⊥
-    no_test a h = grind arith
-first_once (Start header ∷ J) f = (λ kind c t. absurd (no_test (5 == kind) t), first_once J f.1)
-  where
-    no_test : (a : Bool) → (a && false) ≡ true → ⊥
-    no_test a h = grind arith
-first_once (other ∷ J) f = absurd f.0
+first_once (r ∷ J) f = (λ kind c t. absurd (not_of_first r c f.0 (test_batch kind c r t)), first_once J f.1)
 
 module _ (K : Shape) (minting : Minted) (P : Compact → Type 0) (shards : 0 < K.shards) where
   first_oks : (n : ℕ) → Oks (first_of K minting n)
@@ -162,18 +152,10 @@ module _ (K : Shape) (minting : Minted) (P : Compact → Type 0) (shards : 0 < K
     shard_part kind s b (inl two) apart h = lock_part s b apart (subst (λ k. is_some (record_of k (X (shard_node K s)) b) ≡ true) two h)
     shard_part kind s b (inr later) apart h =
         let q = stands (X (shard_node K s)) kind b h in
-        let back : IsEnd (first_of K minting (shard_node K s)) q.2 = behind (shard_node K s) q.0 q.2 q.1 q.3 (not_first q.1 kind b q.4) in
+        let back : IsEnd (first_of K minting (shard_node K s)) q.2 = behind (shard_node K s) q.0 q.2 q.1 q.3 (λ first. not_of_first q.1 b first (test_batch kind b q.1 q.4)) in
         let oks : Oks q.2 = oks_at (shard_node K s) (q.0 ++ q.1 ∷ []) q.2 (q.3 ∙ sym (append_assoc q.0 (q.1 ∷ []) q.2)) back in
         let locked : has_lock q.2 b ≡ true = locked_before K (shard_node K s) q.2 oks.ok oks.more q.1 (kept.each (shard_node K s) q.0 q.2 q.1 q.3 back).0 kind b q.4 later in
         lock_part s b apart (subst (λ o. is_some o ≡ true) (found_in (shard_node K s) q.2 2 b (q.0 ++ q.1 ∷ [], q.3 ∙ sym (append_assoc q.0 (q.1 ∷ []) q.2)) locked) locked)
-      where
-        no_test : (a : Bool) → (a && false) ≡ true → ⊥
-        no_test a h = grind arith
-
-        not_first : (q : Record) (kind : ℕ) (b : Batch) → ((kind_of q == kind) && is_of b q) ≡ true → IsFirst q → ⊥
-        not_first (Genesis header hs) kind b t f = no_test (1 == kind) t
-        not_first (Start header) kind b t f = no_test (5 == kind) t
-        not_first other kind b t f = f
 
     -- what was caused by beginnings of the journals is caused by the journals
     module _ (n : ℕ) (rest : List Record) (r : Record) (rest_end : IsEnd rest (X n)) (back : IsEnd (first_of K minting n) rest) (V : ℕ → List Record) (ends : (m : ℕ) → IsEnd (V m) (X m)) where

@@ -1,5 +1,6 @@
 -- The first rows have the invariant.
 use Rattle.std.proofs.Common.{◌≡◌, ◌⊎◌, inl, inr, ℕ, zero, suc, ◌+◌, ◌<◌, ◌≤◌, ◌/◌, true, false, ◌==◌, if◌then◌else◌, List, [], ◌∷◌, ◌++◌, refl, sym, ap, ◌∙◌, subst, arith}
+pub use Rattle.cbdc_model.specs.After.{IsFirst}
 use Rattle.cbdc_model.specs.History.{header_of, won_of, committed, all_inputs, all_outputs, starts, geneses, first_rows, Minted}
 use Rattle.cbdc_model.specs.Outcomes.{won_txs}
 use Rattle.cbdc_model.specs.Ranges.{shard_of, shard_node, journal_at, lane_journal, on_shard}
@@ -13,11 +14,6 @@ use Rattle.ledger_laws.proofs.View.{Inv}
 use Rattle.ledger_laws.proofs.CommitStep.{Apart}
 use Rattle.ledger_laws.proofs.Rows.{Structure, view, arrived}
 use Rattle.ledger_laws.proofs.Lookups.{shard_of-lt, true_false}
-
-abbrev pub IsFirst : Record → Type 0
-IsFirst (Genesis header hs) = Unit {0}
-IsFirst (Start header) = Unit {0}
-IsFirst other = ⊥
 
 abbrev pub AllFirst : List Record → Type 0
 AllFirst [] = Unit {0}

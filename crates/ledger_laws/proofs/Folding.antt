@@ -31,7 +31,7 @@ use Rattle.ledger_laws.proofs.Members.{In, in_contains, contains_in, CoinAt, coi
 and_both : (a b : Bool) → (a && b) ≡ true → (a ≡ true) × (b ≡ true)
 and_both a b h = grind arith
 
-same_digests_is : (xs ys : List Digest) → same_digests xs ys ≡ true → xs ≡ ys
+pub same_digests_is : (xs ys : List Digest) → same_digests xs ys ≡ true → xs ≡ ys
 same_digests_is [] [] h = refl
 same_digests_is [] (y ∷ ys) h = cc
 same_digests_is (x ∷ xs) [] h = cc
@@ -45,7 +45,7 @@ same_digests_self : (xs : List Digest) → same_digests xs xs ≡ true
 same_digests_self [] = refl
 same_digests_self (x ∷ xs) = rw (same_digest_self x, same_digests_self xs)
 
-same_compact_is : (a b : Compact) → same_compact a b ≡ true → a ≡ b
+pub same_compact_is : (a b : Compact) → same_compact a b ≡ true → a ≡ b
 same_compact_is a b h =
     let one : (same_digest a.id b.id ≡ true) × ((same_digests a.inputs b.inputs && same_digests a.outputs b.outputs) ≡ true)
     = and_both (same_digest a.id b.id) (same_digests a.inputs b.inputs && same_digests a.outputs b.outputs) h in

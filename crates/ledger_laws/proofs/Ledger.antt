@@ -51,6 +51,11 @@ all_is P ts each = All-from_recursion P ts (by_recursion ts each)
     by_recursion [] h = tt
     by_recursion (t ∷ ts) h = (h.0, by_recursion ts h.1)
 
+-- where every transaction passes, every record does
+pub each_passes : (P : Compact → Type 0) → ((t : Compact) → P t) → (r : Record) → TxsPass P r
+each_passes P all (Prepare stamp b txs) = λ k d lt. all _
+each_passes P all other = tt
+
 pub passes_of : (P : Compact → Type 0) (r : Record) → AllProper P r → TxsPass P r
 passes_of P (Prepare stamp b txs) h = all_is P txs h
 passes_of P other h = tt

@@ -1,4 +1,5 @@
 pub mod Next
+pub mod Kinds
 pub mod Counts
 pub mod Parts
 pub mod Replies
@@ -58,4 +59,5 @@ pub mod Resuming
 pub mod Writing
 pub mod LaneRuns
 pub mod LanePhases
+pub mod Openings
 pub mod Opening

@@ -9,11 +9,9 @@ use Rattle.ledger_laws.proofs.Ledger.{EachSteady}
 use Rattle.ledger_laws.proofs.Next.{Next, Steady}
 use Rattle.ledger_laws.proofs.Rows.{at, away, at_node, head_at, head_away}
 use Rattle.ledger_laws.proofs.Members.{In}
-use Rattle.ledger_laws.proofs.Moves.{SameCauses, caused_same, test_step, greatest_bound, in_range}
+use Rattle.ledger_laws.proofs.Kinds.{test_step, found_new}
+use Rattle.ledger_laws.proofs.Moves.{SameCauses, caused_same, greatest_bound, in_range}
 use Rattle.ledger_laws.proofs.OneHistory.{above_all}
-
-found_new : (kind : ℕ) (q : Record) (J : List Record) (b : Batch) → ((kind_of q == kind) && is_of b q) ≡ true → record_of kind (q ∷ J) b ≡ Some q
-found_new kind q J b t = rw t
 
 -- journals I are journals J with a record r more at node n
 module _ (K : Shape) (n : ℕ) (r : Record) (I J : ℕ → List Record) (next : Next K n (J n) r)

@@ -1,5 +1,5 @@
 -- A caused record stays caused while other nodes' journals grow, and was caused before records of no smaller stamp came.
-use Rattle.std.proofs.Common.{◌≡◌, ◌⊎◌, inl, inr, ℕ, zero, suc, ◌<◌, ◌≤◌, ◌/◌, max, Bool, true, false, ◌&&◌, ◌==◌, List, [], ◌∷◌, ◌++◌, length, Option, Some, is_some, refl, sym, ap, ◌∙◌, subst, arith}
+use Rattle.std.proofs.Common.{◌≡◌, ◌⊎◌, inl, inr, ℕ, zero, suc, ◌<◌, ◌≤◌, ◌/◌, max, true, false, ◌&&◌, ◌==◌, List, [], ◌∷◌, ◌++◌, length, Option, Some, is_some, refl, sym, ap, ◌∙◌, subst, arith}
 use Rattle.cbdc_model.specs.Causes.{greatest, at_shards, AllHave, IsStamped, IsCaused}
 use Rattle.cbdc_model.specs.History.{first_rows, Minted}
 use Rattle.cbdc_model.specs.Outcomes.{outcomes, decisions}
@@ -10,21 +10,12 @@ use Rattle.cbdc_model.specs.Slots.{slot, Idle, InFinish}
 use Rattle.ledger_laws.proofs.Next.{Next, has_lock, Steady}
 use Rattle.ledger_laws.proofs.Slots.{JournalOk}
 use Rattle.ledger_laws.proofs.More.{MoreOk, next_more}
-use Rattle.ledger_laws.proofs.View.{same_batch_is}
+pub use Rattle.ledger_laws.proofs.Kinds.{split_test, test_step}
+use Rattle.ledger_laws.proofs.Kinds.{test_kind, test_batch, not_of_first}
 use Rattle.ledger_laws.proofs.Rows.{Structure, at, away, at_node, head_at, head_away}
 use Rattle.ledger_laws.proofs.Keeps.{keeps}
-use Rattle.ledger_laws.proofs.Lookups.{true_false}
+use Rattle.ledger_laws.proofs.Lookups.{true_false, not_true}
 use Rattle.ledger_laws.proofs.First.{nothing, first_structure, AllFirst, journal_first, all_first}
-
-pub split_test : (k kind : ℕ) (b c : Batch) → ((k == kind) && same_batch b c) ≡ true → (k ≡ kind) × (b ≡ c)
-split_test k kind b c h =
-    let l : (k == kind) ≡ true = grind arith in
-    let m : same_batch b c ≡ true = grind arith in
-    let n : k ≡ kind = grind arith in
-    (n, same_batch_is b c m)
-
-no_test : (k kind : ℕ) → ((k == kind) && false) ≡ true → ⊥
-no_test k kind h = grind arith
 
 -- each kind of record of a batch comes once in a journal
 module _ (K : Shape) (node : ℕ) (J : List Record) (ok : JournalOk J) (more : MoreOk J) where
@@ -49,15 +40,9 @@ module _ (K : Shape) (node : ℕ) (J : List Record) (ok : JournalOk J) (more : M
   locked_before r next kind c h which = of_record r next kind c h which
     where
       of_record : (r : Record) → Next K node J r → (kind : ℕ) (c : Batch) → ((kind_of r == kind) && is_of c r) ≡ true → (kind ≡ 3) ⊎ (kind ≡ 4) → has_lock J c ≡ true
-      of_record (Genesis header hs) next kind c h which = absurd next
-      of_record (Start header) next kind c h which = absurd next
-      of_record (Lock stamp b es) next kind c h which = let s : (2 ≡ kind) × (b ≡ c) = split_test 2 kind b c h in absurd (grind arith)
       of_record (Finish stamp b ds) next kind c h which = subst (λ d. has_lock J d ≡ true) (split_test 3 kind b c h).1 (ok.locked b next.2 next.3).0
       of_record (Forget stamp b) next kind c h which = subst (λ d. has_lock J d ≡ true) (split_test 4 kind b c h).1 (more.in_finish b next.2 next.3).0
-      of_record (Prepare stamp b txs) next kind c h which = let s : (6 ≡ kind) × (b ≡ c) = split_test 6 kind b c h in absurd (grind arith)
-      of_record (Commit stamp b os) next kind c h which = let s : (7 ≡ kind) × (b ≡ c) = split_test 7 kind b c h in absurd (grind arith)
-      of_record (Discard stamp b) next kind c h which = let s : (8 ≡ kind) × (b ≡ c) = split_test 8 kind b c h in absurd (grind arith)
-      of_record (Done stamp b) next kind c h which = let s : (9 ≡ kind) × (b ≡ c) = split_test 9 kind b c h in absurd (grind arith)
+      of_record other next kind c h which = absurd (let k : kind_of other ≡ kind = test_kind kind c other h in grind (arith, k, which))
 
 -- what of other journals a record's cause rule reads
 abbrev pub SameCauses : Shape → (ℕ → List Record) → (ℕ → List Record) → Record → Type 0
@@ -106,9 +91,6 @@ caused_same K I J node (Done stamp b) own same c =
 pub not_empty : (es : List Answered) (p : List Entry) → entries es ≡ p → 0 < length es → is_no_part p ≡ false
 not_empty [] p e n = absurd (omega arith)
 not_empty (a ∷ es) p e n = subst (λ q. is_no_part q ≡ false) e refl
-
-pub test_step : (kind : ℕ) (r : Record) (J : List Record) (c : Batch) → ((kind_of r == kind) && is_of c r) ≡ false → record_of kind (r ∷ J) c ≡ record_of kind J c
-test_step kind r J c h = rw h
 
 -- a row at a shard's node is at a shard of the shape
 pub in_range : (K : Shape) (node : ℕ) (J : List Record) (r : Record) → Next K node J r → (s : ℕ) → node ≡ shard_node K s → s < K.shards
@@ -249,18 +231,13 @@ module _ (K : Shape) (past : List Row) (row : Row) (next : Next K row.node (jour
     pub was_caused : (q : Record) → stamp_of q ≤ stamp_of row.what → Next K m (journal m past) q → IsCaused K (λ n. journal n (row ∷ past)) m q → IsCaused K (λ n. journal n past) m q
     was_caused q le at_q c = caused_same K (λ n. journal n (row ∷ past)) (λ n. journal n past) m q own_before (causes_before q le at_q c) c
 
-and_false : (a : Bool) → (a && false) ≡ false
-and_false a = grind arith
-
 none_cons : (kind : ℕ) (r : Record) (J : List Record) (b : Batch) → ((kind_of r == kind) && is_of b r) ≡ false → is_some (record_of kind J b) ≡ false
     → is_some (record_of kind (r ∷ J) b) ≡ false
 none_cons kind r J b t h = rw t h
 
 pub none_of : (kind : ℕ) (J : List Record) → AllFirst J → (b : Batch) → is_some (record_of kind J b) ≡ false
 none_of kind [] first b = refl
-none_of kind (Genesis header hs ∷ J) first b = none_cons kind (Genesis header hs) J b (and_false (1 == kind)) (none_of kind J first.1 b)
-none_of kind (Start header ∷ J) first b = none_cons kind (Start header) J b (and_false (5 == kind)) (none_of kind J first.1 b)
-none_of kind (other ∷ J) first b = absurd first.0
+none_of kind (r ∷ J) first b = none_cons kind r J b (not_true _ (λ t. not_of_first r b first.0 (test_batch kind b r t))) (none_of kind J first.1 b)
 
 pub idle : (J : List Record) → AllFirst J → (lane : ℕ) → (slot J lane).phase ≡ Idle
 idle J first lane = (nothing J first).phase lane

@@ -1,6 +1,6 @@
 -- The Commit and the Finish that made a hash are older than a Lock that holds it.
-use Rattle.std.proofs.Common.{◌≡◌, ℕ, ◌<◌, ◌≤◌, Bool, true, false, ◌&&◌, ◌==◌, if◌then◌else◌, List, [], ◌∷◌, ◌++◌, Some, None, is_some, refl, sym, ap, ◌∙◌, subst, arith}
-use Rattle.cbdc_model.specs.Records.{Digest, Shape, Batch, Compact, Outcome, Answered, Record, Row, journal, same_batch, record_of, lock_of, txs_of, outcomes_of, decisions_in, entries_in, kind_of, is_of, stamp_in, last_stamp, Genesis, Lock, Finish, Start, Commit}
+use Rattle.std.proofs.Common.{◌≡◌, ℕ, ◌<◌, ◌≤◌, Bool, true, false, if◌then◌else◌, List, [], ◌∷◌, ◌++◌, Some, is_some, refl, sym, ap, ◌∙◌, subst, arith}
+use Rattle.cbdc_model.specs.Records.{Digest, Shape, Batch, Compact, Outcome, Answered, Record, Row, journal, same_batch, record_of, lock_of, txs_of, outcomes_of, decisions_in, entries_in, stamp_in, last_stamp, Genesis, Lock, Finish, Start}
 use Rattle.cbdc_model.specs.Status.{Status, status, has, held_inputs, made_outputs, returned_inputs, taken_inputs, finished_status, Unspent, Locked, Absent}
 use Rattle.cbdc_model.specs.Replies.{entries}
 use Rattle.cbdc_model.specs.Ranges.{shard_of, shard_node, journal_at, lane_journal}
@@ -15,10 +15,10 @@ use Rattle.ledger_laws.proofs.View.{same, other, same_or_not}
 use Rattle.ledger_laws.proofs.Rows.{at, away, at_node, head_at, head_away}
 use Rattle.ledger_laws.proofs.Lookups.{true_false}
 use Rattle.ledger_laws.proofs.First.{AllFirst, journal_first, all_first}
-use Rattle.ledger_laws.proofs.Moves.{split_test, all_structure}
+use Rattle.ledger_laws.proofs.Moves.{all_structure}
 use Rattle.ledger_laws.proofs.Order.{OrderOk}
-use Rattle.ledger_laws.proofs.Alikes.{found_passes}
-use Rattle.ledger_laws.proofs.Standing.{Facts, standing}
+use Rattle.ledger_laws.proofs.Kinds.{found_finish}
+use Rattle.ledger_laws.proofs.Standing.{standing}
 use Rattle.ledger_laws.proofs.Repeats.{all_order}
 
 -- of one journal and one hash
@@ -181,20 +181,14 @@ module _ (K : Shape) (minting : Minted) (P : Compact → Type 0) (shards : 0 < K
       later_than : stamp_in (record_of 7 home b) < stamp_in (record_of 3 J b)
 
     finished : has_finish J b ≡ true → Finished
-    finished h = elim (record_of 3 J b) as (λ r. record_of 3 J b ≡ r → is_some r ≡ true → Finished) [
-      | None ↦ λ e t. absurd (let z : false ≡ true = t in cc)
-      | Some r ↦ λ e t. of_record r e (found_passes 3 J b r e) (standing K minting P shards later kept (shard_node K (shard_of K.shards x)) 3 b r e)
-    ] refl h
-      where
-        of_record : (r : Record) → record_of 3 J b ≡ Some r → ((kind_of r == 3) && is_of b r) ≡ true → Facts K (λ n. journal n (whole later)) (shard_node K (shard_of K.shards x)) r → Finished
-        of_record (Finish stamp c ds) e t f =
-            let s : c ≡ b = (split_test 3 3 c b t).1 in
-            record {
-              lock = subst (λ d. has_lock J d ≡ true) s f.1;
-              decided_by = ap decisions_in e ∙ subst (λ d. ds ≡ decisions (outcomes_of (lane_journal K (whole later) d) d) (entries (lock_of J d))) s f.2;
-              later_than = subst (λ r. stamp_in (record_of 7 home b) < stamp_in r) (sym e) (subst (λ d. stamp_in (record_of 7 (lane_journal K (whole later) d) d) < stamp) s f.3);
-            }
-        of_record another e t f = absurd (let z : false ≡ true = t in cc)
+    finished h =
+        let f = found_finish J b h in
+        let g = standing K minting P shards later kept (shard_node K (shard_of K.shards x)) 3 b (Finish f.0 b f.1) f.2 in
+        record {
+          lock = g.1;
+          decided_by = ap decisions_in f.2 ∙ g.2;
+          later_than = subst (λ r. stamp_in (record_of 7 home b) < stamp_in r) (sym f.2) g.3;
+        }
 
     pub made_earlier : (c : Batch) → 0 < count x (all_outputs (won_of K (whole later) b)) → has_finish J b ≡ true → status J x ≡ Locked c
         → (stamp_in (record_of 7 home b) < stamp_in (record_of 2 J c)) × (stamp_in (record_of 3 J b) < stamp_in (record_of 2 J c))

@@ -3,6 +3,7 @@ use Rattle.std.proofs.Common.{◌≡◌, ℕ, ◌≤◌, Bool, true, false, List
 use Rattle.cbdc_model.specs.Records.{Shape, Batch, same_batch, Compact, Outcome, Answered, Record, Genesis, Lock, Finish, Forget, Start, Prepare, Commit, Discard, Done}
 use Rattle.cbdc_model.specs.Slots.{slot, InLock, InPrepare}
 use Rattle.ledger_laws.proofs.Next.{Next, has_lock, has_finish, has_prepare, has_commit}
+pub use Rattle.ledger_laws.proofs.Kinds.{same_batch_is, same_batch_self}
 
 pub record JournalOk (past : List Record) : Type 0 where
   pub lock_below : (b : Batch) → has_lock past b ≡ true → b.number ≤ (slot past b.lane).number
@@ -13,15 +14,6 @@ pub record JournalOk (past : List Record) : Type 0 where
   pub prepared : (b : Batch) → (slot past b.lane).phase ≡ InPrepare → (slot past b.lane).number ≡ b.number
       → (has_prepare past b ≡ true) × (has_commit past b ≡ false)
   pub commit_prepared : (b : Batch) → has_commit past b ≡ true → has_prepare past b ≡ true
-
-pub same_batch_is : (a b : Batch) → same_batch a b ≡ true → a ≡ b
-same_batch_is a b h =
-    let l : a.lane ≡ b.lane = grind arith in
-    let n : a.number ≡ b.number = grind arith in
-    λ i. record { lane = l i; number = n i }
-
-pub same_batch_self : (b : Batch) → same_batch b b ≡ true
-same_batch_self b = grind arith
 
 pub other_batch : (a b : Batch) → same_batch a b ≡ false → a ≡ b → ⊥
 other_batch a b h e = grind (arith, same_batch_self b)

@@ -9,6 +9,7 @@ use Rattle.cbdc_model.specs.Grammar.{IsInGrammar}
 use Rattle.cbdc_model.specs.After.{After}
 use Rattle.ledger_laws.proofs.Ledger.{next_behind, each_is, SteadyJournals, SteadyLists, EachSteady, SteadyWorld}
 use Rattle.ledger_laws.proofs.Next.{Next, Steady, AllProper}
+use Rattle.ledger_laws.proofs.Kinds.{after_stamp, at_a_node}
 use Rattle.ledger_laws.proofs.Rows.{at, away, at_node, head_at, head_away}
 use Rattle.ledger_laws.proofs.Locals.{local_kept}
 use Rattle.ledger_laws.proofs.Cuts.{cut, end_self, end_trans, seen_grows}
@@ -89,20 +90,6 @@ module _ (K : Shape) (minting : Minted) (P : Compact → Type 0) (shards : 0 < K
   pub world_lists : (w : World) → SteadyWorld K minting P w → SteadyLists K minting P (journals w)
   world_lists w kept = subst (λ J. SteadyLists K minting P J) (λ i n. kept.history n i) (lists_of kept.later kept.kept)
 
-  -- stamps rise in each journal
-  after_stamp : (n : ℕ) (J : List Record) (r : Record) → Next K n J r → last_stamp J < stamp_of r
-  after_stamp n J (Genesis header hs) next = absurd next
-  after_stamp n J (Start header) next = absurd next
-  after_stamp n J other next = next.0
-
-  after_node : (n : ℕ) (J : List Record) (r : Record) → Next K n J r → n < K.coordinators + K.shards
-  after_node n J (Genesis header hs) next = absurd next
-  after_node n J (Start header) next = absurd next
-  after_node n J (Lock stamp b es) next = next.1.1
-  after_node n J (Finish stamp b ds) next = next.1.1
-  after_node n J (Forget stamp b) next = next.1.1
-  after_node n J other next = omega (arith, next.1)
-
   module _ (X : ℕ → List Record) (kept : SteadyLists K minting P X) where
     abbrev later_of : ℕ → List Record
     later_of n = (kept.begins n).0
@@ -112,7 +99,7 @@ module _ (K : Shape) (minting : Minted) (P : Compact → Type 0) (shards : 0 < K
     rising_of n newer (r ∷ more) e =
         let rest : Rising more = rising_of n (newer ++ r ∷ []) more (e ∙ sym (append_assoc newer (r ∷ []) more)) in
         let place : X n ≡ newer ++ r ∷ (more ++ first_of K minting n) = (kept.begins n).1 ∙ ap (λ L. L ++ first_of K minting n) e ∙ append_assoc newer (r ∷ more) (first_of K minting n) in
-        let lt : last_stamp (more ++ first_of K minting n) < stamp_of r = after_stamp n (more ++ first_of K minting n) r (kept.each n newer (more ++ first_of K minting n) r place (more, refl)).0 in
+        let lt : last_stamp (more ++ first_of K minting n) < stamp_of r = after_stamp K n (more ++ first_of K minting n) r (kept.each n newer (more ++ first_of K minting n) r place (more, refl)).0 in
         (all_below more (first_of K minting n) (stamp_of r) lt rest, rest)
       where
         all_below : (more F : List Record) (s : ℕ) → last_stamp (more ++ F) < s → Rising more → AllBelow more s
@@ -126,7 +113,7 @@ module _ (K : Shape) (minting : Minted) (P : Compact → Type 0) (shards : 0 < K
         go [] e = e
         go (r ∷ more) e = absurd (
             let place : X n ≡ [] ++ r ∷ (more ++ first_of K minting n) = (kept.begins n).1 ∙ ap (λ L. L ++ first_of K minting n) e in
-            let lt : n < K.coordinators + K.shards = after_node n (more ++ first_of K minting n) r (kept.each n [] (more ++ first_of K minting n) r place (more, refl)).0 in
+            let lt : n < K.coordinators + K.shards = at_a_node K n (more ++ first_of K minting n) r (kept.each n [] (more ++ first_of K minting n) r place (more, refl)).0 in
             omega arith)
 
     rows : List Row

@@ -2,7 +2,6 @@
 use Rattle.std.proofs.Common.{◌≡◌, ◌⊎◌, inl, inr, ℕ, zero, suc, ◌+◌, ◌<◌, ◌≤◌, ◌/◌, Bool, true, false, if◌then◌else◌, List, [], ◌∷◌, ◌++◌, Option, Some, None, is_some, Contains, refl, sym, ap, ◌∙◌, subst, arith}
 use Rattle.cbdc_model.specs.Records.{Digest, Shape, Batch, Compact, Record, Row, Answered, is_held, journal, record_of, lock_of, txs_of, outcomes_of, entries_in, outcomes_in, Commit}
 use Rattle.cbdc_model.specs.Status.{status, Locked, held_inputs, taken_inputs}
-use Rattle.cbdc_model.specs.Replies.{entries}
 use Rattle.cbdc_model.specs.Ranges.{shard_of, journal_at, lane_journal}
 use Rattle.cbdc_model.specs.Outcomes.{reply_at, won_at}
 use Rattle.cbdc_model.specs.Causes.{at_shards}

@@ -2,20 +2,16 @@
 use Rattle.std.proofs.Common.{◌≡◌, inl, inr, ℕ, ◌<◌, ◌≤◌, true, false, ◌==◌, if◌then◌else◌, List, [], ◌∷◌, ◌++◌, length, Option, Some, None, set, get_or-set_same, get_or-set_other, refl, sym, ap, ◌∙◌, subst, arith}
 use Rattle.cbdc_model.specs.Causes.{IsCaused}
 use Rattle.cbdc_model.specs.History.{header_of, first_rows, goes_above, IsAbove, IsOrdered, Minted}
-use Rattle.cbdc_model.specs.Records.{Shape, Compact, Record, Row, journal, stamp_of, last_stamp, Genesis, Start}
+use Rattle.cbdc_model.specs.Records.{Shape, Compact, Record, Row, journal, stamp_of, last_stamp}
 use Rattle.cbdc_model.specs.Grammar.{IsInGrammar}
 use Rattle.cbdc_model.specs.After.{After}
 use Rattle.cbdc_model.specs.World.{EventPasses, EventsPass, Node, World, no_node, node_at, journals, record_for, Event, Begin, End, Crash, Reopen, Repeat, flushed, Allowed, effect, Step, Run}
 use Rattle.ledger_laws.proofs.Ledger.{SteadyWorld, next_at, proper_of}
 use Rattle.ledger_laws.proofs.Planned.{Planned, planned}
 use Rattle.ledger_laws.proofs.Next.{Next, Steady, AllProper}
+use Rattle.ledger_laws.proofs.Kinds.{after_stamp}
 use Rattle.ledger_laws.proofs.Rows.{at, away, at_node, head_at, head_away}
 use Rattle.ledger_laws.proofs.Moves.{stays, was_caused, all_structure, all_more}
-
-after_stamp : (K : Shape) (node : ℕ) (J : List Record) (r : Record) → Next K node J r → last_stamp J < stamp_of r
-after_stamp K node J (Genesis header hs) next = absurd next
-after_stamp K node J (Start header) next = absurd next
-after_stamp K node J other next = next.0
 
 not_above : (row head : Row) → goes_above row head ≡ false → stamp_of row.what ≤ stamp_of head.what
 not_above row head h = grind arith

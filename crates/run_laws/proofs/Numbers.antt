@@ -1,5 +1,5 @@
 -- Along each journal of a history: what it found stays, and at a coordinator a lane's number is that of its Prepares.
-use Rattle.std.proofs.Common.{◌≡◌, ℕ, ◌+◌, ◌/◌, ◌<◌, ◌≤◌, Bool, true, false, ◌&&◌, ◌==◌, if◌then◌else◌, List, [], ◌∷◌, ◌++◌, length, reverse, is_some, refl, sym, ap, ◌∙◌, subst, arith, append_assoc}
+use Rattle.std.proofs.Common.{◌≡◌, ℕ, ◌+◌, ◌/◌, ◌<◌, ◌≤◌, true, false, ◌==◌, if◌then◌else◌, List, [], ◌∷◌, ◌++◌, length, reverse, is_some, refl, sym, ap, ◌∙◌, subst, arith, append_assoc}
 use Rattle.std.proofs.lemmas.List.{reverse-append, reverse-reverse, append_cancel_right, length-reverse, length-append}
 use Rattle.cbdc_model.specs.Records.{Shape, Batch, Compact, Record, Row, journal, record_of, Genesis, Lock, Finish, Forget, Start, Prepare, Commit, Discard, Done}
 use Rattle.cbdc_model.specs.Slots.{Slot, Phase, slot, Idle, InLock, InFinish, InPrepare, InCommit, InDiscard}
@@ -12,7 +12,7 @@ use Rattle.ledger_laws.proofs.Slots.{JournalOk, next_ok}
 use Rattle.ledger_laws.proofs.More.{MoreOk, next_more}
 use Rattle.ledger_laws.proofs.First.{AllFirst, journal_first, all_first}
 use Rattle.ledger_laws.proofs.Moves.{once, all_structure, all_more}
-use Rattle.ledger_laws.proofs.Finds.{Once, found_stays}
+use Rattle.ledger_laws.proofs.Finds.{Once, first_once, found_stays}
 use Rattle.ledger_laws.proofs.Ledger.{SteadyLists}
 use Rattle.ledger_laws.proofs.Together.{lists_of}
 use Rattle.ledger_laws.proofs.Cuts.{end_self, end_trans}
@@ -56,18 +56,6 @@ first_slot lane [] f = refl
 first_slot lane (Genesis header hs ∷ J) f = first_slot lane J f.1
 first_slot lane (Start header ∷ J) f = first_slot lane J f.1
 first_slot lane (other ∷ J) f = absurd f.0
-
-first_once : (J : List Record) → AllFirst J → Once J
-first_once [] f = tt
-first_once (Genesis header hs ∷ J) f = (λ kind c t. absurd (no_test (1 == kind) t), first_once J f.1)
-  where
-    no_test : (a : Bool) → (a && false) ≡ true → ⊥
-    no_test a h = grind arith
-first_once (Start header ∷ J) f = (λ kind c t. absurd (no_test (5 == kind) t), first_once J f.1)
-  where
-    no_test : (a : Bool) → (a && false) ≡ true → ⊥
-    no_test a h = grind arith
-first_once (other ∷ J) f = absurd f.0
 
 -- the list's halves where one item stands between
 pub turned : {A : Type 0} (newer older : List A) (x : A) (done : List A) → reverse done ≡ newer ++ x ∷ older → done ≡ reverse older ++ x ∷ reverse newer

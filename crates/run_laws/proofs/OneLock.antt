@@ -13,7 +13,7 @@ use Rattle.ledger_laws.proofs.Worlds.{run_keeps}
 use Rattle.ledger_laws.proofs.Reaching.{ended, ended_at, ended_away, ended_length, written}
 use Rattle.ledger_laws.proofs.Found.{found_new}
 use Rattle.run_laws.specs.LocksDue.{lacks_lock_by, lacks_lock, lock_cause, before_lock, IsLock}
-use Rattle.run_laws.proofs.Opening.{IsQuiet}
+use Rattle.ledger_laws.proofs.Openings.{IsQuiet}
 use Rattle.run_laws.proofs.LockWrites.{LockFor, HasPrepare, has_prepare, lock_for}
 
 both_false : (a b : Bool) → (not a && not b) ≡ true → (a ≡ false) × (b ≡ false)

@@ -6,7 +6,8 @@ use Rattle.cbdc_model.specs.Ranges.{home_of, shard_node}
 use Rattle.cbdc_model.specs.Causes.{greatest, at_shards, IsCaused}
 use Rattle.cbdc_model.specs.History.{Minted, first_rows}
 use Rattle.cbdc_model.specs.Lanes.{IsEnd, first_of}
-use Rattle.ledger_laws.proofs.Next.{Next, Steady}
+use Rattle.ledger_laws.proofs.Next.{Steady}
+use Rattle.ledger_laws.proofs.Kinds.{after_stamp, at_a_node}
 use Rattle.ledger_laws.proofs.First.{AllFirst, journal_first, all_first}
 use Rattle.ledger_laws.proofs.Rows.{at, away, at_node, head_at, head_away}
 use Rattle.ledger_laws.proofs.Repeats.{all_order}
@@ -20,19 +21,6 @@ first_stamp [] f = refl
 first_stamp (Genesis header hs ∷ J) f = refl
 first_stamp (Start header ∷ J) f = refl
 first_stamp (other ∷ J) f = absurd f.0
-
-rising : (K : Shape) (n : ℕ) (J : List Record) (r : Record) → Next K n J r → last_stamp J < stamp_of r
-rising K n J (Genesis header hs) next = absurd next
-rising K n J (Start header) next = absurd next
-rising K n J other next = next.0
-
-inside_of : (K : Shape) (n : ℕ) (J : List Record) (r : Record) → Next K n J r → n < K.coordinators + K.shards
-inside_of K n J (Genesis header hs) next = absurd next
-inside_of K n J (Start header) next = absurd next
-inside_of K n J (Lock stamp b es) next = next.1.1
-inside_of K n J (Finish stamp b ds) next = next.1.1
-inside_of K n J (Forget stamp b) next = next.1.1
-inside_of K n J other next = omega (arith, next.1)
 
 greatest_most : (f : ℕ → ℕ) (n bound : ℕ) → ((k : ℕ) → f k ≤ bound) → greatest f n ≤ bound
 greatest_most f zero bound all = omega arith
@@ -86,7 +74,7 @@ module _ (K : Shape) (m : Minted) (P : Compact → Type 0) (some : 0 < K.shards)
     was_there n V r inside begins ends =
         let le : stamp_of r ≤ last_stamp (E n) = subst (λ L. stamp_of r ≤ last_stamp L) (sym ends.1)
         (further K m P some before old n (r ∷ V) begins (λ L. stamp_of r ≤ last_stamp L) (omega arith)
-        (λ newer rest q e h next le. (let up : last_stamp rest < stamp_of q = rising K n rest q next in omega (arith, le, up))) [] ends.0 ends.1) in
+        (λ newer rest q e h next le. (let up : last_stamp rest < stamp_of q = after_stamp K n rest q next in omega (arith, le, up))) [] ends.0 ends.1) in
         omega (arith, le, tops n inside)
 
     abbrev Bounded : List Row → Type 0
@@ -112,7 +100,7 @@ module _ (K : Shape) (m : Minted) (P : Compact → Type 0) (some : 0 < K.shards)
             (λ n lt. (let le : length (whole later n) ≤ length (whole (row ∷ later) n) = length_on row (later ++ first_rows K m) n in omega arith))
 
         inside : row.node < N
-        inside = inside_of K row.node (whole later row.node) row.what kept.0
+        inside = at_a_node K row.node (whole later row.node) row.what kept.0
 
         here : whole (row ∷ later) row.node ≡ row.what ∷ whole later row.node
         here = head_at row (later ++ first_rows K m) row.node refl
@@ -165,5 +153,5 @@ module _ (K : Shape) (m : Minted) (P : Compact → Type 0) (some : 0 < K.shards)
     front_most n V h v =
         let le : last_stamp V ≤ last_stamp (X n) = subst (λ L. last_stamp V ≤ last_stamp L) (sym v.1)
         (further K m P some after new n V (end_trans (first_of K m n) (E n) V ((lists K m P some before old).begins n) h) (λ L. last_stamp V ≤ last_stamp L) (omega arith)
-        (λ newer rest q e back next le. (let up : last_stamp rest < stamp_of q = rising K n rest q next in omega (arith, le, up))) [] v.0 v.1) in
+        (λ newer rest q e back next le. (let up : last_stamp rest < stamp_of q = after_stamp K n rest q next in omega (arith, le, up))) [] v.0 v.1) in
         omega (arith, le, last_most n)

@@ -1,5 +1,5 @@
 -- What the tests of equality decide that types derive.
-use Rattle.std.proofs.Common.{◌≡◌, ℕ, true, Bool, List, refl, subst, arith}
+use Rattle.std.proofs.Common.{◌≡◌, true, Bool, List, refl, subst, arith}
 use Rattle.std.proofs.lemmas.Bool.Decides.{Decides-eqb}
 use Rattle.std.proofs.lemmas.Grind.{common_steps}
 use Rattle.std.specs.Bool.{Decides, beq}
