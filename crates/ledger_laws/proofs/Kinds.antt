@@ -1,9 +1,10 @@
 -- Which record it is: what passes the test for a kind and a batch, and what is found by it. Each kind is gone through here once; a law then asks
 -- for the record of its own kind.
-use Rattle.std.proofs.Common.{◌≡◌, ℕ, ◌+◌, ◌<◌, Bool, true, false, cond, ◌&&◌, ◌==◌, List, ◌∷◌, Some, None, is_some, refl, ap, ◌∙◌, subst, arith}
+use Rattle.std.proofs.Common.{◌≡◌, ◌⊎◌, inl, inr, ℕ, ◌+◌, ◌<◌, Bool, true, false, cond, ◌&&◌, ◌==◌, List, ◌∷◌, Some, None, is_some, refl, ap, ◌∙◌, subst, arith}
 use Rattle.cbdc_model.specs.Records.{Shape, Batch, same_batch, Compact, Outcome, Answered, Record, record_of, kind_of, is_of, is_in_lane, stamp_of, last_stamp, Genesis, Lock, Finish, Forget, Start, Prepare, Commit, Discard, Done}
 use Rattle.cbdc_model.specs.After.{IsFirst}
 use Rattle.ledger_laws.proofs.Next.{Next}
+use Rattle.ledger_laws.proofs.Lookups.{not_true, true_false}
 
 pub same_batch_is : (a b : Batch) → same_batch a b ≡ true → a ≡ b
 same_batch_is a b h =
@@ -140,9 +141,36 @@ pub of_in_lane : (b : Batch) (r : Record) → is_of b r ≡ true → is_in_lane 
 of_in_lane b (Genesis header hs) h = cc
 of_in_lane b other h = grind (arith, h)
 
+-- a record's lane, 0 of a first one
+abbrev pub lane_in : Record → ℕ
+lane_in (Genesis header hs) = 0
+lane_in (Start header) = 0
+lane_in (Lock stamp b es) = b.lane
+lane_in (Finish stamp b ds) = b.lane
+lane_in (Forget stamp b) = b.lane
+lane_in (Prepare stamp b txs) = b.lane
+lane_in (Commit stamp b os) = b.lane
+lane_in (Discard stamp b) = b.lane
+lane_in (Done stamp b) = b.lane
+
+pub in_own_lane : (r : Record) → IsFirst r ⊎ (is_in_lane (lane_in r) r ≡ true)
+in_own_lane (Genesis header hs) = inl tt
+in_own_lane (Start header) = inl tt
+in_own_lane other = inr (grind arith)
+
 pub lanes_apart : (l m : ℕ) (r : Record) → is_in_lane l r ≡ true → (l == m) ≡ false → is_in_lane m r ≡ false
 lanes_apart l m (Genesis header hs) h apart = refl
 lanes_apart l m other h apart = grind (arith, h, apart)
+
+-- what a record of another lane leaves of what is found
+pub found_apart : (kind : ℕ) (r : Record) (J : List Record) (c : Batch) → is_in_lane c.lane r ≡ false → record_of kind (r ∷ J) c ≡ record_of kind J c
+found_apart kind r J c h = test_step kind r J c (not_true _ (λ t. true_false _ (of_in_lane c r (test_batch kind c r t)) h))
+
+-- what is next is no first record
+pub next_not_first : (K : Shape) (node : ℕ) (J : List Record) (r : Record) → Next K node J r → IsFirst r → ⊥
+next_not_first K node J (Genesis header hs) next first = next
+next_not_first K node J (Start header) next first = next
+next_not_first K node J other next first = first
 
 -- what is next has a stamp above the last one, and stands at a node of the shape
 pub after_stamp : (K : Shape) (node : ℕ) (J : List Record) (r : Record) → Next K node J r → last_stamp J < stamp_of r

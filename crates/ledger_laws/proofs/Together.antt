@@ -1,15 +1,15 @@
 -- What all lanes of a wave made keeps the world.
-use Rattle.std.proofs.Common.{◌≡◌, ◌⊎◌, inl, inr, ℕ, suc, ◌+◌, ◌<◌, ◌≤◌, true, false, ◌==◌, nat_lt, List, [], ◌∷◌, ◌++◌, Some, length, length-append, refl, sym, ap, ◌∙◌, subst, arith, append_assoc}
+use Rattle.std.proofs.Common.{◌≡◌, ◌⊎◌, inl, inr, ℕ, suc, ◌+◌, ◌<◌, ◌≤◌, true, false, nat_lt, List, [], ◌∷◌, ◌++◌, Some, length, length-append, refl, sym, ap, ◌∙◌, subst, arith, append_assoc}
 use Rattle.cbdc_model.specs.Causes.{IsCaused}
 use Rattle.cbdc_model.specs.History.{header_of, first_rows, Minted}
 use Rattle.cbdc_model.specs.Lanes.{IsEnd, Seen, Holds, may_come, first_of, AllPass, Wave}
-use Rattle.cbdc_model.specs.Records.{Shape, Compact, Record, Row, journal, stamp_of, last_stamp, is_in_lane, Genesis, Lock, Finish, Forget, Start, Prepare, Commit, Discard, Done}
+use Rattle.cbdc_model.specs.Records.{Shape, Compact, Record, Row, journal, stamp_of, last_stamp, is_in_lane, Prepare}
 use Rattle.cbdc_model.specs.World.{replaced, World, node_at, journals}
 use Rattle.cbdc_model.specs.Grammar.{IsInGrammar}
 use Rattle.cbdc_model.specs.After.{After}
 use Rattle.ledger_laws.proofs.Ledger.{next_behind, each_is, SteadyJournals, SteadyLists, EachSteady, SteadyWorld}
 use Rattle.ledger_laws.proofs.Next.{Next, Steady, AllProper}
-use Rattle.ledger_laws.proofs.Kinds.{after_stamp, at_a_node}
+use Rattle.ledger_laws.proofs.Kinds.{lane_in, in_own_lane, next_not_first, after_stamp, at_a_node}
 use Rattle.ledger_laws.proofs.Rows.{at, away, at_node, head_at, head_away}
 use Rattle.ledger_laws.proofs.Locals.{local_kept}
 use Rattle.ledger_laws.proofs.Cuts.{cut, end_self, end_trans, seen_grows}
@@ -211,16 +211,8 @@ module _ (K : Shape) (minting : Minted) (P : Compact → Type 0) (shards : 0 < K
         ]
       ]
 
-      same : (n : ℕ) → (n == n) ≡ true
-      same n = grind arith
-
       fresh : (n : ℕ) (newer rest : List Record) (r : Record) → X n ≡ newer ++ r ∷ rest → IsEnd (E n) rest → Next K n rest r × Seen K X n rest r × AllProper P r × IsInGrammar (header_of K minting.id n) r
-      fresh n newer rest (Genesis header hs) e h = absurd (next_here n rest (Genesis header hs) h (wave.next n newer rest (Genesis header hs) e h))
-      fresh n newer rest (Start header) e h = absurd (next_here n rest (Start header) h (wave.next n newer rest (Start header) e h))
-      fresh n newer rest (Lock stamp b es) e h = of_lane b.lane n newer rest (Lock stamp b es) e h (same b.lane) (wave.next n newer rest (Lock stamp b es) e h)
-      fresh n newer rest (Finish stamp b ds) e h = of_lane b.lane n newer rest (Finish stamp b ds) e h (same b.lane) (wave.next n newer rest (Finish stamp b ds) e h)
-      fresh n newer rest (Forget stamp b) e h = of_lane b.lane n newer rest (Forget stamp b) e h (same b.lane) (wave.next n newer rest (Forget stamp b) e h)
-      fresh n newer rest (Prepare stamp b txs) e h = of_lane b.lane n newer rest (Prepare stamp b txs) e h (same b.lane) (wave.next n newer rest (Prepare stamp b txs) e h)
-      fresh n newer rest (Commit stamp b os) e h = of_lane b.lane n newer rest (Commit stamp b os) e h (same b.lane) (wave.next n newer rest (Commit stamp b os) e h)
-      fresh n newer rest (Discard stamp b) e h = of_lane b.lane n newer rest (Discard stamp b) e h (same b.lane) (wave.next n newer rest (Discard stamp b) e h)
-      fresh n newer rest (Done stamp b) e h = of_lane b.lane n newer rest (Done stamp b) e h (same b.lane) (wave.next n newer rest (Done stamp b) e h)
+      fresh n newer rest r e h = elim (in_own_lane r) [
+        | inl first ↦ absurd (next_not_first K n rest r (next_here n rest r h (wave.next n newer rest r e h)) first)
+        | inr own ↦ of_lane (lane_in r) n newer rest r e h own (wave.next n newer rest r e h)
+      ]

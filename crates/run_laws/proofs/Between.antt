@@ -1,5 +1,5 @@
 -- Journals between those of a run are kept.
-use Rattle.std.proofs.Common.{◌≡◌, ◌⊎◌, inl, inr, ℕ, zero, suc, ◌<◌, Bool, true, false, ◌&&◌, ◌==◌, List, [], ◌∷◌, ◌++◌, take, drop, Some, None, is_some, refl, sym, ap, ◌∙◌, subst, arith, append_assoc}
+use Rattle.std.proofs.Common.{◌≡◌, ◌⊎◌, inl, inr, ℕ, zero, suc, ◌<◌, Bool, true, false, ◌&&◌, ◌==◌, List, [], ◌∷◌, ◌++◌, take, drop, Some, None, refl, sym, ap, ◌∙◌, subst, arith, append_assoc}
 use Rattle.std.specs.Prelude.{slice_get}
 use Rattle.cbdc_model.specs.Records.{Shape, Batch, same_batch, Record, record_of, kind_of, is_of, Lock, Finish, Forget, Commit, Discard, Done}
 use Rattle.cbdc_model.specs.Ranges.{home_of, shard_node}
@@ -17,8 +17,7 @@ use Rattle.ledger_laws.proofs.Finds.{replaced_at, replaced_away}
 use Rattle.ledger_laws.proofs.Moves.{SameCauses, caused_same, test_step}
 use Rattle.ledger_laws.proofs.Together.{no_room}
 use Rattle.ledger_laws.proofs.LaneLaws.{local_law}
-use Rattle.run_laws.proofs.NewRecords.{still_found}
-use Rattle.run_laws.proofs.WaveTurns.{one_batch}
+use Rattle.run_laws.proofs.WaveTurns.{one_batch, adds_on, grown, not_before}
 use Rattle.run_laws.specs.Between.{BeginsWave, BeginLaw, BetweenLaw}
 
 -- ---- what is added, and what is found
@@ -28,22 +27,6 @@ adds_same P I J same = record {
   grows = λ n. ([], same n);
   each = λ n newer rest r e h. absurd (no_room (I n) newer rest r h.0 h.1 (sym (same n) ∙ e));
 }
-
-adds_on : (P Q R : Batch → Type 0) (I J X : ℕ → List Record) → ((b : Batch) → P b → R b) → ((b : Batch) → Q b → R b) → Adds P I J → Adds Q J X → Adds R I X
-adds_on P Q R I J X p q a b = record {
-  grows = λ n. end_trans (I n) (J n) (X n) (a.grows n) (b.grows n);
-  each = λ n newer rest r e h. elim (cut (b.grows n).0 (J n) newer rest r (sym (b.grows n).1 ∙ e)) [
-    | inr f ↦ let k = b.each n newer rest r e (f.back, f.rest_is) in (k.0, k.1, q k.0 k.2)
-    | inl f ↦ let k = a.each n f.0 rest r f.1 h in (k.0, k.1, p k.0 k.2)
-  ];
-}
-
--- what was found is still found
-pub grown : (kind : ℕ) (c : Batch) (I J : List Record) → IsEnd I J → is_some (record_of kind I c) ≡ true → is_some (record_of kind J c) ≡ true
-grown kind c I J h f = subst (λ L. is_some (record_of kind L c) ≡ true) (sym h.1) (still_found h.0 I kind c f)
-
-pub not_before : (kind : ℕ) (c : Batch) (I J : List Record) → IsEnd I J → is_some (record_of kind J c) ≡ false → is_some (record_of kind I c) ≡ false
-not_before kind c I J h f = not_true _ (λ t. true_false _ (grown kind c I J h t) f)
 
 second : (a c : Bool) → (a && c) ≡ true → c ≡ true
 second a c h = grind (arith, h)

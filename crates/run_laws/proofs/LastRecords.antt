@@ -1,6 +1,6 @@
 -- A lane's last record at a node where its slot is not idle: which nodes have it, its stamp's bound, and the records that stand.
-use Rattle.std.proofs.Common.{◌≡◌, ℕ, ◌+◌, ◌^◌, ◌<◌, ◌≤◌, true, List, Some, is_some, sym, ap, ◌∙◌, arith}
-use Rattle.cbdc_model.specs.Records.{Header, Batch, Record, record_of, stamp_of, txs_in, txs_of, outcomes_in, outcomes_of, Genesis, Lock, Finish, Forget, Start, Prepare, Commit, Discard, Done}
+use Rattle.std.proofs.Common.{◌≡◌, ℕ, ◌^◌, ◌<◌, ◌≤◌, true, List, Some, is_some, sym, ap, ◌∙◌, arith}
+use Rattle.cbdc_model.specs.Records.{Header, Batch, Record, record_of, stamp_of, txs_in, txs_of, outcomes_in, outcomes_of, Genesis, Lock, Finish, Start, Prepare, Commit, Discard}
 use Rattle.cbdc_model.specs.Slots.{Phase, Idle, InLock, InFinish, InPrepare, InCommit, InDiscard}
 use Rattle.cbdc_model.specs.Grammar.{IsInGrammar}
 use Rattle.ledger_laws.proofs.Kinds.{found_prepare, found_commit, found_discard}
@@ -21,23 +21,11 @@ of_shard h (Lock stamp b es) g p = g.2.0
 of_shard h (Finish stamp b ds) g p = g.2.0
 of_shard h other g p = absurd p
 
-early : (t : ℕ) → t ≤ 2 ^ 62 → t < 2 ^ 63
-early t le = omega (arith, le)
-
-later : (t : ℕ) → t ≤ 2 ^ 62 + 2 ^ 20 → t < 2 ^ 63
-later t le = omega (arith, le)
-
 -- stamps are within their bound
 pub stamp_fits : (h : Header) (r : Record) → IsInGrammar h r → stamp_of r < 2 ^ 63
 stamp_fits h (Genesis header hs) g = omega arith
 stamp_fits h (Start header) g = omega arith
-stamp_fits h (Lock stamp b es) g = early stamp g.0.1
-stamp_fits h (Finish stamp b ds) g = later stamp g.0.1
-stamp_fits h (Forget stamp b) g = later stamp g.0.1
-stamp_fits h (Prepare stamp b txs) g = early stamp g.0.1
-stamp_fits h (Commit stamp b os) g = later stamp g.0.1
-stamp_fits h (Discard stamp b) g = later stamp g.0.1
-stamp_fits h (Done stamp b) g = later stamp g.0.1
+stamp_fits h other g = omega (arith, g.0)
 
 module _ (J : List Record) (b : Batch) where
   pub prepare_stands : is_some (record_of 6 J b) ≡ true → (stamp : ℕ) × (record_of 6 J b ≡ Some (Prepare stamp b (txs_of J b)))

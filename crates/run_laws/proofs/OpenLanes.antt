@@ -1,6 +1,6 @@
 -- In kept journals a lane that is not idle at its coordinator is open there as recovery wants it.
 use Rattle.std.proofs.Common.{◌≡◌, ◌⊎◌, inl, inr, ℕ, suc, ◌^◌, ◌<◌, ◌≤◌, Bool, true, false, ◌&&◌, ◌==◌, not, nat_lt, List, [], ◌∷◌, ◌++◌, length, Option, Some, None, is_some, refl, sym, ap, ◌∙◌, subst, arith}
-use Rattle.cbdc_model.specs.Records.{Shape, Batch, same_batch, Compact, Entry, Answered, Record, Row, journal, record_of, is_in_lane, lock_of, txs_of, outcomes_of, stamp_in, stamp_of, Genesis, Lock, Finish, Forget, Start, Prepare, Commit, Discard, Done}
+use Rattle.cbdc_model.specs.Records.{Shape, Batch, same_batch, Compact, Entry, Answered, Record, Row, journal, record_of, is_in_lane, lock_of, txs_of, outcomes_of, stamp_in, stamp_of, Forget, Prepare, Commit, Discard, Done}
 use Rattle.cbdc_model.specs.Slots.{Phase, slot, slot_stamp, Idle, InLock, InFinish, InPrepare, InCommit, InDiscard}
 use Rattle.cbdc_model.specs.Grammar.{IsInGrammar}
 use Rattle.cbdc_model.specs.Replies.{entries}
@@ -216,13 +216,7 @@ module _ (K : Shape) (minting : Minted) (P : Compact → Type 0) (some : 0 < K.s
           of_record (Done stamp d) e l m i =
               absurd (true_false _ ((all_phases K minting P some later kept (shard_node K s)).done_prepared b (ap is_some (last_found (S s) 9 b (Done stamp d) e (both_same d b l m)))).0
               ((all_dones K minting P some later kept (shard_node K s)).pure b (omega arith)))
-          of_record (Genesis header hs) e l m i = absurd (let z : false ≡ true = l in cc)
-          of_record (Start header) e l m i = absurd (let z : false ≡ true = l in cc)
-          of_record (Lock stamp d es) e l m i = absurd (let z : InLock ≡ Idle = i in cc)
-          of_record (Finish stamp d ds) e l m i = absurd (let z : InFinish ≡ Idle = i in cc)
-          of_record (Prepare stamp d txs) e l m i = absurd (let z : InPrepare ≡ Idle = i in cc)
-          of_record (Commit stamp d os) e l m i = absurd (let z : InCommit ≡ Idle = i in cc)
-          of_record (Discard stamp d) e l m i = absurd (let z : InDiscard ≡ Idle = i in cc)
+          of_record other e l m i = cc
 
     -- ---- how far a concerned shard has come
 

@@ -1,9 +1,8 @@
 -- No stamp is above the greatest one before by more than the number of records that have come.
-use Rattle.std.proofs.Common.{◌≡◌, ◌⊎◌, inl, inr, ℕ, zero, suc, ◌+◌, ◌-◌, ◌<◌, ◌≤◌, List, [], ◌∷◌, ◌++◌, length, refl, sym, ap, ◌∙◌, subst, arith, append_assoc}
+use Rattle.std.proofs.Common.{◌≡◌, ◌⊎◌, inl, inr, ℕ, suc, ◌+◌, ◌-◌, ◌<◌, ◌≤◌, List, [], ◌∷◌, ◌++◌, length, refl, sym, ap, ◌∙◌, subst, arith, append_assoc}
 use Rattle.std.proofs.lemmas.List.{length-append}
-use Rattle.cbdc_model.specs.Records.{Shape, Batch, Compact, Record, Row, journal, record_of, stamp_of, stamp_in, last_stamp, Genesis, Lock, Finish, Forget, Start, Prepare, Commit, Discard, Done}
-use Rattle.cbdc_model.specs.Ranges.{home_of, shard_node}
-use Rattle.cbdc_model.specs.Causes.{greatest, at_shards, IsCaused}
+use Rattle.cbdc_model.specs.Records.{Shape, Batch, Compact, Record, Row, journal, record_of, stamp_of, stamp_in, last_stamp, Genesis, Start}
+use Rattle.cbdc_model.specs.Causes.{IsCaused}
 use Rattle.cbdc_model.specs.History.{Minted, first_rows}
 use Rattle.cbdc_model.specs.Lanes.{IsEnd, first_of}
 use Rattle.ledger_laws.proofs.Next.{Steady}
@@ -15,6 +14,7 @@ use Rattle.ledger_laws.proofs.HistoryLaws.{journal-append}
 use Rattle.ledger_laws.proofs.Cuts.{end_trans}
 use Rattle.run_laws.proofs.Sums.{sum_below, sum_le, sum_more}
 use Rattle.run_laws.proofs.Numbers.{lists, further}
+use Rattle.run_laws.proofs.WorldStamps.{caused_le}
 
 first_stamp : (J : List Record) → AllFirst J → last_stamp J ≡ 0
 first_stamp [] f = refl
@@ -22,24 +22,9 @@ first_stamp (Genesis header hs ∷ J) f = refl
 first_stamp (Start header ∷ J) f = refl
 first_stamp (other ∷ J) f = absurd f.0
 
-greatest_most : (f : ℕ → ℕ) (n bound : ℕ) → ((k : ℕ) → f k ≤ bound) → greatest f n ≤ bound
-greatest_most f zero bound all = omega arith
-greatest_most f (suc n) bound all = let here : f n ≤ bound = all n in let rest : greatest f n ≤ bound = greatest_most f n bound all in omega arith
-
 -- a record's stamp is at most one more than the greatest before it
 caused_most : (K : Shape) (J : ℕ → List Record) (n bound : ℕ) (r : Record) → ((k : ℕ) → last_stamp (J k) ≤ bound) → ((k kind : ℕ) (b : Batch) → stamp_in (record_of kind (J k) b) ≤ bound) → IsCaused K J n r → stamp_of r ≤ suc bound
-caused_most K J n bound (Genesis header hs) lasts finds c = omega arith
-caused_most K J n bound (Start header) lasts finds c = omega arith
-caused_most K J n bound (Prepare stamp b txs) lasts finds c = omega (arith, c, lasts n)
-caused_most K J n bound (Lock stamp b es) lasts finds c = omega (arith, c.2, lasts n, finds (home_of K b.lane) 6 b)
-caused_most K J n bound (Finish stamp b ds) lasts finds c = omega (arith, c.2, lasts n, finds (home_of K b.lane) 7 b)
-caused_most K J n bound (Forget stamp b) lasts finds c = omega (arith, c.1, lasts n, finds (home_of K b.lane) 8 b)
-caused_most K J n bound (Commit stamp b os) lasts finds c =
-    omega (arith, c.2, lasts n, greatest_most (λ s. stamp_in (at_shards K J 2 b s)) K.shards bound (λ s. finds (shard_node K s) 2 b))
-caused_most K J n bound (Discard stamp b) lasts finds c =
-    omega (arith, c.1, lasts n, greatest_most (λ s. stamp_in (at_shards K J 3 b s)) K.shards bound (λ s. finds (shard_node K s) 3 b))
-caused_most K J n bound (Done stamp b) lasts finds c =
-    omega (arith, c.1, lasts n, greatest_most (λ s. stamp_in (at_shards K J 4 b s)) K.shards bound (λ s. finds (shard_node K s) 4 b))
+caused_most K J n bound r lasts finds c = caused_le K J n bound r lasts (λ kind m b. finds m kind b) c
 
 -- of two beginnings of a list the shorter is one of the longer
 shorter : {A : Type 0} (a b : List A) (U V : List A) → a ++ U ≡ b ++ V → length U ≤ length V → (more : List A) × (V ≡ more ++ U)

@@ -8,6 +8,7 @@ use Rattle.ledger_laws.proofs.Next.{Steady}
 use Rattle.ledger_laws.proofs.Rows.{at, away, at_node, head_at, head_away}
 use Rattle.ledger_laws.proofs.First.{AllFirst, journal_first, all_first}
 use Rattle.ledger_laws.proofs.Repeats.{all_order}
+pub use Rattle.ledger_laws.proofs.Kinds.{lane_in}
 use Rattle.run_laws.proofs.Codes.{code_of}
 
 greatest_le : (f : ℕ → ℕ) (top n : ℕ) → ((s : ℕ) → f s ≤ top) → greatest f n ≤ top
@@ -29,18 +30,6 @@ caused_le K J n top (Discard stamp b) low all c =
     omega (arith, low n, greatest_le (λ s. stamp_in (at_shards K J 3 b s)) top K.shards (λ s. all 3 (shard_node K s) b), c.1)
 caused_le K J n top (Done stamp b) low all c =
     omega (arith, low n, greatest_le (λ s. stamp_in (at_shards K J 4 b s)) top K.shards (λ s. all 4 (shard_node K s) b), c.1)
-
--- a record's lane
-abbrev pub lane_in : Record → ℕ
-lane_in (Genesis header hs) = 0
-lane_in (Start header) = 0
-lane_in (Lock stamp b es) = b.lane
-lane_in (Finish stamp b ds) = b.lane
-lane_in (Forget stamp b) = b.lane
-lane_in (Prepare stamp b txs) = b.lane
-lane_in (Commit stamp b os) = b.lane
-lane_in (Discard stamp b) = b.lane
-lane_in (Done stamp b) = b.lane
 
 abbrev pub is_late : Record → Bool
 is_late r = nat_lt (2 ^ 62) (stamp_of r)
