@@ -1,7 +1,7 @@
 -- Of a sound history the unspent hashes are those of its last book.
 use Rattle.std.proofs.Common.{◌≡◌, ◌⊎◌, inl, inr, ℕ, suc, ◌+◌, ◌-◌, ◌<◌, ◌≤◌, min, true, false, ◌&&◌, ◌==◌, List, [], ◌∷◌, ◌++◌, map, length, Option, Some, None, refl, sym, ap, ◌∙◌, subst, arith}
 use Rattle.cbdc_model.specs.Causes.{IsCaused}
-use Rattle.cbdc_model.specs.Records.{Digest, Shape, Batch, Compact, Record, Row, journal, kind_of, is_of, Genesis, Lock, Finish, Forget, Start, Prepare, Commit, Discard, Done, lock_of, txs_of, outcomes_of}
+use Rattle.cbdc_model.specs.Records.{Digest, Shape, Batch, Compact, Record, Row, journal, kind_of, is_of, Genesis, Lock, Finish, Start, Prepare, Commit, lock_of, txs_of, outcomes_of}
 use Rattle.cbdc_model.specs.Ranges.{shard_of, shard_node, journal_at, lane_journal, home_of, Concerned}
 use Rattle.cbdc_model.specs.Status.{status, held_inputs, Unspent, Locked, Absent}
 use Rattle.cbdc_model.specs.Coins.{Output, Coin, FullTx, tx_coins, genesis_tx, genesis_hashes, compact}
@@ -19,8 +19,8 @@ use Rattle.ledger_laws.proofs.View.{Inv, Awaited}
 use Rattle.ledger_laws.proofs.LockStep.{lock_kept}
 use Rattle.ledger_laws.proofs.FinishStep.{finish_kept}
 use Rattle.ledger_laws.proofs.CommitStep.{Apart}
-use Rattle.ledger_laws.proofs.Rows.{view, at, away, at_node, head_at, head_away}
-use Rattle.ledger_laws.proofs.Steps.{forget_view, discard_view, done_view, prepare_view, newly, commit_changes, finish_changes}
+use Rattle.ledger_laws.proofs.Rows.{view, quiet_view, at, away, at_node, head_at, head_away}
+use Rattle.ledger_laws.proofs.Steps.{prepare_view, newly, commit_changes, finish_changes}
 use Rattle.ledger_laws.proofs.First.{first_inv}
 use Rattle.ledger_laws.proofs.Lookups.{true_false, shard_of-lt}
 use Rattle.ledger_laws.proofs.Folds.{hashes_of}
@@ -179,18 +179,14 @@ module _ (K : Shape) (mint : List Output) (handed : List FullTx) (clean : Clean 
       (finish_changes K Any (whole later) st node stamp b ds next caused)
       (λ x. let t : count x (all_inputs (won_of K (whole later) b)) ≤ 1 = omega (arith, inv.takes_le x b, inv.spent_le x, inv.arrived_le x, inv.made_once x) in t)
       (λ x u n. finish_exact K (minted mint) Any shards later kept node stamp b ds next caused x n))
-  inv_next later kept node (Forget stamp b) next caused once covered inv =
-      subst (λ v. Inv genesis Never (capped v)) (sym (forget_view K Any (whole later) (all_structure K (minted mint) Any shards later kept) node stamp b)) inv
   inv_next later kept node (Prepare stamp b txs) next caused once covered inv =
       subst (λ v. Inv genesis Never (capped v)) (sym (prepare_view K Any (whole later) (all_structure K (minted mint) Any shards later kept) node stamp b txs next)) inv
   inv_next later kept node (Commit stamp b os) next caused once covered inv =
       let st = all_structure K (minted mint) Any shards later kept in
       capped_commit genesis Any (view K (whole later)) (view K (record { node = node; what = Commit stamp b os } ∷ whole later)) inv b
       (newly K Any (whole later) st node stamp b os shards next caused) (commit_changes K Any (whole later) st node stamp b os shards next caused) once covered
-  inv_next later kept node (Discard stamp b) next caused once covered inv =
-      subst (λ v. Inv genesis Never (capped v)) (sym (discard_view K Any (whole later) (all_structure K (minted mint) Any shards later kept) node stamp b)) inv
-  inv_next later kept node (Done stamp b) next caused once covered inv =
-      subst (λ v. Inv genesis Never (capped v)) (sym (done_view K Any (whole later) (all_structure K (minted mint) Any shards later kept) node stamp b)) inv
+  inv_next later kept node other next caused once covered inv = subst (λ v. Inv genesis Never (capped v)) (sym (quiet_view K (whole later) (record { node = node; what = other })
+      (λ J c. refl) (λ J c. refl) (λ J x. refl) (λ J x. refl) (λ J c. refl) (λ J c. refl) refl)) inv
 
   all_inv : (later : List Row) → Steady K (minted mint) Any later → (b : Book) → AreSpent mint handed (committed (whole later)) b → EachSpends (committed (whole later))
       → Inv genesis Never (capped (view K (whole later)))

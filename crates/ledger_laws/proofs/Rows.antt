@@ -1,8 +1,9 @@
 -- A history as a view, and how its journals change by a row.
 use Rattle.std.proofs.Common.{◌≡◌, ℕ, ◌+◌, true, false, ◌==◌, if◌then◌else◌, List, [], ◌∷◌, ◌++◌, refl, ap, ◌∙◌, subst, arith, append-nil}
 use Rattle.cbdc_model.specs.History.{won_of, committed, newly_won, all_inputs, all_outputs}
+use Rattle.cbdc_model.specs.Outcomes.{won_txs}
 use Rattle.cbdc_model.specs.Ranges.{shard_of, shard_node, journal_at, lane_journal, part}
-use Rattle.cbdc_model.specs.Records.{Digest, Shape, Batch, Compact, Record, Row, journal, Genesis, Finish, lock_of, txs_of}
+use Rattle.cbdc_model.specs.Records.{Digest, Shape, Batch, Compact, Record, Row, journal, Genesis, Finish, lock_of, txs_of, outcomes_of}
 use Rattle.cbdc_model.specs.Replies.{entries}
 use Rattle.cbdc_model.specs.Status.{status, held_inputs, made_outputs}
 use Rattle.ledger_laws.proofs.Next.{Next, has_lock, has_finish, has_prepare, has_commit, Each}
@@ -82,6 +83,16 @@ module _ (K : Shape) (past : List Row) (row : Row)
       finished = λ b x. unchanged (λ J. has_finish J b) (shard_node K (shard_of K.shards x)) row past (same_finish (journal (shard_node K (shard_of K.shards x)) past) b) i;
       holds = λ b x. count x (held_inputs (unchanged (λ J. lock_of J b) (shard_node K (shard_of K.shards x)) row past (same_lock (journal (shard_node K (shard_of K.shards x)) past) b) i));
     }
+
+-- and so do those that no question about a journal looks at
+pub quiet_view : (K : Shape) (past : List Row) (row : Row) → ((J : List Record) (b : Batch) → lock_of (row.what ∷ J) b ≡ lock_of J b)
+    → ((J : List Record) (b : Batch) → has_finish (row.what ∷ J) b ≡ has_finish J b) → ((J : List Record) (x : Digest) → status (row.what ∷ J) x ≡ status J x)
+    → ((J : List Record) (x : Digest) → arrived (row.what ∷ J) x ≡ arrived J x) → ((J : List Record) (b : Batch) → txs_of (row.what ∷ J) b ≡ txs_of J b)
+    → ((J : List Record) (b : Batch) → outcomes_of (row.what ∷ J) b ≡ outcomes_of J b) → newly_won row.what (journal row.node past) ≡ []
+    → view K (row ∷ past) ≡ view K past
+quiet_view K past row locks finishes statuses arrivals txs outs none = same_view K past row locks finishes statuses arrivals
+    (λ b i. won_txs (unchanged (λ J. txs_of J b) (b.lane / K.lanes) row past (txs (lane_journal K past b) b) i)
+    (unchanged (λ J. outcomes_of J b) (b.lane / K.lanes) row past (outs (lane_journal K past b) b) i)) none
 
 -- whether a row stands in a node's journal
 pub data AtNode (m n : ℕ) : Type 0 where

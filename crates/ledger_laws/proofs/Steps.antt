@@ -5,18 +5,18 @@ use Rattle.cbdc_model.specs.Causes.{IsCaused}
 use Rattle.cbdc_model.specs.History.{won_of, committed, all_inputs, all_outputs}
 use Rattle.cbdc_model.specs.Outcomes.{won_txs, won_at, decisions, reply_at}
 use Rattle.cbdc_model.specs.Ranges.{shard_of, shard_node, journal_at, lane_journal, part, is_no_part, on_shard, is_empty}
-use Rattle.cbdc_model.specs.Records.{Digest, Shape, Batch, same_batch, Compact, Outcome, Answered, Entry, Reply, Record, Row, journal, is_held, is_won, Genesis, Lock, Finish, Forget, Start, Prepare, Commit, Discard, Done, lock_of, txs_of, outcomes_of}
+use Rattle.cbdc_model.specs.Records.{Digest, Shape, Batch, same_batch, Compact, Outcome, Answered, Entry, Reply, Record, Row, journal, is_held, is_won, Genesis, Lock, Finish, Start, Prepare, Commit, lock_of, txs_of, outcomes_of}
 use Rattle.cbdc_model.specs.Replies.{entries}
 use Rattle.cbdc_model.specs.Status.{Status, status, has, held_inputs, made_outputs, taken_inputs, returned_inputs, finished_status, Unspent, Locked, Absent}
 use Rattle.ledger_laws.proofs.Next.{Next, has_lock, has_finish, has_commit, Each}
 use Rattle.ledger_laws.proofs.Counts.{count, count-append, has-count, count-has}
 use Rattle.ledger_laws.proofs.Parts.{IsPart, is_part, won_by, won_by-won_txs, decided, count-made, count-taken, count-held, agrees, won-le-held, outcome_held, won_at-outcomes}
 use Rattle.ledger_laws.proofs.Replies.{answered_held, answered_once, EachOnce}
-use Rattle.ledger_laws.proofs.View.{Inv, same, other, same_or_not}
+use Rattle.ledger_laws.proofs.View.{View, Inv, same, other, same_or_not}
 use Rattle.ledger_laws.proofs.LockStep.{Locks, lock_kept}
 use Rattle.ledger_laws.proofs.CommitStep.{Commits, Apart, commit_kept}
 use Rattle.ledger_laws.proofs.FinishStep.{Finishes, FinishesAt, here, elsewhere, finish_kept}
-use Rattle.ledger_laws.proofs.Rows.{Structure, unchanged, view, same_view, arrived, at, away, at_node, head_at, head_away}
+use Rattle.ledger_laws.proofs.Rows.{Structure, unchanged, view, same_view, quiet_view, arrived, at, away, at_node, head_at, head_away}
 use Rattle.ledger_laws.proofs.Lookups.{no_lock, no_commit, not_true, true_false, won_txs-nil, shard_of-lt}
 
 abbrev locks_at : Shape → List Row → Batch → ℕ → List Answered
@@ -26,22 +26,6 @@ module _ (K : Shape) (P : Compact → Type 0) (past : List Row) (st : Structure 
   -- a batch that is prepared and has no Commit yet
   no_finish : (b : Batch) → has_commit (lane_journal K past b) b ≡ false → (n : ℕ) → has_finish (journal n past) b ≡ false
   no_finish b h n = not_true _ (λ f. true_false _ (st.finish_committed n b f) h)
-
-  -- Forget, Discard, Done
-  pub forget_view : (node stamp : ℕ) (b : Batch) → view K (record { node = node; what = Forget stamp b } ∷ past) ≡ view K past
-  forget_view node stamp b = same_view K past (record { node = node; what = Forget stamp b }) (λ J c. refl) (λ J c. refl) (λ J x. refl) (λ J x. refl)
-      (λ c i. won_txs (unchanged (λ J. txs_of J c) (c.lane / K.lanes) (record { node = node; what = Forget stamp b }) past refl i)
-      (unchanged (λ J. outcomes_of J c) (c.lane / K.lanes) (record { node = node; what = Forget stamp b }) past refl i)) refl
-
-  pub discard_view : (node stamp : ℕ) (b : Batch) → view K (record { node = node; what = Discard stamp b } ∷ past) ≡ view K past
-  discard_view node stamp b = same_view K past (record { node = node; what = Discard stamp b }) (λ J c. refl) (λ J c. refl) (λ J x. refl) (λ J x. refl)
-      (λ c i. won_txs (unchanged (λ J. txs_of J c) (c.lane / K.lanes) (record { node = node; what = Discard stamp b }) past refl i)
-      (unchanged (λ J. outcomes_of J c) (c.lane / K.lanes) (record { node = node; what = Discard stamp b }) past refl i)) refl
-
-  pub done_view : (node stamp : ℕ) (b : Batch) → view K (record { node = node; what = Done stamp b } ∷ past) ≡ view K past
-  done_view node stamp b = same_view K past (record { node = node; what = Done stamp b }) (λ J c. refl) (λ J c. refl) (λ J x. refl) (λ J x. refl)
-      (λ c i. won_txs (unchanged (λ J. txs_of J c) (c.lane / K.lanes) (record { node = node; what = Done stamp b }) past refl i)
-      (unchanged (λ J. outcomes_of J c) (c.lane / K.lanes) (record { node = node; what = Done stamp b }) past refl i)) refl
 
   -- Prepare: the batch is new, so it has no Commit
   module _ (node stamp : ℕ) (b : Batch) (txs : List Compact) (next : Next K node (journal node past) (Prepare stamp b txs)) where
@@ -413,22 +397,32 @@ module _ (K : Shape) (P : Compact → Type 0) (past : List Row) (st : Structure 
       holds = λ c x. ap (λ a. count x (held_inputs a)) (unchanged (λ J. lock_of J c) (shard_node K (shard_of K.shards x)) (record { node = node; what = Finish stamp b ds }) past refl);
     }
 
+-- what a row that is next and caused does to the view: nothing, or what its Lock, its Commit or its Finish does
+pub data ViewStep (P : Compact → Type 0) (v w : View) : Type 0 where
+  no_change : w ≡ v → ViewStep P v w
+  by_lock : (b : Batch) (held : Digest → ℕ) → Locks v w b held → ViewStep P v w
+  by_commit : (b : Batch) (ts : List Compact) → Commits P v w b ts → ViewStep P v w
+  by_finish : (b : Batch) → Finishes v w b → ViewStep P v w
+
+pub view_step : (K : Shape) (P : Compact → Type 0) {genesis : Digest → ℕ} (past : List Row) → 0 < K.shards → Apart genesis P → Structure K P past
+    → (node : ℕ) (r : Record) → Next K node (journal node past) r → IsCaused K (λ n. journal n past) node r → ViewStep P (view K past) (view K (record { node = node; what = r } ∷ past))
+view_step K P past shards apart st node (Genesis header hs) next caused = absurd next
+view_step K P past shards apart st node (Start header) next caused = absurd next
+view_step K P past shards apart st node (Lock stamp b es) next caused =
+    by_lock b (newly_held K P past st apart node stamp b es next caused) (lock_changes K P past st apart node stamp b es next caused)
+view_step K P past shards apart st node (Finish stamp b ds) next caused = by_finish b (finish_changes K P past st node stamp b ds next caused)
+view_step K P past shards apart st node (Prepare stamp b txs) next caused = no_change (prepare_view K P past st node stamp b txs next)
+view_step K P past shards apart st node (Commit stamp b os) next caused =
+    by_commit b (newly K P past st node stamp b os shards next caused) (commit_changes K P past st node stamp b os shards next caused)
+view_step K P past shards apart st node another next caused =
+    no_change (quiet_view K past (record { node = node; what = another }) (λ J c. refl) (λ J c. refl) (λ J x. refl) (λ J x. refl) (λ J c. refl) (λ J c. refl) refl)
+
 -- any row that is next and caused keeps the invariant
 pub inv_next : (K : Shape) (P : Compact → Type 0) (genesis : Digest → ℕ) (past : List Row) → 0 < K.shards → Apart genesis P → Structure K P past → Inv genesis P (view K past)
     → (node : ℕ) (r : Record) → Next K node (journal node past) r → IsCaused K (λ n. journal n past) node r → Inv genesis P (view K (record { node = node; what = r } ∷ past))
-inv_next K P genesis past shards apart st inv node (Genesis header hs) next caused = absurd next
-inv_next K P genesis past shards apart st inv node (Start header) next caused = absurd next
-inv_next K P genesis past shards apart st inv node (Lock stamp b es) next caused =
-    lock_kept inv b (newly_held K P past st apart node stamp b es next caused) (lock_changes K P past st apart node stamp b es next caused)
-inv_next K P genesis past shards apart st inv node (Finish stamp b ds) next caused =
-    finish_kept inv b (finish_changes K P past st node stamp b ds next caused)
-inv_next K P genesis past shards apart st inv node (Forget stamp b) next caused =
-    subst (λ v. Inv genesis P v) (sym (forget_view K P past st node stamp b)) inv
-inv_next K P genesis past shards apart st inv node (Prepare stamp b txs) next caused =
-    subst (λ v. Inv genesis P v) (sym (prepare_view K P past st node stamp b txs next)) inv
-inv_next K P genesis past shards apart st inv node (Commit stamp b os) next caused =
-    commit_kept apart inv b (newly K P past st node stamp b os shards next caused) (commit_changes K P past st node stamp b os shards next caused)
-inv_next K P genesis past shards apart st inv node (Discard stamp b) next caused =
-    subst (λ v. Inv genesis P v) (sym (discard_view K P past st node stamp b)) inv
-inv_next K P genesis past shards apart st inv node (Done stamp b) next caused =
-    subst (λ v. Inv genesis P v) (sym (done_view K P past st node stamp b)) inv
+inv_next K P genesis past shards apart st inv node r next caused = elim (view_step K P past shards apart st node r next caused) [
+  | no_change e ↦ subst (λ v. Inv genesis P v) (sym e) inv
+  | by_lock b held step ↦ lock_kept inv b held step
+  | by_commit b ts step ↦ commit_kept apart inv b ts step
+  | by_finish b step ↦ finish_kept inv b step
+]
