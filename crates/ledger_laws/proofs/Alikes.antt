@@ -7,8 +7,8 @@ use Rattle.cbdc_model.specs.Records.{Shape, Batch, Compact, Record, Row, journal
 use Rattle.cbdc_model.specs.Replies.{entries}
 use Rattle.cbdc_model.specs.World.{count_of, IsAlike, Alike}
 use Rattle.ledger_laws.proofs.Ledger.{SteadyJournals}
-pub use Rattle.ledger_laws.proofs.Kinds.{found_passes}
-use Rattle.ledger_laws.proofs.Kinds.{found_finish}
+pub use Rattle.ledger_laws.proofs.ByKind.{found_passes}
+use Rattle.ledger_laws.proofs.ByKind.{found_finish}
 use Rattle.ledger_laws.proofs.Next.{Next, has_lock, has_finish, has_prepare, has_forget, Steady}
 use Rattle.ledger_laws.proofs.Slots.{JournalOk}
 use Rattle.ledger_laws.proofs.More.{MoreOk}

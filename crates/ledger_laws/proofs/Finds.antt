@@ -8,7 +8,7 @@ use Rattle.cbdc_model.specs.Records.{Shape, Batch, Compact, Record, record_of, k
 use Rattle.cbdc_model.specs.World.{replaced}
 use Rattle.ledger_laws.proofs.Ledger.{SteadyLists}
 use Rattle.ledger_laws.proofs.Next.{Next, has_lock, has_prepare}
-use Rattle.ledger_laws.proofs.Kinds.{test_batch, found_new, not_of_first}
+use Rattle.ledger_laws.proofs.ByKind.{test_batch, found_new, not_of_first}
 use Rattle.ledger_laws.proofs.Slots.{JournalOk, next_ok}
 use Rattle.ledger_laws.proofs.More.{MoreOk, next_more}
 use Rattle.ledger_laws.proofs.Dones.{PhaseOk, next_phase}

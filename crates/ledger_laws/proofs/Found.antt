@@ -13,8 +13,8 @@ use Rattle.ledger_laws.proofs.Rows.{at, away, at_node, head_at, head_away}
 use Rattle.ledger_laws.proofs.Lookups.{true_false}
 use Rattle.ledger_laws.proofs.First.{journal_first, all_first}
 use Rattle.ledger_laws.proofs.Moves.{none_of}
-pub use Rattle.ledger_laws.proofs.Kinds.{found_new}
-use Rattle.ledger_laws.proofs.Kinds.{test_step, some_is, found_lock}
+pub use Rattle.ledger_laws.proofs.ByKind.{found_new}
+use Rattle.ledger_laws.proofs.ByKind.{test_step, some_is, found_lock}
 use Rattle.ledger_laws.proofs.Recovered.{all_dones, all_phases}
 use Rattle.ledger_laws.proofs.Last as last
 use Rattle.ledger_laws.proofs.Phases.{in_order}

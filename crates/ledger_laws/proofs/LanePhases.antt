@@ -11,7 +11,7 @@ use Rattle.ledger_laws.proofs.Next.{Steady}
 use Rattle.ledger_laws.proofs.Slots.{JournalOk}
 use Rattle.ledger_laws.proofs.Dones.{PhaseOk}
 use Rattle.ledger_laws.proofs.Rows.{at, away, at_node}
-use Rattle.ledger_laws.proofs.Kinds.{test_kind, found_passes, found_prepare, found_commit, found_discard}
+use Rattle.ledger_laws.proofs.ByKind.{test_kind, found_passes, found_prepare, found_commit, found_discard}
 use Rattle.ledger_laws.proofs.Moves.{all_structure}
 use Rattle.ledger_laws.proofs.Recovered.{all_dones, all_phases}
 use Rattle.ledger_laws.proofs.Reaching.{run-append}

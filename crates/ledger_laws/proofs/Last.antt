@@ -2,7 +2,7 @@
 use Rattle.std.proofs.Common.{◌≡◌, ◌⊎◌, inl, inr, ℕ, Bool, true, false, cond, ◌&&◌, ◌==◌, if◌then◌else◌, List, [], ◌∷◌, Option, Some, None, is_some, find, refl, sym, ap, ◌∙◌, subst, arith}
 use Rattle.cbdc_model.specs.Records.{Batch, Record, record_of, kind_of, is_of, is_in_lane, stamp_of, stamp_in, Genesis, Lock, Finish, Forget, Start, Prepare, Commit, Discard, Done}
 use Rattle.cbdc_model.specs.Slots.{Phase, Slot, slot, slot_stamp, Idle, InLock, InFinish, InPrepare, InCommit, InDiscard}
-use Rattle.ledger_laws.proofs.Kinds.{some_is, of_in_lane}
+use Rattle.ledger_laws.proofs.ByKind.{some_is, of_in_lane}
 
 abbrev pub last_of : List Record → ℕ → Option Record
 last_of J lane = find (λ r. is_in_lane lane r) J

@@ -18,7 +18,7 @@ use Rattle.ledger_laws.proofs.View.{same_batch_is}
 use Rattle.ledger_laws.proofs.Lookups.{true_false}
 use Rattle.ledger_laws.proofs.First.{journal_first, all_first}
 use Rattle.ledger_laws.proofs.Moves.{none_of, not_empty, all_structure, all_more}
-use Rattle.ledger_laws.proofs.Kinds.{split_test, test_batch, test_step, some_is, found_new, found_passes, found_prepare}
+use Rattle.ledger_laws.proofs.ByKind.{split_test, test_batch, test_step, some_is, found_new, found_passes, found_prepare}
 use Rattle.ledger_laws.proofs.Standing.{Facts, standing}
 use Rattle.ledger_laws.proofs.Recovered.{all_dones, all_phases}
 use Rattle.ledger_laws.proofs.Repeats.{all_order}

@@ -1,5 +1,5 @@
 pub mod Next
-pub mod Kinds
+pub mod ByKind
 pub mod Counts
 pub mod Parts
 pub mod Replies

@@ -9,7 +9,7 @@ use Rattle.ledger_laws.proofs.Ledger.{EachSteady}
 use Rattle.ledger_laws.proofs.Next.{Next, Steady}
 use Rattle.ledger_laws.proofs.Rows.{at, away, at_node, head_at, head_away}
 use Rattle.ledger_laws.proofs.Members.{In}
-use Rattle.ledger_laws.proofs.Kinds.{test_step, found_new}
+use Rattle.ledger_laws.proofs.ByKind.{test_step, found_new}
 use Rattle.ledger_laws.proofs.Moves.{SameCauses, caused_same, greatest_bound, in_range}
 use Rattle.ledger_laws.proofs.OneHistory.{above_all}
 

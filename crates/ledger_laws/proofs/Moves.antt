@@ -10,8 +10,8 @@ use Rattle.cbdc_model.specs.Slots.{slot, Idle, InFinish}
 use Rattle.ledger_laws.proofs.Next.{Next, has_lock, Steady}
 use Rattle.ledger_laws.proofs.Slots.{JournalOk}
 use Rattle.ledger_laws.proofs.More.{MoreOk, next_more}
-pub use Rattle.ledger_laws.proofs.Kinds.{split_test, test_step}
-use Rattle.ledger_laws.proofs.Kinds.{test_kind, test_batch, not_of_first}
+pub use Rattle.ledger_laws.proofs.ByKind.{split_test, test_step}
+use Rattle.ledger_laws.proofs.ByKind.{test_kind, test_batch, not_of_first}
 use Rattle.ledger_laws.proofs.Rows.{Structure, at, away, at_node, head_at, head_away}
 use Rattle.ledger_laws.proofs.Keeps.{keeps}
 use Rattle.ledger_laws.proofs.Lookups.{true_false, not_true}

@@ -17,7 +17,7 @@ use Rattle.ledger_laws.proofs.Lookups.{true_false}
 use Rattle.ledger_laws.proofs.First.{AllFirst, journal_first, all_first}
 use Rattle.ledger_laws.proofs.Moves.{all_structure}
 use Rattle.ledger_laws.proofs.Order.{OrderOk}
-use Rattle.ledger_laws.proofs.Kinds.{found_finish}
+use Rattle.ledger_laws.proofs.ByKind.{found_finish as finish_found}
 use Rattle.ledger_laws.proofs.Standing.{standing}
 use Rattle.ledger_laws.proofs.Repeats.{all_order}
 
@@ -182,7 +182,7 @@ module _ (K : Shape) (minting : Minted) (P : Compact → Type 0) (shards : 0 < K
 
     finished : has_finish J b ≡ true → Finished
     finished h =
-        let f = found_finish J b h in
+        let f = finish_found J b h in
         let g = standing K minting P shards later kept (shard_node K (shard_of K.shards x)) 3 b (Finish f.0 b f.1) f.2 in
         record {
           lock = g.1;

@@ -4,7 +4,7 @@ use Rattle.cbdc_model.specs.Records.{Shape, Batch, Record, record_of, kind_of, i
 use Rattle.cbdc_model.specs.Slots.{slot}
 use Rattle.ledger_laws.proofs.Next.{Next}
 use Rattle.ledger_laws.proofs.Slots.{JournalOk}
-use Rattle.ledger_laws.proofs.Kinds.{split_test, test_kind, test_step, found_new, after_stamp}
+use Rattle.ledger_laws.proofs.ByKind.{split_test, test_kind, test_step, found_new, after_stamp}
 
 pub record OrderOk (J : List Record) : Type 0 where
   pub stamps_le : (kind : ℕ) (b : Batch) → stamp_in (record_of kind J b) ≤ last_stamp J

@@ -10,7 +10,7 @@ use Rattle.ledger_laws.specs.Phases.{IsInPhaseOrder, IsAfterEarlier}
 use Rattle.ledger_laws.specs.Laws.{PhaseLaw}
 use Rattle.ledger_laws.proofs.Next.{Steady}
 use Rattle.ledger_laws.proofs.Moves.{all_structure}
-use Rattle.ledger_laws.proofs.Kinds.{found_lock, found_finish, found_forget, found_commit, found_discard, found_done}
+use Rattle.ledger_laws.proofs.ByKind.{found_lock, found_finish, found_forget, found_commit, found_discard, found_done}
 use Rattle.ledger_laws.proofs.Standing.{AllOlder, standing}
 use Rattle.ledger_laws.proofs.Recovered.{all_dones}
 use Rattle.ledger_laws.proofs.Repeats.{all_order}

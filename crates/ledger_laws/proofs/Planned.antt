@@ -12,7 +12,7 @@ use Rattle.cbdc_model.specs.Causes.{IsCaused}
 use Rattle.cbdc_model.specs.History.{header_of}
 use Rattle.cbdc_model.specs.World.{ShardCall, Lock_call, Finish_call, Forget_call, appends, record_for, CauseStands}
 use Rattle.ledger_laws.proofs.Next.{Next, AllProper}
-use Rattle.ledger_laws.proofs.Kinds.{some_is}
+use Rattle.ledger_laws.proofs.ByKind.{some_is}
 
 none_some : {A : Type 0} (r : A) → None ≡ Some r → ⊥
 none_some r e = cc

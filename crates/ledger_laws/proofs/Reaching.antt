@@ -6,7 +6,7 @@ use Rattle.cbdc_model.specs.History.{header_of, first_rows, Minted}
 use Rattle.cbdc_model.specs.Records.{Shape, Compact, Record, Row, journal}
 use Rattle.cbdc_model.specs.World.{World, Node, Event, Begin, End, node_at, journals, flushed, IsQuiet, effect, Run, init, first_node}
 use Rattle.ledger_laws.proofs.Next.{Next, Steady}
-use Rattle.ledger_laws.proofs.Kinds.{at_a_node}
+use Rattle.ledger_laws.proofs.ByKind.{at_a_node}
 use Rattle.ledger_laws.specs.Reach.{events_of, Reached}
 use Rattle.cbdc_model.specs.Grammar.{IsInGrammar}
 use Rattle.cbdc_model.specs.After.{After}

@@ -18,7 +18,7 @@ use Rattle.ledger_laws.proofs.First.{AllFirst, journal_first, all_first}
 use Rattle.ledger_laws.proofs.Moves.{none_of, not_empty, all_structure, all_more}
 use Rattle.ledger_laws.proofs.Recovered.{all_dones, all_phases, done_forgot}
 use Rattle.ledger_laws.proofs.Standing.{Facts, standing}
-use Rattle.ledger_laws.proofs.Kinds.{found_finish, found_done}
+use Rattle.ledger_laws.proofs.ByKind.{found_finish, found_done}
 use Rattle.ledger_laws.proofs.Order.{OrderOk, next_order}
 use Rattle.ledger_laws.proofs.Last.{LastIs, nothing_yet, of_kind, last_is, slot_by, phase_stamp}
 

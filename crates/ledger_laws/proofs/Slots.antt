@@ -3,7 +3,7 @@ use Rattle.std.proofs.Common.{◌≡◌, ℕ, ◌≤◌, Bool, true, false, List
 use Rattle.cbdc_model.specs.Records.{Shape, Batch, same_batch, Compact, Outcome, Answered, Record, Genesis, Lock, Finish, Forget, Start, Prepare, Commit, Discard, Done}
 use Rattle.cbdc_model.specs.Slots.{slot, InLock, InPrepare}
 use Rattle.ledger_laws.proofs.Next.{Next, has_lock, has_finish, has_prepare, has_commit}
-pub use Rattle.ledger_laws.proofs.Kinds.{same_batch_is, same_batch_self}
+pub use Rattle.ledger_laws.proofs.ByKind.{same_batch_is, same_batch_self}
 
 pub record JournalOk (past : List Record) : Type 0 where
   pub lock_below : (b : Batch) → has_lock past b ≡ true → b.number ≤ (slot past b.lane).number

@@ -7,7 +7,7 @@ use Rattle.cbdc_model.specs.Ranges.{shard_node, part, Concerned}
 use Rattle.cbdc_model.specs.Records.{Shape, Batch, Compact, Record, Row, journal, record_of, kind_of, is_of, stamp_in, entries_in, txs_in, outcomes_in, Genesis, Lock, Finish, Forget, Start, Prepare, Commit, Discard, Done}
 use Rattle.cbdc_model.specs.Replies.{entries}
 use Rattle.ledger_laws.proofs.Next.{Next, Steady}
-use Rattle.ledger_laws.proofs.Kinds.{some_is, found_new}
+use Rattle.ledger_laws.proofs.ByKind.{some_is, found_new}
 use Rattle.ledger_laws.proofs.Slots.{JournalOk}
 use Rattle.ledger_laws.proofs.More.{MoreOk}
 use Rattle.ledger_laws.proofs.Dones.{PhaseOk}

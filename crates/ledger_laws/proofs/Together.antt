@@ -9,7 +9,7 @@ use Rattle.cbdc_model.specs.Grammar.{IsInGrammar}
 use Rattle.cbdc_model.specs.After.{After}
 use Rattle.ledger_laws.proofs.Ledger.{next_behind, each_is, SteadyJournals, SteadyLists, EachSteady, SteadyWorld}
 use Rattle.ledger_laws.proofs.Next.{Next, Steady, AllProper}
-use Rattle.ledger_laws.proofs.Kinds.{lane_in, in_own_lane, next_not_first, after_stamp, at_a_node}
+use Rattle.ledger_laws.proofs.ByKind.{lane_in, in_own_lane, next_not_first, after_stamp, at_a_node}
 use Rattle.ledger_laws.proofs.Rows.{at, away, at_node, head_at, head_away}
 use Rattle.ledger_laws.proofs.Locals.{local_kept}
 use Rattle.ledger_laws.proofs.Cuts.{cut, end_self, end_trans, seen_grows}

@@ -3,7 +3,7 @@ use Rattle.std.proofs.Common.{◌≡◌, ℕ, zero, suc, ◌+◌, ◌<◌, ◌�
 use Rattle.cbdc_model.specs.Records.{Digest, Batch, Compact, same_batch}
 use Rattle.cbdc_model.specs.Status.{Status, Unspent, Locked, Absent}
 use Rattle.ledger_laws.proofs.Counts.{count}
-pub use Rattle.ledger_laws.proofs.Kinds.{same_batch_is}
+pub use Rattle.ledger_laws.proofs.ByKind.{same_batch_is}
 
 pub record View : Type 0 where
   pub status : Digest → Status

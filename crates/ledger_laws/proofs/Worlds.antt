@@ -9,7 +9,7 @@ use Rattle.cbdc_model.specs.World.{EventPasses, EventsPass, Node, World, no_node
 use Rattle.ledger_laws.proofs.Ledger.{SteadyWorld, next_at, proper_of}
 use Rattle.ledger_laws.proofs.Planned.{Planned, planned}
 use Rattle.ledger_laws.proofs.Next.{Next, Steady, AllProper}
-use Rattle.ledger_laws.proofs.Kinds.{after_stamp}
+use Rattle.ledger_laws.proofs.ByKind.{after_stamp}
 use Rattle.ledger_laws.proofs.Rows.{at, away, at_node, head_at, head_away}
 use Rattle.ledger_laws.proofs.Moves.{stays, was_caused, all_structure, all_more}
 

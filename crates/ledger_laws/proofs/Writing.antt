@@ -8,7 +8,7 @@ use Rattle.cbdc_model.specs.History.{Minted}
 use Rattle.cbdc_model.specs.World.{World, Event, Begin, End, node_at, journals, Run}
 use Rattle.ledger_laws.specs.Resumed.{IsNoPrepare, BeginNoPrepare}
 use Rattle.ledger_laws.proofs.Rows.{at, away, at_node}
-use Rattle.ledger_laws.proofs.Kinds.{test_batch, of_in_lane, lanes_apart}
+use Rattle.ledger_laws.proofs.ByKind.{test_batch, of_in_lane, lanes_apart}
 use Rattle.ledger_laws.proofs.Last.{slot_stays}
 use Rattle.ledger_laws.proofs.Ledger.{SteadyWorld, after_of, passes_of}
 use Rattle.ledger_laws.proofs.Worlds.{run_keeps}

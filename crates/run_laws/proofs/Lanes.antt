@@ -3,7 +3,7 @@ use Rattle.std.proofs.Common.{◌≡◌, ℕ, Bool, true, false, List, ◌∷◌
 use Rattle.cbdc_model.specs.Records.{Batch, Compact, Answered, Outcome, Record, is_in_lane, entries_in, txs_in, lock_of, txs_of, Genesis, Lock, Finish, Forget, Start, Prepare, Commit, Discard, Done}
 use Rattle.cbdc_model.specs.Slots.{Phase, Slot, slot, Idle, InLock, InFinish, InPrepare, InCommit, InDiscard}
 use Rattle.cbdc_model.specs.Due.{open_batch}
-use Rattle.ledger_laws.proofs.Kinds.{lanes_apart, found_apart}
+use Rattle.ledger_laws.proofs.ByKind.{lanes_apart, found_apart}
 use Rattle.ledger_laws.proofs.Last.{slot_stays}
 use Rattle.run_laws.proofs.Scales.{Scale, Fair}
 use Rattle.run_laws.proofs.Numbers.{same_number, other_number}

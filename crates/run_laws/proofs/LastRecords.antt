@@ -3,7 +3,7 @@ use Rattle.std.proofs.Common.{◌≡◌, ℕ, ◌^◌, ◌<◌, ◌≤◌, true,
 use Rattle.cbdc_model.specs.Records.{Header, Batch, Record, record_of, stamp_of, txs_in, txs_of, outcomes_in, outcomes_of, Genesis, Lock, Finish, Start, Prepare, Commit, Discard}
 use Rattle.cbdc_model.specs.Slots.{Phase, Idle, InLock, InFinish, InPrepare, InCommit, InDiscard}
 use Rattle.cbdc_model.specs.Grammar.{IsInGrammar}
-use Rattle.ledger_laws.proofs.Kinds.{found_prepare, found_commit, found_discard}
+use Rattle.ledger_laws.proofs.ByKind.{found_prepare, found_commit, found_discard}
 use Rattle.ledger_laws.proofs.Last.{slot_by}
 pub use Rattle.ledger_laws.proofs.Last.{LastStands, last_stands, last_stamped}
 

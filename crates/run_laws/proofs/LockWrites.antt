@@ -7,7 +7,7 @@ use Rattle.cbdc_model.specs.Grammar.{IsInGrammar}
 use Rattle.cbdc_model.specs.Causes.{IsCaused}
 use Rattle.cbdc_model.specs.History.{Minted, header_of, first_rows}
 use Rattle.ledger_laws.proofs.Next.{Next, has_lock, Steady}
-use Rattle.ledger_laws.proofs.Kinds.{same_batch_self, found_prepare}
+use Rattle.ledger_laws.proofs.ByKind.{same_batch_self, found_prepare}
 use Rattle.ledger_laws.proofs.Resuming.{due_lock, lock_next}
 use Rattle.run_laws.specs.LocksDue.{IsLock}
 

@@ -4,7 +4,7 @@ use Rattle.cbdc_model.specs.Records.{Shape, Compact, Record, is_in_lane, Prepare
 use Rattle.cbdc_model.specs.Slots.{slot}
 use Rattle.cbdc_model.specs.Lanes.{may_come, Made}
 use Rattle.cbdc_model.specs.Waves.{prepared}
-use Rattle.ledger_laws.proofs.Kinds.{lanes_apart}
+use Rattle.ledger_laws.proofs.ByKind.{lanes_apart}
 use Rattle.ledger_laws.proofs.Last.{slot_stays}
 use Rattle.run_laws.specs.Runs.{seen_by, LeavesOthers, OthersLaw}
 use Rattle.run_laws.proofs.TurnStep.{lifted}

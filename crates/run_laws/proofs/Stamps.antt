@@ -6,7 +6,7 @@ use Rattle.cbdc_model.specs.Causes.{IsCaused}
 use Rattle.cbdc_model.specs.History.{Minted, first_rows}
 use Rattle.cbdc_model.specs.Lanes.{IsEnd, first_of}
 use Rattle.ledger_laws.proofs.Next.{Steady}
-use Rattle.ledger_laws.proofs.Kinds.{after_stamp, at_a_node}
+use Rattle.ledger_laws.proofs.ByKind.{after_stamp, at_a_node}
 use Rattle.ledger_laws.proofs.First.{AllFirst, journal_first, all_first}
 use Rattle.ledger_laws.proofs.Rows.{at, away, at_node, head_at, head_away}
 use Rattle.ledger_laws.proofs.Repeats.{all_order}

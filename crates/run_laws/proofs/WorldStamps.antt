@@ -8,7 +8,7 @@ use Rattle.ledger_laws.proofs.Next.{Steady}
 use Rattle.ledger_laws.proofs.Rows.{at, away, at_node, head_at, head_away}
 use Rattle.ledger_laws.proofs.First.{AllFirst, journal_first, all_first}
 use Rattle.ledger_laws.proofs.Repeats.{all_order}
-pub use Rattle.ledger_laws.proofs.Kinds.{lane_in}
+pub use Rattle.ledger_laws.proofs.ByKind.{lane_in}
 use Rattle.run_laws.proofs.Codes.{code_of}
 
 greatest_le : (f : ℕ → ℕ) (top n : ℕ) → ((s : ℕ) → f s ≤ top) → greatest f n ≤ top
