@@ -7,7 +7,7 @@ use Rattle.cbdc_model.specs.Status.{held_inputs, taken_inputs, returned_inputs}
 use Rattle.cbdc_model.specs.History.{all_inputs}
 use Rattle.ledger_laws.proofs.Counts.{count, count-append}
 use Rattle.ledger_laws.proofs.Replies.{answered_held}
-use Rattle.ledger_laws.proofs.View.{View, Inv, Awaited, none, some, none_or_some}
+use Rattle.ledger_laws.proofs.View.{View, measured, Inv, Awaited, none, some, none_or_some}
 use Rattle.ledger_laws.proofs.CommitStep.{Commits, commit_inv}
 use Rattle.ledger_laws.proofs.FinishStep.{Finishes, FinishesAt, here, elsewhere}
 
@@ -86,7 +86,7 @@ Never t = ⊥
 
 -- a view where it is only told whether a Lock holds a hash
 abbrev pub capped : View → View
-capped v = record v { holds = λ b x. min (v.holds b x) 1 }
+capped v = measured (λ n. min n 1) v
 
 pub capped_inv : (genesis : Digest → ℕ) (v : View) → Inv genesis Never v → Inv genesis Never (capped v)
 capped_inv genesis v inv = record {

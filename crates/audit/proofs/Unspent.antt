@@ -29,7 +29,7 @@ use Rattle.ledger_laws.proofs.Theory.{in_book}
 use Rattle.ledger_laws.proofs.Folding.{same_compact_is}
 use Rattle.audit.proofs.Once.{SoFar, AreReady, fold_so_far, counted_in, Maker, maker_in, StandsFor}
 use Rattle.audit.proofs.Holders.{Never, capped, capped_inv, capped_finish, capped_commit}
-use Rattle.audit.proofs.Locking.{newly_held, capped_lock, finish_exact}
+use Rattle.audit.proofs.Locking.{capped_lock, finish_exact}
 use Rattle.audit.specs.Spending.{AreSpent}
 use Rattle.audit.specs.Walks.{AllCaused, IsDone}
 use Rattle.audit.specs.Laws.{AllAfter}
@@ -172,7 +172,8 @@ module _ (K : Shape) (mint : List Output) (handed : List FullTx) (clean : Clean 
   inv_next later kept node (Start header) next caused once covered inv = absurd next
   inv_next later kept node (Lock stamp b es) next caused once covered inv =
       let st = all_structure K (minted mint) Any shards later kept in
-      lock_kept inv b (newly_held K Any (whole later) st node stamp b es next) (capped_lock K Any (whole later) st node stamp b es next)
+      let step = capped_lock K Any (whole later) st node stamp b es next in
+      lock_kept inv b step.0 step.1
   inv_next later kept node (Finish stamp b ds) next caused once covered inv =
       let st = all_structure K (minted mint) Any shards later kept in
       finish_kept inv b (capped_finish (view K (whole later)) (view K (record { node = node; what = Finish stamp b ds } ∷ whole later)) b

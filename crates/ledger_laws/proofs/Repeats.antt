@@ -32,7 +32,7 @@ first_order J first = record {
     zero_le e = omega arith
 
 -- the places of a part rise
-abbrev Rising : ℕ → List Answered → Type 0
+abbrev pub Rising : ℕ → List Answered → Type 0
 Rising k [] = Unit {0}
 Rising k (a ∷ es) = (k ≤ a.entry.place) × Rising (suc a.entry.place) es
 
@@ -47,7 +47,7 @@ rising_first shards s k t rest (a ∷ es) next (same, more) =
     let p : k ≡ a.entry.place = sym (ap (λ e. e.place) same) in
     (omega arith, subst (λ n. Rising (suc n) es) p (next es more))
 
-rising_part : (shards s k : ℕ) (txs : List Compact) (es : List Answered) → entries es ≡ part shards s k txs → Rising k es
+pub rising_part : (shards s k : ℕ) (txs : List Compact) (es : List Answered) → entries es ≡ part shards s k txs → Rising k es
 rising_part shards s k [] es h = subst (λ a. Rising k a) (sym (entries-nil es h)) tt
 rising_part shards s k (t ∷ ts) es h =
     elim (is_empty (on_shard shards s t.inputs) && is_empty (on_shard shards s t.outputs))
@@ -56,7 +56,7 @@ rising_part shards s k (t ∷ ts) es h =
       | false ↦ λ h. rising_first shards s k t (part shards s (suc k) ts) es (λ es h. rising_part shards s (suc k) ts es h) (entries-cons _ _ es h)
     ] h
 
-agrees_rising : (f : ℕ → Bool) (k : ℕ) (es : List Answered) → Rising k es → ((j : ℕ) (r : Reply) → k ≤ j → reply_at es j ≡ Some r → f j ≡ true → is_held r ≡ true) → Agrees f es
+pub agrees_rising : (f : ℕ → Bool) (k : ℕ) (es : List Answered) → Rising k es → ((j : ℕ) (r : Reply) → k ≤ j → reply_at es j ≡ Some r → f j ≡ true → is_held r ≡ true) → Agrees f es
 agrees_rising f k [] h told = tt
 agrees_rising f k (a ∷ es) h told = (
   λ won. told a.entry.place a.reply h.0 (found a es) won,
@@ -69,7 +69,7 @@ agrees_rising f k (a ∷ es) h told = (
     passed : (a : Answered) (es : List Answered) (j : ℕ) (r : Reply) → suc a.entry.place ≤ j → reply_at es j ≡ Some r → reply_at (a ∷ es) j ≡ Some r
     passed a es j r le is = grind arith
 
-fits_decisions : (os : List Outcome) (es : List Answered) → Agrees (won_at os) es → FitsReplies es (decisions os (entries es))
+pub fits_decisions : (os : List Outcome) (es : List Answered) → Agrees (won_at os) es → FitsReplies es (decisions os (entries es))
 fits_decisions os [] h = tt
 fits_decisions os (a ∷ es) h = (h.0, fits_decisions os es h.1)
 

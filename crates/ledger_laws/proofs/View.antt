@@ -19,6 +19,10 @@ pub record View : Type 0 where
   pub finished : Batch → Digest → Bool
   pub holds : Batch → Digest → ℕ
 
+-- a view with a measure of how often a Lock holds a hash in place of the count
+abbrev pub measured : (ℕ → ℕ) → View → View
+measured f v = record v { holds = λ b x. f (v.holds b x) }
+
 -- a made hash whose Finish at its shard does not stand
 pub record Awaited (v : View) (x : Digest) : Type 0 where
   pub batch : Batch
