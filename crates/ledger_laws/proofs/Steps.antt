@@ -75,11 +75,11 @@ module _ (K : Shape) (P : Compact → Type 0) (past : List Row) (st : Structure 
     unfinished : has_finish (journal node past) b ≡ false
     unfinished = not_true _ (λ h. omega (arith, (st.journals node).finish_below b h, next.3))
 
-    itself : same_batch b b ≡ true
-    itself = grind arith
+    same_itself : same_batch b b ≡ true
+    same_itself = grind arith
 
     lock_of_head : (J : List Record) → lock_of (Lock stamp b es ∷ J) b ≡ es
-    lock_of_head J = rw itself
+    lock_of_head J = rw same_itself
 
     lock_of_behind : (c : Batch) (J : List Record) → same_batch b c ≡ false → lock_of (Lock stamp b es ∷ J) c ≡ lock_of J c
     lock_of_behind c J e = rw e
