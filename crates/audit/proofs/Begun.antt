@@ -13,7 +13,7 @@ use Rattle.cbdc_model.specs.World.{replaced}
 use Rattle.cbdc_model.specs.Lanes.{IsEnd, Seen}
 use Rattle.audit.specs.Walks.{AllCaused}
 use Rattle.ledger_laws.proofs.Ledger.{each_passes}
-use Rattle.ledger_laws.proofs.Cuts.{end_trans}
+use Rattle.ledger_laws.proofs.Cuts.{end_trans, cons_same}
 use Rattle.ledger_laws.proofs.FirstJournals.{first_is, first_beyond}
 use Rattle.audit.specs.Journals.{AreJournals, BeginAs}
 use Rattle.audit.specs.AccountLaws.{Any, BegunLaw, CausedListsLaw}
@@ -118,9 +118,6 @@ ends_in h (r ∷ (q ∷ J)) j =
     record { last = e.last; newer = r ∷ e.newer; is = ap (λ l. r ∷ l) e.is; first = e.first; after = e.after; hashes = e.hashes }
 
 -- ---- what each record has seen
-
-cons_same : (a b : Record) (A B : List Record) → a ∷ A ≡ b ∷ B → (a ≡ b) × (A ≡ B)
-cons_same a b A B e = (cc, cc)
 
 nothing_there : (newer rest : List Record) (r : Record) → [] ≡ newer ++ r ∷ rest → ⊥
 nothing_there [] rest r e = cc

@@ -5,9 +5,10 @@ use Rattle.cbdc_model.specs.Causes.{IsCaused}
 use Rattle.cbdc_model.specs.History.{won_of, all_inputs, first_rows, Minted}
 use Rattle.cbdc_model.specs.Outcomes.{won_at, decisions}
 use Rattle.cbdc_model.specs.Ranges.{shard_of, shard_node, journal_at, lane_journal}
-use Rattle.cbdc_model.specs.Records.{Digest, Shape, Batch, same_batch, Compact, Outcome, Answered, Record, Row, journal, Lock, Finish, lock_of, outcomes_of}
+use Rattle.cbdc_model.specs.Records.{Digest, Shape, Batch, same_batch, Compact, Answered, Record, Row, journal, Lock, Finish, lock_of, outcomes_of}
 use Rattle.cbdc_model.specs.Replies.{entries}
 use Rattle.cbdc_model.specs.Status.{held_inputs, taken_inputs, returned_inputs}
+use Rattle.ledger_laws.proofs.Older.{decisions-decided}
 use Rattle.ledger_laws.proofs.Next.{Next, has_lock, has_finish, Steady}
 use Rattle.ledger_laws.proofs.Counts.{count}
 use Rattle.ledger_laws.proofs.Parts.{decided, count-held}
@@ -48,10 +49,6 @@ holder_next K node J x old (Lock stamp b es) next c =
     ] refl
 holder_next K node J x old other next c = old c
 
-decisions_of : (os : List Outcome) (es : List Answered) → decisions os (entries es) ≡ decided (won_at os) es
-decisions_of os [] = refl
-decisions_of os (a ∷ es) = ap (λ ds. won_at os a.entry.place ∷ ds) (decisions_of os es)
-
 module _ (K : Shape) (minting : Minted) (P : Compact → Type 0) (shards : 0 < K.shards) where
   pub one_holder : (later : List Row) → Steady K minting P later → (x : Digest) (n : ℕ) (c : Batch) → OneHolder x (lock_of (journal n (later ++ first_rows K minting)) c)
   one_holder [] kept x n c =
@@ -83,7 +80,7 @@ module _ (K : Shape) (minting : Minted) (P : Compact → Type 0) (shards : 0 < K
           let fits : FitsReplies (lock_of (journal_at K (later ++ first_rows K minting) x) b) ds = subst (λ m. FitsReplies (lock_of (journal m (later ++ first_rows K minting)) b) ds) e next.4 in
           let ds_are : ds ≡ decided (won_at (outcomes_of (lane_journal K (later ++ first_rows K minting) b) b)) (lock_of (journal_at K (later ++ first_rows K minting) x) b)
           = subst (λ m. ds ≡ decisions (outcomes_of (lane_journal K (later ++ first_rows K minting) b) b) (entries (lock_of (journal m (later ++ first_rows K minting)) b))) e caused.1
-          ∙ decisions_of (outcomes_of (lane_journal K (later ++ first_rows K minting) b) b) (lock_of (journal_at K (later ++ first_rows K minting) x) b) in
+          ∙ decisions-decided (outcomes_of (lane_journal K (later ++ first_rows K minting) b) b) (lock_of (journal_at K (later ++ first_rows K minting) x) b) in
           let taken : count x (taken_inputs (lock_of (journal_at K (later ++ first_rows K minting) x) b) ds) ≡ count x (all_inputs (won_of K (later ++ first_rows K minting) b))
           = ap (λ d. count x (taken_inputs (lock_of (journal_at K (later ++ first_rows K minting) x) b) d)) ds_are ∙ taken_is K minting P shards later kept x b locked in
           let none : count x (returned_inputs (lock_of (journal_at K (later ++ first_rows K minting) x) b) ds) ≡ 0

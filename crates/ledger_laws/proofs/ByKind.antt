@@ -23,6 +23,9 @@ split_test k kind b c h =
     let n : k ≡ kind = grind arith in
     (n, same_batch_is b c m)
 
+pub test_itself : (kind : ℕ) (b : Batch) → ((kind == kind) && same_batch b b) ≡ true
+test_itself kind b = grind arith
+
 pub test_kind : (kind : ℕ) (b : Batch) (r : Record) → ((kind_of r == kind) && is_of b r) ≡ true → kind_of r ≡ kind
 test_kind kind b r t = grind arith
 

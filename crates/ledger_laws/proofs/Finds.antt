@@ -18,12 +18,7 @@ use Rattle.ledger_laws.proofs.First.{journal_first, all_first, AllFirst, IsFirst
 use Rattle.ledger_laws.proofs.Moves.{SameCauses, caused_same, once, locked_before, test_step, not_empty, in_range, split_test, all_structure, all_more}
 use Rattle.ledger_laws.proofs.Recovered.{all_phases}
 use Rattle.ledger_laws.proofs.Cuts.{cut}
-
-pub replaced_at : (J : ℕ → List Record) (n : ℕ) (own : List Record) (m : ℕ) → n ≡ m → replaced J n own m ≡ own
-replaced_at J n own m e = grind arith
-
-pub replaced_away : (J : ℕ → List Record) (n : ℕ) (own : List Record) (m : ℕ) → (n == m) ≡ false → replaced J n own m ≡ J m
-replaced_away J n own m e = rw e
+pub use Rattle.ledger_laws.proofs.Cuts.{replaced_at, replaced_away}
 
 abbrev pub IsShardKind : ℕ → Type 0
 IsShardKind kind = (kind ≡ 2) ⊎ (kind ≡ 3) ⊎ (kind ≡ 4)

@@ -20,7 +20,7 @@ use Rattle.ledger_laws.proofs.Last as last
 use Rattle.ledger_laws.proofs.Phases.{in_order}
 use Rattle.ledger_laws.proofs.Older.{all_older}
 
-both_same : (c b : Batch) → (c.lane == b.lane) ≡ true → c.number ≡ b.number → same_batch c b ≡ true
+pub both_same : (c b : Batch) → (c.lane == b.lane) ≡ true → c.number ≡ b.number → same_batch c b ≡ true
 both_same c b l n = grind arith
 
 -- every record that stands is in the grammar of its node

@@ -5,6 +5,7 @@ use Rattle.cbdc_model.specs.Slots.{Phase, slot, slot_stamp, Idle, InLock, InFini
 use Rattle.cbdc_model.specs.Replies.{entries}
 use Rattle.cbdc_model.specs.Next.{Plan, is_idle, lock_again, next_lock, finish_again, finish_now, finish_in, next_finish, forget_in, next_forget, misfit, difference, same_entry, same_decision, same_digests}
 use Rattle.cbdc_model.specs.After.{FitsReplies}
+use Rattle.ledger_laws.proofs.Lookups.{number_self}
 use Rattle.ledger_laws.specs.Laws.{IsGranted}
 use Rattle.ledger_laws.proofs.Answered.{IsStale, LockAnswered, FinishAnswered, ForgetAnswered, lock_stale, lock_stored, lock_appends, finish_stale, finish_stored, finish_appends, forget_stale, forget_stored, forget_appends}
 use Rattle.ledger_laws.proofs.Counts.{same_digest_self}
@@ -21,9 +22,6 @@ difference_self same self (x ∷ xs) = rw (self x, difference_self same self xs)
 same_digests_self : (xs : List Digest) → same_digests xs xs ≡ true
 same_digests_self [] = refl
 same_digests_self (x ∷ xs) = rw (same_digest_self x, same_digests_self xs)
-
-number_self : (n : ℕ) → (n == n) ≡ true
-number_self n = grind arith
 
 same_entry_self : (e : Entry) → same_entry e e ≡ true
 same_entry_self e = rw (number_self e.place, same_digest_self e.id, same_digests_self e.inputs, same_digests_self e.outputs)

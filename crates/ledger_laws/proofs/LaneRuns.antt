@@ -7,14 +7,11 @@ use Rattle.cbdc_model.specs.Causes.{AllHave}
 use Rattle.cbdc_model.specs.History.{Minted}
 use Rattle.cbdc_model.specs.World.{World, journals}
 use Rattle.ledger_laws.proofs.Rows.{at, away, at_node}
-use Rattle.ledger_laws.proofs.Lookups.{true_false}
+use Rattle.ledger_laws.proofs.Lookups.{true_false, number_self}
 use Rattle.ledger_laws.proofs.Moves.{split_test}
 use Rattle.ledger_laws.proofs.Found.{found_new}
 use Rattle.ledger_laws.proofs.Resuming.{Writes, lock_writes, commit_writes, finish_writes, discard_writes, forget_writes, done_writes}
 use Rattle.ledger_laws.proofs.Writing.{AllLocked, Open, Goes, Written, write, stay, go_on, weaken, raise}
-
-number_self : (n : ℕ) → (n == n) ≡ true
-number_self n = grind arith
 
 below : (n s : ℕ) → s < suc n → (n == s) ≡ false → s < n
 below n s lt e = grind arith

@@ -147,7 +147,7 @@ never_locked x (Genesis header hs ∷ J) first c e = elim (has hs x) as (λ v. (
 never_locked x (Start header ∷ J) first c e = never_locked x J first.1 c e
 never_locked x (another ∷ J) first c e = absurd first.0
 
-decisions-decided : (os : List Outcome) (es : List Answered) → decisions os (entries es) ≡ decided (won_at os) es
+pub decisions-decided : (os : List Outcome) (es : List Answered) → decisions os (entries es) ≡ decided (won_at os) es
 decisions-decided os [] = refl
 decisions-decided os (a ∷ es) = ap (λ ds. won_at os a.entry.place ∷ ds) (decisions-decided os es)
 

@@ -47,7 +47,7 @@ decisions_length : (os : List Outcome) (es : List Answered) → length (decision
 decisions_length os [] = refl
 decisions_length os (a ∷ es) = ap (λ n. suc n) (decisions_length os es)
 
-greatest_le : (f : ℕ → ℕ) (top n : ℕ) → ((s : ℕ) → f s ≤ top) → greatest f n ≤ top
+pub greatest_le : (f : ℕ → ℕ) (top n : ℕ) → ((s : ℕ) → f s ≤ top) → greatest f n ≤ top
 greatest_le f top zero h = omega arith
 greatest_le f top (suc n) h = omega (arith, greatest_le f top n h, h n)
 

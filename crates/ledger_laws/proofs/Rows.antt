@@ -110,3 +110,12 @@ head_at row past n e = grind arith
 
 pub head_away : (row : Row) (past : List Row) (n : ℕ) → (row.node == n) ≡ false → journal n (row ∷ past) ≡ journal n past
 head_away row past n e = rw e
+
+pub journal-append : (n : ℕ) (xs ys : List Row) → journal n (xs ++ ys) ≡ journal n xs ++ journal n ys
+journal-append n [] ys = refl
+journal-append n (row ∷ xs) ys =
+    let ih : journal n (xs ++ ys) ≡ journal n xs ++ journal n ys = journal-append n xs ys in
+    elim (row.node == n) as (λ c. (if c then row.what ∷ journal n (xs ++ ys) else journal n (xs ++ ys)) ≡ (if c then row.what ∷ journal n xs else journal n xs) ++ journal n ys) [
+      | true ↦ ap (λ J. row.what ∷ J) ih
+      | false ↦ ih
+    ]

@@ -10,27 +10,17 @@ use Rattle.cbdc_model.specs.After.{After}
 use Rattle.ledger_laws.proofs.Ledger.{next_behind, each_is, SteadyJournals, SteadyLists, EachSteady, SteadyWorld}
 use Rattle.ledger_laws.proofs.Next.{Next, Steady, AllProper}
 use Rattle.ledger_laws.proofs.ByKind.{lane_in, in_own_lane, next_not_first, after_stamp, at_a_node}
-use Rattle.ledger_laws.proofs.Rows.{at, away, at_node, head_at, head_away}
+use Rattle.ledger_laws.proofs.Rows.{at, away, at_node, head_at, head_away, journal-append}
 use Rattle.ledger_laws.proofs.Locals.{local_kept}
-use Rattle.ledger_laws.proofs.Cuts.{cut, end_self, end_trans, seen_grows}
+use Rattle.ledger_laws.proofs.Cuts.{cut, end_self, end_trans, seen_grows, cons_same}
 use Rattle.ledger_laws.proofs.Finds.{replaced_at, replaced_away, now_caused}
 use Rattle.ledger_laws.proofs.Merge.{AllBelow, Rising, below_more, merged, Merged, merge}
-
-journal-append : (n : ℕ) (A B : List Row) → journal n (A ++ B) ≡ journal n A ++ journal n B
-journal-append n [] B = refl
-journal-append n (a ∷ A) B = elim (at_node a.node n) [
-  | at e ↦ head_at a (A ++ B) n e ∙ ap (λ J. a.what ∷ J) (journal-append n A B) ∙ ap (λ J. J ++ journal n B) (sym (head_at a A n e))
-  | away e ↦ head_away a (A ++ B) n e ∙ journal-append n A B ∙ ap (λ J. J ++ journal n B) (sym (head_away a A n e))
-]
 
 pub no_room : (J newer rest : List Record) (r : Record) (more : List Record) → rest ≡ more ++ J → J ≡ newer ++ r ∷ rest → ⊥
 no_room J newer rest r more h e =
     let l : length J ≡ length newer + suc (length rest) = ap length e ∙ simp length-append in
     let m : length rest ≡ length more + length J = ap length h ∙ simp length-append in
     omega arith
-
-cons_same : (a b : Record) (A B : List Record) → a ∷ A ≡ b ∷ B → (a ≡ b) × (A ≡ B)
-cons_same a b A B e = (cc, cc)
 
 -- with its own journal put back, a list of journals is as before
 itself : (J : ℕ → List Record) (n : ℕ) (own : List Record) → own ≡ J n → (m : ℕ) → replaced J n own m ≡ J m

@@ -1,7 +1,7 @@
 -- What kept journals add to kept journals is of batches that are prepared in the new ones and were not done in the old ones.
 use Rattle.std.proofs.Common.{◌≡◌, ℕ, suc, ◌+◌, ◌-◌, ◌/◌, ◌*◌, ◌<◌, ◌≤◌, true, false, ◌&&◌, ◌==◌, List, [], ◌∷◌, ◌++◌, length, is_some, refl, sym, ap, ◌∙◌, subst, arith}
 use Rattle.std.proofs.Math.Nat.{div-lt_iff_lt-mul}
-use Rattle.cbdc_model.specs.Records.{Shape, Batch, same_batch, Compact, Record, Row, journal, record_of, kind_of, is_of, txs_in, txs_of, lock_of, Genesis, Lock, Finish, Forget, Start, Prepare, Commit, Discard, Done}
+use Rattle.cbdc_model.specs.Records.{Shape, Batch, Compact, Record, Row, journal, record_of, kind_of, is_of, txs_in, txs_of, lock_of, Genesis, Lock, Finish, Forget, Start, Prepare, Commit, Discard, Done}
 use Rattle.cbdc_model.specs.Slots.{slot}
 use Rattle.cbdc_model.specs.Grammar.{IsShard}
 use Rattle.cbdc_model.specs.Ranges.{home_of, shard_node, Concerned}
@@ -11,6 +11,7 @@ use Rattle.cbdc_model.specs.History.{Minted, minted, first_rows}
 use Rattle.cbdc_model.specs.World.{KeptJournals, AreIdle}
 use Rattle.cbdc_model.specs.Lanes.{IsEnd}
 use Rattle.cbdc_model.specs.Waves.{Adds, prepared, has_prepare, has_done}
+use Rattle.ledger_laws.proofs.ByKind.{test_itself}
 use Rattle.ledger_laws.proofs.Next.{Next, Steady, has_lock, has_forget, has_prepare as is_prepared}
 use Rattle.ledger_laws.proofs.Slots.{JournalOk, next_ok, same_batch_self}
 use Rattle.ledger_laws.proofs.More.{MoreOk, next_more, has_done as is_done}
@@ -22,10 +23,6 @@ use Rattle.ledger_laws.proofs.Recovered.{all_phases, done_forgot, done_if_prepar
 use Rattle.ledger_laws.proofs.Together.{lists_of}
 use Rattle.ledger_laws.proofs.Ledger.{steady}
 use Rattle.run_laws.proofs.NewRecords.{still_found, shifted}
-
--- the record is of that kind and batch
-tested : (kind : ℕ) (c : Batch) → ((kind == kind) && same_batch c c) ≡ true
-tested kind c = grind arith
 
 module _ (K : Shape) (minting : Minted) (P Q : Compact → Type 0) (some : 0 < K.shards) (before after : List Row) (kept : Steady K minting P before) (kept' : Steady K minting Q after) where
   abbrev I : ℕ → List Record
@@ -121,10 +118,10 @@ module _ (K : Shape) (minting : Minted) (P Q : Compact → Type 0) (some : 0 < K
         locked = subst (λ L. has_lock L c ≡ true) (sym e) (still_found newer (r ∷ rest) 2 c lock)
 
     prepared_here : (stamp : ℕ) (c : Batch) (txs : List Compact) (rest : List Record) → is_prepared (Prepare stamp c txs ∷ rest) c ≡ true
-    prepared_here stamp c txs rest = rw (tested 6 c)
+    prepared_here stamp c txs rest = rw (test_itself 6 c)
 
     locked_here : (stamp : ℕ) (c : Batch) (es : _) (rest : List Record) → has_lock (Lock stamp c es ∷ rest) c ≡ true
-    locked_here stamp c es rest = rw (tested 2 c)
+    locked_here stamp c es rest = rw (test_itself 2 c)
 
     new_of : (n : ℕ) (newer rest : List Record) (r : Record) → J n ≡ newer ++ r ∷ rest → IsEnd (I n) rest → (b : Batch) × (is_of b r ≡ true) × IsNewOf b
     new_of n newer rest r e h = by_kind r e (new_next n newer rest r e h) (oks_at n newer rest r e h)

@@ -40,7 +40,7 @@ pub one_batch : (c b : Batch) (r : Record) → is_of c r ≡ true → is_of b r 
 one_batch c b (Genesis header hs) x y = absurd (let z : false ≡ true = x in cc)
 one_batch c b other x y = same_batch_is c b (grind (arith, x, y))
 
-second : (a c : Bool) → (a && c) ≡ true → c ≡ true
+pub second : (a c : Bool) → (a && c) ≡ true → c ≡ true
 second a c h = grind (arith, h)
 
 apart : (a b : ℕ) → (a == b) ≡ false → b ≢ a

@@ -1,19 +1,16 @@
 -- Each stamp above 2^62 is at most one more than those before it, so none is further above it than there are such records.
-use Rattle.std.proofs.Common.{◌≡◌, ℕ, zero, suc, ◌+◌, ◌^◌, ◌<◌, ◌≤◌, ◌/◌, Bool, true, false, nat_lt, if◌then◌else◌, List, [], ◌∷◌, ◌++◌, length, refl, sym, subst, arith}
+use Rattle.std.proofs.Common.{◌≡◌, ℕ, suc, ◌+◌, ◌^◌, ◌<◌, ◌≤◌, ◌/◌, Bool, true, false, nat_lt, if◌then◌else◌, List, [], ◌∷◌, ◌++◌, length, refl, sym, subst, arith}
 use Rattle.cbdc_model.specs.Records.{Shape, Batch, Compact, Record, Row, journal, record_of, stamp_of, stamp_in, last_stamp, kind_of, Genesis, Lock, Finish, Forget, Start, Prepare, Commit, Discard, Done}
-use Rattle.cbdc_model.specs.Causes.{IsCaused, greatest, at_shards}
+use Rattle.cbdc_model.specs.Causes.{IsCaused, at_shards}
 use Rattle.cbdc_model.specs.Ranges.{shard_node}
 use Rattle.cbdc_model.specs.History.{Minted, first_rows}
+use Rattle.ledger_laws.proofs.Resuming.{greatest_le}
 use Rattle.ledger_laws.proofs.Next.{Steady}
 use Rattle.ledger_laws.proofs.Rows.{at, away, at_node, head_at, head_away}
 use Rattle.ledger_laws.proofs.First.{AllFirst, journal_first, all_first}
 use Rattle.ledger_laws.proofs.Repeats.{all_order}
 pub use Rattle.ledger_laws.proofs.ByKind.{lane_in}
 use Rattle.run_laws.proofs.Codes.{code_of}
-
-greatest_le : (f : ℕ → ℕ) (top n : ℕ) → ((s : ℕ) → f s ≤ top) → greatest f n ≤ top
-greatest_le f top zero h = omega arith
-greatest_le f top (suc n) h = omega (arith, greatest_le f top n h, h n)
 
 -- a caused record's stamp is at most one more than all that stand
 pub caused_le : (K : Shape) (J : ℕ → List Record) (n top : ℕ) (r : Record) → ((m : ℕ) → last_stamp (J m) ≤ top) → ((kind m : ℕ) (b : Batch) → stamp_in (record_of kind (J m) b) ≤ top)
