@@ -96,7 +96,6 @@ spent_before mint handed ks ls b s =
     = split_fold r.0 r.1 (Some (genesis_book mint)) b (subst (λ l. fold_txs (Some (genesis_book mint)) l ≡ Some b) (sym r.3) s.folds) in
     (f.0, record { txs = r.0; handed_in = r.2; folds = f.1 })
 
-
 module _ (K : Shape) where
   -- each batch is done
   abbrev pub EachDone : (ℕ → List Record) → List Row → Type 0
