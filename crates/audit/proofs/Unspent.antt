@@ -26,7 +26,7 @@ use Rattle.ledger_laws.proofs.Lookups.{true_false, shard_of-lt}
 use Rattle.ledger_laws.proofs.Folds.{hashes_of}
 use Rattle.ledger_laws.proofs.Members.{In, contains_in, CoinAt, coin_at, tx_coins_once, genesis_member}
 use Rattle.ledger_laws.proofs.Theory.{in_book}
-use Rattle.ledger_laws.proofs.Folding.{same_compact_is}
+use Rattle.ledger_laws.proofs.Equality.{same_compact_is}
 use Rattle.audit.proofs.Once.{SoFar, AreReady, fold_so_far, counted_in, Maker, maker_in, StandsFor}
 use Rattle.audit.proofs.Holders.{Never, capped, capped_inv, capped_finish, capped_commit}
 use Rattle.audit.proofs.Locking.{capped_lock, finish_exact}

@@ -1,6 +1,7 @@
 pub mod Next
 pub mod ByKind
 pub mod Counts
+pub mod Equality
 pub mod Parts
 pub mod Replies
 pub mod Slots

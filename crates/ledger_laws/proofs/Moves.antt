@@ -59,9 +59,6 @@ all_have_same : (K : Shape) (I J : ℕ → List Record) (kind : ℕ) (b : Batch)
 all_have_same K I J kind b lane shards h s c =
     subst (λ r. is_some r ≡ true) (shards s) (h s (subst (λ own. Concerned K (txs_of own b) s) (sym lane) c))
 
-greatest_same : (f g : ℕ → ℕ) → ((s : ℕ) → f s ≡ g s) → (n : ℕ) → greatest f n ≡ greatest g n
-greatest_same f g h n = ap (λ k. greatest k n) (λ i s. h s i)
-
 pub caused_same : (K : Shape) (I J : ℕ → List Record) (node : ℕ) (r : Record) → I node ≡ J node → SameCauses K I J r → IsCaused K I node r → IsCaused K J node r
 caused_same K I J node (Genesis header hs) own same c = tt
 caused_same K I J node (Start header) own same c = tt

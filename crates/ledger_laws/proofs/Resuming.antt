@@ -54,9 +54,6 @@ greatest_le f top (suc n) h = omega (arith, greatest_le f top n h, h n)
 stamped : (own cause top : ℕ) → own ≤ top → cause ≤ top → suc (max own cause) ≤ suc top
 stamped own cause top h g = omega arith
 
-early : (own cause top : ℕ) → own ≤ top → cause ≤ top → suc top ≤ 2 ^ 62 → (1 ≤ suc (max own cause)) × (suc (max own cause) ≤ 2 ^ 62)
-early own cause top h g room = (omega arith, omega arith)
-
 late : (own cause top : ℕ) → own ≤ top → cause ≤ top → suc top ≤ 2 ^ 62 + 2 ^ 20 → (1 ≤ suc (max own cause)) × (suc (max own cause) ≤ 2 ^ 62 + 2 ^ 20)
 late own cause top h g room = (omega arith, omega arith)
 

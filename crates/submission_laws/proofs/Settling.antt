@@ -40,9 +40,6 @@ use Rattle.submission_laws.proofs.Turns.{Turn, Found, at_turn, found, one_turn a
 use Rattle.submission_laws.proofs.NewPlaces.{Apart, among, one_turn as one_place, told_parts, HasTurn, all_own, all_apart, new_turn}
 use Rattle.submission_laws.proofs.Replying.{the_outcome, is_replied}
 
-some_place : (p q : PlaceIn) → Some p ≡ Some q → p ≡ q
-some_place p q e = cc
-
 some_outcome : (o q : Outcome) → Some o ≡ Some q → o ≡ q
 some_outcome o q e = cc
 
