@@ -1,19 +1,19 @@
 -- The journals of a ledger begin as some mint's, and caused rows of them are lists of records that are each after their journal and caused.
 use Rattle.std.proofs.Common.{◌≡◌, ◌≢◌, ◌⊎◌, inl, inr, ℕ, zero, suc, ◌+◌, ◌-◌, ◌<◌, ◌≤◌, Bool, true, false, ◌==◌, nat_lt, if◌then◌else◌, List, [], ◌∷◌, ◌++◌, refl, sym, ap, ◌∙◌, subst, arith, append-nil}
-use Rattle.std.specs.List.{All}
 use Rattle.std.proofs.lemmas.List.Elements.{All-head, All-tail}
 use Rattle.std.proofs.lemmas.Bool.Decides.{eqb_tells}
 use Rattle.std.proofs.lemmas.Bool.{cases_lt}
-use Rattle.cbdc_model.specs.Records.{Digest, Shape, Header, Compact, Record, Row, journal, Genesis, Lock, Finish, Forget, Start, Prepare, Commit, Discard, Done}
+use Rattle.cbdc_model.specs.Records.{Digest, Shape, Header, Record, Row, journal, Genesis, Start}
 use Rattle.cbdc_model.specs.Ranges.{shard_of, shard_node, on_shard}
 use Rattle.cbdc_model.specs.Grammar.{IsShard, AreHere}
 use Rattle.cbdc_model.specs.After.{After, IsFirst, IsJournal}
 use Rattle.cbdc_model.specs.Causes.{IsCaused}
-use Rattle.cbdc_model.specs.History.{Minted, header_of, TxsPass}
+use Rattle.cbdc_model.specs.History.{Minted, header_of}
 use Rattle.cbdc_model.specs.World.{replaced}
 use Rattle.cbdc_model.specs.Lanes.{IsEnd, Seen}
 use Rattle.audit.specs.Walks.{AllCaused}
-use Rattle.ledger_laws.proofs.Cuts.{end_trans}
+use Rattle.ledger_laws.proofs.Ledger.{each_passes}
+use Rattle.ledger_laws.proofs.Cuts.{end_trans, cons_same}
 use Rattle.ledger_laws.proofs.FirstJournals.{first_is, first_beyond}
 use Rattle.audit.specs.Journals.{AreJournals, BeginAs}
 use Rattle.audit.specs.AccountLaws.{Any, BegunLaw, CausedListsLaw}
@@ -94,24 +94,12 @@ module _ (K : Shape) (X : ℕ → List Record) (here : (s : ℕ) → s < K.shard
 log_first : (h : Header) (r : Record) → h.node < h.shape.coordinators → IsFirst r → After h [] r → r ≡ Start h
 log_first h (Start header) low first after = ap Start after.0.0
 log_first h (Genesis header hs) low first after = absurd (let shard : IsShard h.shape h.node = after.0.2 in omega (arith, low, shard.0))
-log_first h (Lock stamp b es) low first after = absurd first
-log_first h (Finish stamp b ds) low first after = absurd first
-log_first h (Forget stamp b) low first after = absurd first
-log_first h (Prepare stamp b txs) low first after = absurd first
-log_first h (Commit stamp b os) low first after = absurd first
-log_first h (Discard stamp b) low first after = absurd first
-log_first h (Done stamp b) low first after = absurd first
+log_first h other low first after = absurd first
 
 shard_first : (h : Header) (r : Record) → h.shape.coordinators ≤ h.node → IsFirst r → After h [] r → (r ≡ Genesis h (hashes_in r)) × AreHere h.shape h.node (hashes_in r)
 shard_first h (Genesis header hs) high first after = (ap (λ k. Genesis k hs) after.0.0, after.0.5)
 shard_first h (Start header) high first after = absurd (let low : h.node < h.shape.coordinators = after.0.2 in omega (arith, high, low))
-shard_first h (Lock stamp b es) high first after = absurd first
-shard_first h (Finish stamp b ds) high first after = absurd first
-shard_first h (Forget stamp b) high first after = absurd first
-shard_first h (Prepare stamp b txs) high first after = absurd first
-shard_first h (Commit stamp b os) high first after = absurd first
-shard_first h (Discard stamp b) high first after = absurd first
-shard_first h (Done stamp b) high first after = absurd first
+shard_first h other high first after = absurd first
 
 -- the journal ends in it
 record EndsIn (h : Header) (J : List Record) : Type 0 where
@@ -130,9 +118,6 @@ ends_in h (r ∷ (q ∷ J)) j =
     record { last = e.last; newer = r ∷ e.newer; is = ap (λ l. r ∷ l) e.is; first = e.first; after = e.after; hashes = e.hashes }
 
 -- ---- what each record has seen
-
-cons_same : (a b : Record) (A B : List Record) → a ∷ A ≡ b ∷ B → (a ≡ b) × (A ≡ B)
-cons_same a b A B e = (cc, cc)
 
 nothing_there : (newer rest : List Record) (r : Record) → [] ≡ newer ++ r ∷ rest → ⊥
 nothing_there [] rest r e = cc
@@ -188,21 +173,6 @@ all_seen K (row ∷ past) caused n newer rest r e = go (λ more is. all_seen K p
     go : ((more : List Record) → journal n past ≡ more ++ r ∷ rest → Seen K (λ k. journal k past) n rest r) → (((row.node == n) ≡ true) × (row.node ≡ n)) ⊎ (((row.node == n) ≡ false) × (row.node ≢ n)) → Seen K (λ k. journal k (row ∷ past)) n rest r
     go below (inl (b, at)) = here below newer (sym (at_row row past n at) ∙ e) at
     go below (inr (b, off)) = older below newer (sym (off_row row past n off) ∙ e)
-
--- any transactions pass
-any_txs : (txs : List Compact) → All Any txs
-any_txs txs k d lt = tt
-
-any_pass : (r : Record) → TxsPass Any r
-any_pass (Genesis header hs) = tt
-any_pass (Lock stamp b es) = tt
-any_pass (Finish stamp b ds) = tt
-any_pass (Forget stamp b) = tt
-any_pass (Start header) = tt
-any_pass (Prepare stamp b txs) = any_txs txs
-any_pass (Commit stamp b os) = tt
-any_pass (Discard stamp b) = tt
-any_pass (Done stamp b) = tt
 
 -- ---- journals
 
@@ -266,7 +236,7 @@ after_in h (q ∷ newer) rest r j = after_in h newer rest r (below h q r newer r
 pub caused_lists : CausedListsLaw
 caused_lists K m past are begin caused = record {
   begins = begin;
-  each = λ n newer rest r e h. (after n newer rest r e (cases_lt n (K.coordinators + K.shards)), all_seen K past caused n newer rest r e, any_pass r);
+  each = λ n newer rest r e h. (after n newer rest r e (cases_lt n (K.coordinators + K.shards)), all_seen K past caused n newer rest r e, each_passes Any (λ t. tt) r);
 }
   where
     after : (n : ℕ) (newer rest : List Record) (r : Record) → journal n past ≡ newer ++ r ∷ rest → (n < K.coordinators + K.shards) ⊎ (K.coordinators + K.shards ≤ n) → After (header_of K m.id n) rest r

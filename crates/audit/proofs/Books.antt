@@ -14,8 +14,8 @@ use Rattle.cbdc_model.specs.Records.{Digest}
 use Rattle.cbdc_model.specs.Coins.{OutPoint, Output, Coin, made_coins}
 use Rattle.cbdc_model.specs.Book.{Book, key, value, same_output, taken, take_out, take_all as model_take, put_all}
 use Rattle.same_records.proofs.Digests.{digest_is}
-use Rattle.same_records.proofs.Keys.{key_cmp, same_point_is, value-insert, get-remove_same, get-insert_same, get-insert_other, get-remove_other, same_key, other_key, keys}
-use Rattle.ledger_laws.proofs.Books.{value-remove}
+use Rattle.same_records.proofs.Keys.{same_point_is}
+use Rattle.ledger_laws.proofs.Books.{key_cmp, value-insert, value-remove, get-remove_same, get-insert_same, get-insert_other, get-remove_other, same_key, other_key, keys}
 use Rattle.audit.specs.declared.book.Book.{Book as Kept}
 use Rattle.audit.specs.Keeping.{same_point, Keeps, IsLeft}
 

@@ -1,14 +1,14 @@
 -- Of a Lock, at most one entry holds a hash; and the invariant of a view where it is only told whether a Lock holds a hash.
-use Rattle.std.proofs.Common.{◌≡◌, ◌⊎◌, inl, inr, ℕ, ◌+◌, ◌-◌, ◌<◌, ◌≤◌, min, Bool, true, false, if◌then◌else◌, List, [], ◌∷◌, ◌++◌, refl, sym, ap, ◌∙◌, subst, arith}
+use Rattle.std.proofs.Common.{◌≡◌, ◌⊎◌, inl, inr, ℕ, ◌+◌, ◌-◌, ◌<◌, ◌≤◌, min, Bool, true, false, if◌then◌else◌, List, [], ◌∷◌, ◌++◌, refl, sym, ap, ◌∙◌, arith}
 use Rattle.cbdc_model.specs.After.{FitsReplies}
-use Rattle.cbdc_model.specs.Records.{Digest, Batch, same_batch, Compact, Entry, Reply, Answered, Record, is_held}
+use Rattle.cbdc_model.specs.Records.{Digest, Batch, Compact, Entry, Reply, Answered, Record, is_held}
 use Rattle.cbdc_model.specs.Replies.{answered, reply_to}
-use Rattle.cbdc_model.specs.Status.{held_inputs, taken_inputs, returned_inputs, Unspent, Locked}
-use Rattle.cbdc_model.specs.History.{all_inputs, all_outputs}
+use Rattle.cbdc_model.specs.Status.{held_inputs, taken_inputs, returned_inputs}
+use Rattle.cbdc_model.specs.History.{all_inputs}
 use Rattle.ledger_laws.proofs.Counts.{count, count-append}
 use Rattle.ledger_laws.proofs.Replies.{answered_held}
-use Rattle.ledger_laws.proofs.View.{View, Inv, Awaited, same, other, same_or_not, not_same, none, some, none_or_some}
-use Rattle.ledger_laws.proofs.CommitStep.{Commits}
+use Rattle.ledger_laws.proofs.View.{View, measured, Inv, Awaited, none, some, none_or_some}
+use Rattle.ledger_laws.proofs.CommitStep.{Commits, commit_inv}
 use Rattle.ledger_laws.proofs.FinishStep.{Finishes, FinishesAt, here, elsewhere}
 
 -- an entry that holds the hash is the last that does
@@ -86,7 +86,7 @@ Never t = ⊥
 
 -- a view where it is only told whether a Lock holds a hash
 abbrev pub capped : View → View
-capped v = record v { holds = λ b x. min (v.holds b x) 1 }
+capped v = measured (λ n. min n 1) v
 
 pub capped_inv : (genesis : Digest → ℕ) (v : View) → Inv genesis Never v → Inv genesis Never (capped v)
 capped_inv genesis v inv = record {
@@ -150,101 +150,24 @@ module _ (genesis : Digest → ℕ) (P : Compact → Type 0) (v w : View) (inv :
   takes_once : (x : Digest) → count x (all_inputs ts) ≤ 1
   takes_once x = omega (arith, step.spent x, covered x, once x)
 
-  was_held : (x : Digest) → 0 < count x (all_inputs ts) → (v.status x ≡ Locked b) × (v.arrived x ≡ 1) × (v.spent x ≡ 0)
-  was_held x n =
-      let is : v.status x ≡ Locked b = inv.held x b (let h : 0 < v.holds b x = omega (arith, step.held x) in omega arith) (step.unfinished x) in
-      (is, (inv.locked x b is).0, (inv.locked x b is).2 ∙ step.took_none x)
-
-  is_new : (x : Digest) → 0 < count x (all_outputs ts) → (v.made x ≡ 0) × (genesis x ≡ 0)
-  is_new x n = (omega (arith, step.made x, once x), omega (arith, step.made x, once x))
-
-  commit_unspent : (x : Digest) → w.status x ≡ Unspent → (w.arrived x ≡ 1) × (w.spent x ≡ 0)
-  commit_unspent x e = grind (arith, inv.unspent x, step.status x, step.arrived x, step.spent x, was_held x)
-
-  commit_locked : (x : Digest) (c : Batch) → w.status x ≡ Locked c
-      → (w.arrived x ≡ 1) × (w.finished c x ≡ false) × (w.spent x ≡ w.takes c x) × (0 < min (w.holds c x) 1)
-  commit_locked x c e =
-      let is : v.status x ≡ Locked c = sym (step.status x) ∙ e in
-      let h : (v.arrived x ≡ 1) × (v.finished c x ≡ false) × (v.spent x ≡ v.takes c x) × (0 < min (v.holds c x) 1) = inv.locked x c is in
-      (step.arrived x ∙ h.0, step.finished c x ∙ h.1, spends x c is h.2, omega (arith, step.holds c x, h.3))
-    where
-      spends : (x : Digest) (c : Batch) → v.status x ≡ Locked c → v.spent x ≡ v.takes c x → w.spent x ≡ w.takes c x
-      spends x c is e = elim (same_or_not b c) [
-        | same e' ↦ subst (λ d. w.spent x ≡ w.takes d x) e' (let e2 : v.spent x ≡ v.takes b x = subst (λ d. v.spent x ≡ v.takes d x) (sym e') e in
-            omega (arith, step.spent x, step.takes x, step.took_none x))
-        | other n ↦ elim (none_or_some (count x (all_inputs ts))) [
-          | none z ↦ omega (arith, step.spent x, step.other_takes c x n)
-          | some k ↦ let no : Locked b ≡ Locked c = sym (was_held x k).0 ∙ is in let e' : b ≡ c = cc in absurd (not_same b c n e')
-        ]
-      ]
-
-  commit_one_maker : (x : Digest) (c d : Batch) → 0 < w.makes c x → 0 < w.makes d x → c ≡ d
-  commit_one_maker x c d m n = elim (same_or_not b c) [
-    | same e ↦ elim (same_or_not b d) [
-      | same f ↦ sym e ∙ f
-      | other g ↦ absurd (new_and_old c d e g m n)
-    ]
-    | other f ↦ elim (same_or_not b d) [
-      | same e ↦ absurd (new_and_old d c e f n m)
-      | other g ↦ inv.one_maker x c d (rw (step.other_makes c x f) at m) (rw (step.other_makes d x g) at n)
-    ]
-  ]
-    where
-      new_and_old : (c d : Batch) → b ≡ c → same_batch b d ≡ false → 0 < w.makes c x → 0 < w.makes d x → ⊥
-      new_and_old c d e g m n =
-          let m' : 0 < w.makes b x = subst (λ a. 0 < w.makes a x) (sym e) m in
-          let k : 0 < count x (all_outputs ts) = omega (arith, step.makes x) in
-          omega (arith, (is_new x k).0, step.other_makes d x g, inv.makes_le x d)
-
-  commit_takes_le : (x : Digest) (c : Batch) → w.takes c x ≤ w.spent x
-  commit_takes_le x c = elim (same_or_not b c) [
-    | same e ↦ subst (λ d. w.takes d x ≤ w.spent x) e (omega (arith, step.takes x, step.spent x))
-    | other g ↦ omega (arith, step.other_takes c x g, step.spent x, inv.takes_le x c)
-  ]
-
-  commit_makes_le : (x : Digest) (c : Batch) → w.makes c x ≤ w.made x
-  commit_makes_le x c = elim (same_or_not b c) [
-    | same e ↦ subst (λ d. w.makes d x ≤ w.made x) e (omega (arith, step.makes x, step.made x))
-    | other g ↦ omega (arith, step.other_makes c x g, step.made x, inv.makes_le x c)
-  ]
-
-  commit_pending : (x : Digest) (c : Batch) → 0 < w.makes c x → w.finished c x ≡ false → w.arrived x ≡ 0
-  commit_pending x c m f = elim (same_or_not b c) [
-    | same e ↦
-        let m' : 0 < w.makes b x = subst (λ a. 0 < w.makes a x) (sym e) m in
-        let k : 0 < count x (all_outputs ts) = omega (arith, step.makes x) in
-        omega (arith, is_new x k, inv.arrived_le x, step.arrived x)
-    | other g ↦ step.arrived x ∙ inv.pending x c (rw (step.other_makes c x g) at m) (sym (step.finished c x) ∙ f)
-  ]
-
-  commit_awaited : (x : Digest) → w.arrived x ≡ 0 → 0 < genesis x + w.made x → Awaited (capped w) x
-  commit_awaited x n m = elim (none_or_some (count x (all_outputs ts))) [
-    | some k ↦ record { batch = b; makes = omega (arith, step.makes x); unfinished = step.finished b x ∙ step.unfinished x }
-    | none z ↦
-        let a : Awaited (capped v) x = inv.awaited x (sym (step.arrived x) ∙ n) (omega (arith, step.made x)) in
-        record { batch = a.batch; makes = old_makes x a.batch z a.makes; unfinished = step.finished a.batch x ∙ a.unfinished }
-  ]
-    where
-      old_makes : (x : Digest) (c : Batch) → count x (all_outputs ts) ≡ 0 → 0 < v.makes c x → 0 < w.makes c x
-      old_makes x c z k = elim (same_or_not b c) [
-        | same e ↦ absurd (let k' : 0 < v.makes b x = subst (λ a. 0 < v.makes a x) (sym e) k in omega (arith, step.made_none x))
-        | other g ↦ rw (step.other_makes c x g) k
-      ]
+  capped_step : Commits P (capped v) (capped w) b ts
+  capped_step = record {
+    each = step.each;
+    held = λ x. omega (arith, step.held x, takes_once x);
+    unfinished = step.unfinished;
+    took_none = step.took_none;
+    made_none = step.made_none;
+    spent = step.spent;
+    made = step.made;
+    takes = step.takes;
+    makes = step.makes;
+    other_takes = step.other_takes;
+    other_makes = step.other_makes;
+    status = step.status;
+    arrived = step.arrived;
+    finished = step.finished;
+    holds = λ c x. ap (λ n. min n 1) (step.holds c x);
+  }
 
   pub capped_commit : Inv genesis Never (capped w)
-  capped_commit = record {
-    unspent = commit_unspent;
-    locked = commit_locked;
-    absent = λ x e. grind (arith, inv.absent x, step.status x, step.arrived x, step.spent x, was_held x);
-    held = λ x c h f. step.status x ∙ inv.held x c (omega (arith, step.holds c x)) (sym (step.finished c x) ∙ f);
-    held_once = λ x c. omega arith;
-    spent_le = λ x. grind (arith, step.spent x, step.arrived x, inv.spent_le x, was_held x, takes_once x);
-    arrived_le = λ x. omega (arith, step.arrived x, step.made x, inv.arrived_le x);
-    made_once = once;
-    takes_le = commit_takes_le;
-    makes_le = commit_makes_le;
-    one_maker = commit_one_maker;
-    pending = commit_pending;
-    awaited = commit_awaited;
-    respent = λ t x y p m n i. absurd p;
-  }
+  capped_commit = commit_inv inv b ts capped_step takes_once (λ x n. (omega (arith, step.made x, once x), omega (arith, step.made x, once x))) once (λ t x y p m n i. absurd p)

@@ -1,10 +1,9 @@
 -- Stamps rise along a journal, and a merge read the other way round has each journal so.
-use Rattle.std.proofs.Common.{◌≡◌, ◌<◌, ℕ, true, false, ◌==◌, if◌then◌else◌, List, [], ◌∷◌, ◌++◌, reverse, refl, sym, ap, ◌∙◌, subst, arith}
+use Rattle.std.proofs.Common.{◌≡◌, ◌<◌, ℕ, true, false, ◌==◌, if◌then◌else◌, List, [], ◌∷◌, reverse, refl, ◌∙◌, subst, arith}
 use mathlib.Core.List.{reverse_aux}
-use Rattle.std.specs.List.{All}
 use Rattle.std.proofs.lemmas.List.{reverse-reverse}
 use Rattle.std.proofs.lemmas.List.Elements.{All-nil, All-cons, All-weaker}
-use Rattle.cbdc_model.specs.Records.{Header, Record, Row, journal, stamp_of, last_stamp, Genesis, Lock, Finish, Forget, Start, Prepare, Commit, Discard, Done}
+use Rattle.cbdc_model.specs.Records.{Header, Record, Row, journal, stamp_of, Genesis, Start}
 use Rattle.cbdc_model.specs.After.{After, IsJournal}
 use Rattle.audit.specs.Rows.{Rises}
 
@@ -12,13 +11,7 @@ use Rattle.audit.specs.Rows.{Rises}
 after_rises : (h : Header) (q : Record) (past : List Record) (r : Record) → After h (q ∷ past) r → stamp_of q < stamp_of r
 after_rises h q past (Genesis header hs) a = absurd (let e : q ∷ past ≡ [] = a.1 in cc)
 after_rises h q past (Start header) a = absurd (let e : q ∷ past ≡ [] = a.1 in cc)
-after_rises h q past (Lock stamp b es) a = a.1.0
-after_rises h q past (Finish stamp b ds) a = a.1.0
-after_rises h q past (Forget stamp b) a = a.1.0
-after_rises h q past (Prepare stamp b txs) a = a.1.0
-after_rises h q past (Commit stamp b os) a = a.1.0
-after_rises h q past (Discard stamp b) a = a.1.0
-after_rises h q past (Done stamp b) a = a.1.0
+after_rises h q past other a = a.1.0
 
 above_rest : (r q : Record) (later : List Record) → stamp_of r < stamp_of q → Rises (q ∷ later) → Rises (r ∷ (q ∷ later))
 above_rest r q later lt h = (

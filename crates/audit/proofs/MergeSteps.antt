@@ -3,6 +3,7 @@ use Rattle.std.proofs.Common.{◌≡◌, ◌⊎◌, ◌+◌, ◌<◌, ◌≤◌,
 use Rattle.std.proofs.lemmas.List.{take-append-drop, append-nil, drop_more, drop_all}
 use Rattle.cbdc_model.specs.Records.{Record, Row, journal, stamp_of}
 use Rattle.cbdc_model.specs.History.{goes_above}
+use Rattle.ledger_laws.proofs.Lookups.{other_way}
 use Rattle.audit.specs.Rows.{journal_in}
 use Rattle.audit.specs.Merges.{RiseAll, journals_below, AreApart, Merged}
 use Rattle.audit.proofs.Rows.{at, away, at_node, head_at, journal-append}
@@ -32,9 +33,6 @@ nil_parts (x ∷ xs) ys e = absurd (no_cons x (xs ++ ys) e)
 none_behind : (n i : ℕ) (a : List Row) → journal n a ≡ [] → journal n (drop i a) ≡ []
 none_behind n i a e =
     (nil_parts (journal n (take i a)) (journal n (drop i a)) (sym (journal-append n (take i a) (drop i a)) ∙ ap (journal n) (take-append-drop i a) ∙ e)).1
-
-other_way : (m n : ℕ) → (m == n) ≡ false → (n == m) ≡ false
-other_way m n e = grind arith
 
 -- rows that may come next from two lists without a common node
 nodes_apart : (a b : List Row) (i j : ℕ) (x y : Row) (more_a more_b : List Row) → AreApart a b → drop i a ≡ x ∷ more_a → drop j b ≡ y ∷ more_b → (x.node == y.node) ≡ false

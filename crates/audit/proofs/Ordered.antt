@@ -3,7 +3,7 @@ use Rattle.std.proofs.Common.{◌≡◌, ℕ, zero, suc, ◌+◌, ◌<◌, ◌�
 use Rattle.cbdc_model.specs.After.{After}
 use Rattle.cbdc_model.specs.History.{Minted, minted, header_of, starts, geneses, first_rows, history_of, IsAbove, IsOrdered}
 use Rattle.cbdc_model.specs.Ranges.{shard_node, on_shard}
-use Rattle.cbdc_model.specs.Records.{Shape, Record, Row, journal, stamp_of, Genesis, Lock, Finish, Forget, Start, Prepare, Commit, Discard, Done}
+use Rattle.cbdc_model.specs.Records.{Shape, Record, Row, journal, stamp_of, Genesis, Start}
 use Rattle.ledger_laws.proofs.Ledger.{next_at}
 use Rattle.ledger_laws.proofs.Next.{Next}
 use Rattle.ledger_laws.proofs.OneHistory.{one_history}
@@ -35,13 +35,7 @@ module _ (K : Shape) (m : Minted) where
   stamped : (node : ℕ) (J : List Record) (r : Record) → After (header_of K m.id node) J r → Next K node J r → 0 < stamp_of r
   stamped node J (Genesis header hs) a next = absurd next
   stamped node J (Start header) a next = absurd next
-  stamped node J (Lock stamp b es) a next = omega (arith, a.0.0)
-  stamped node J (Finish stamp b ds) a next = omega (arith, a.0.0)
-  stamped node J (Forget stamp b) a next = omega (arith, a.0.0)
-  stamped node J (Prepare stamp b txs) a next = omega (arith, a.0.0)
-  stamped node J (Commit stamp b os) a next = omega (arith, a.0.0)
-  stamped node J (Discard stamp b) a next = omega (arith, a.0.0)
-  stamped node J (Done stamp b) a next = omega (arith, a.0.0)
+  stamped node J other a next = omega (arith, a.0.0)
 
   above_start : (row : Row) (n : ℕ) → 0 < stamp_of row.what → IsAbove row (starts K m n)
   above_start row zero lt = tt

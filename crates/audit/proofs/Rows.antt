@@ -1,37 +1,13 @@
 -- Rows and the journals that they have.
-use Rattle.std.proofs.Common.{◌≡◌, ◌+◌, ◌<◌, ℕ, true, false, not, ◌&&◌, ◌||◌, ◌==◌, nat_lt, List, [], ◌∷◌, ◌++◌, reverse, if◌then◌else◌, refl, sym, ap, ◌∙◌, arith}
+use Rattle.std.proofs.Common.{◌≡◌, ◌+◌, ◌<◌, ℕ, true, false, not, ◌&&◌, ◌||◌, ◌==◌, nat_lt, List, [], ◌∷◌, reverse, if◌then◌else◌, refl, sym, ap, ◌∙◌, arith}
 use mathlib.Core.List.{reverse_aux}
 use Rattle.std.proofs.lemmas.List.Elements.{All-head}
 use Rattle.cbdc_model.specs.Records.{Record, Row, journal, stamp_of}
 use Rattle.cbdc_model.specs.History.{IsAbove, IsOrdered}
+pub use Rattle.ledger_laws.proofs.Rows.{AtNode, at, away, at_node, head_at, head_away}
+pub use Rattle.ledger_laws.proofs.HistoryLaws.{journal-append}
 use Rattle.audit.specs.Rows.{Rises, journal_in}
 use Rattle.audit.specs.Merges.{RiseAll, journals_below, rows_of}
-
--- whether a row stands in a node's journal
-pub data AtNode (m n : ℕ) : Type 0 where
-  at : m ≡ n → AtNode m n
-  away : (m == n) ≡ false → AtNode m n
-
-pub at_node : (m n : ℕ) → AtNode m n
-at_node m n = elim (m == n) as (λ c. (m == n) ≡ c → AtNode m n) [
-  | true ↦ λ e. at (let same : m ≡ n = grind (arith, e) in same)
-  | false ↦ λ e. away e
-] refl
-
-pub head_at : (row : Row) (past : List Row) (n : ℕ) → row.node ≡ n → journal n (row ∷ past) ≡ row.what ∷ journal n past
-head_at row past n e = grind arith
-
-pub head_away : (row : Row) (past : List Row) (n : ℕ) → (row.node == n) ≡ false → journal n (row ∷ past) ≡ journal n past
-head_away row past n e = rw e
-
-pub journal-append : (n : ℕ) (xs ys : List Row) → journal n (xs ++ ys) ≡ journal n xs ++ journal n ys
-journal-append n [] ys = refl
-journal-append n (row ∷ xs) ys =
-    let ih : journal n (xs ++ ys) ≡ journal n xs ++ journal n ys = journal-append n xs ys in
-    elim (row.node == n) as (λ c. (if c then row.what ∷ journal n (xs ++ ys) else journal n (xs ++ ys)) ≡ (if c then row.what ∷ journal n xs else journal n xs) ++ journal n ys) [
-      | true ↦ ap (λ J. row.what ∷ J) ih
-      | false ↦ ih
-    ]
 
 -- the rows of one node
 pub own_at : (node n : ℕ) (records : List Record) → node ≡ n → journal n (rows_of node records) ≡ records

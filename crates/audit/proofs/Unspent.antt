@@ -1,37 +1,35 @@
 -- Of a sound history the unspent hashes are those of its last book.
-use Rattle.std.proofs.Common.{◌≡◌, ◌⊎◌, inl, inr, ℕ, suc, ◌+◌, ◌-◌, ◌<◌, ◌≤◌, min, Bool, true, false, ◌&&◌, ◌==◌, List, [], ◌∷◌, ◌++◌, map, length, Option, Some, None, refl, sym, ap, ◌∙◌, subst, arith}
+use Rattle.std.proofs.Common.{◌≡◌, ◌⊎◌, inl, inr, ℕ, suc, ◌+◌, ◌-◌, ◌<◌, ◌≤◌, min, true, false, ◌&&◌, ◌==◌, List, [], ◌∷◌, ◌++◌, map, length, Option, Some, None, refl, sym, ap, ◌∙◌, subst, arith}
 use Rattle.cbdc_model.specs.Causes.{IsCaused}
-use Rattle.cbdc_model.specs.Records.{Digest, same_digest, Shape, Batch, Compact, Entry, Outcome, Record, Row, journal, record_of, kind_of, is_of, Genesis, Lock, Finish, Forget, Start, Prepare, Commit, Discard, Done, lock_of, txs_of, outcomes_of, txs_in}
-use Rattle.cbdc_model.specs.Outcomes.{won_txs, won_at}
-use Rattle.cbdc_model.specs.Ranges.{shard_of, shard_node, journal_at, lane_journal, home_of, Concerned, part, is_no_part}
+use Rattle.cbdc_model.specs.Records.{Digest, Shape, Batch, Compact, Record, Row, journal, kind_of, is_of, Genesis, Lock, Finish, Start, Prepare, Commit, lock_of, txs_of, outcomes_of}
+use Rattle.cbdc_model.specs.Ranges.{shard_of, shard_node, journal_at, lane_journal, home_of, Concerned}
 use Rattle.cbdc_model.specs.Status.{status, held_inputs, Unspent, Locked, Absent}
 use Rattle.cbdc_model.specs.Coins.{Output, Coin, FullTx, tx_coins, genesis_tx, genesis_hashes, compact}
 use Rattle.cbdc_model.specs.Book.{Book, fold_txs, genesis_book, InBook}
 use Rattle.cbdc_model.specs.Clean.{IsMember, Clean}
-use Rattle.cbdc_model.specs.Next.{same_digests}
 use Rattle.cbdc_model.specs.History.{Minted, minted, first_rows, committed, newly_won, won_of, all_inputs, all_outputs, same_compact, first_with, AreHandedIn}
 use Rattle.cbdc_model.specs.World.{IsUnspent}
-use Rattle.ledger_laws.proofs.Next.{Next, Steady, AllProper, has_lock, has_finish, has_prepare}
-use Rattle.ledger_laws.proofs.Ledger.{next_at}
+use Rattle.ledger_laws.proofs.Next.{Next, Steady, has_lock, has_finish, has_prepare}
+use Rattle.ledger_laws.proofs.Ledger.{next_at, proper_of, each_passes}
 use Rattle.ledger_laws.proofs.More.{has_done}
-use Rattle.ledger_laws.proofs.Parts.{IsPart, is_part, won_by, won_by-won_txs, count-made}
-use Rattle.ledger_laws.proofs.Recovered.{all_dones, done_forgot}
+use Rattle.ledger_laws.proofs.Recovered.{all_dones, done_forgot, part_of_made, held_locked, won_prepared}
 use Rattle.ledger_laws.proofs.Moves.{all_structure, all_more, not_empty, split_test}
-use Rattle.ledger_laws.proofs.Counts.{count, same_digest_is}
+use Rattle.ledger_laws.proofs.Counts.{count}
 use Rattle.ledger_laws.proofs.View.{Inv, Awaited}
 use Rattle.ledger_laws.proofs.LockStep.{lock_kept}
 use Rattle.ledger_laws.proofs.FinishStep.{finish_kept}
 use Rattle.ledger_laws.proofs.CommitStep.{Apart}
-use Rattle.ledger_laws.proofs.Rows.{view, at, away, at_node, head_at, head_away}
-use Rattle.ledger_laws.proofs.Steps.{forget_view, discard_view, done_view, prepare_view, newly, commit_changes, finish_changes}
+use Rattle.ledger_laws.proofs.Rows.{view, quiet_view, at, away, at_node, head_at, head_away}
+use Rattle.ledger_laws.proofs.Steps.{prepare_view, newly, commit_changes, finish_changes}
 use Rattle.ledger_laws.proofs.First.{first_inv}
-use Rattle.ledger_laws.proofs.Lookups.{true_false, not_true, no_lock, none_found, shard_of-lt}
+use Rattle.ledger_laws.proofs.Lookups.{true_false, shard_of-lt}
 use Rattle.ledger_laws.proofs.Folds.{hashes_of}
 use Rattle.ledger_laws.proofs.Members.{In, contains_in, CoinAt, coin_at, tx_coins_once, genesis_member}
 use Rattle.ledger_laws.proofs.Theory.{in_book}
+use Rattle.ledger_laws.proofs.Equality.{same_compact_is}
 use Rattle.audit.proofs.Once.{SoFar, AreReady, fold_so_far, counted_in, Maker, maker_in, StandsFor}
 use Rattle.audit.proofs.Holders.{Never, capped, capped_inv, capped_finish, capped_commit}
-use Rattle.audit.proofs.Locking.{newly_held, capped_lock, finish_exact}
+use Rattle.audit.proofs.Locking.{capped_lock, finish_exact}
 use Rattle.audit.specs.Spending.{AreSpent}
 use Rattle.audit.specs.Walks.{AllCaused, IsDone}
 use Rattle.audit.specs.Laws.{AllAfter}
@@ -39,56 +37,17 @@ use Rattle.audit.specs.Laws.{AllAfter}
 abbrev Any : Compact → Type 0
 Any t = Unit {0}
 
--- any transactions pass
-any_passes : (r : Record) → AllProper Any r
-any_passes (Prepare stamp b txs) = each txs
-  where
-    each : (ts : List Compact) → AllProper Any (Prepare 0 (record { lane = 0; number = 0 }) ts)
-    each [] = tt
-    each (t ∷ ts) = (tt, each ts)
-any_passes (Genesis header hs) = tt
-any_passes (Lock stamp b es) = tt
-any_passes (Finish stamp b ds) = tt
-any_passes (Forget stamp b) = tt
-any_passes (Start header) = tt
-any_passes (Commit stamp b os) = tt
-any_passes (Discard stamp b) = tt
-any_passes (Done stamp b) = tt
-
 pub all_steady : (K : Shape) (m : Minted) (later : List Row) → AllAfter K m later → AllCaused K (later ++ first_rows K m) → Steady K m Any later
 all_steady K m [] after caused = tt
 all_steady K m (row ∷ later) after caused =
-    (next_at K m Any later row.node row.what after.0, caused.0, any_passes row.what, all_steady K m later after.1 caused.1, after.0.0)
+    (next_at K m Any later row.node row.what after.0, caused.0, proper_of Any row.what (each_passes Any (λ t. tt) row.what), all_steady K m later after.1 caused.1, after.0.0)
 
 -- the forms of what was handed in
-and_both : (a b : Bool) → (a && b) ≡ true → (a ≡ true) × (b ≡ true)
-and_both a b h = grind arith
-
-digests_are : (xs ys : List Digest) → same_digests xs ys ≡ true → xs ≡ ys
-digests_are [] [] h = refl
-digests_are [] (y ∷ ys) h = cc
-digests_are (x ∷ xs) [] h = cc
-digests_are (x ∷ xs) (y ∷ ys) h =
-    let both : (same_digest x y ≡ true) × (same_digests xs ys ≡ true) = and_both (same_digest x y) (same_digests xs ys) h in
-    let e : x ≡ y = same_digest_is x y both.0 in
-    let f : xs ≡ ys = digests_are xs ys both.1 in
-    λ i. e i ∷ f i
-
-form_is : (a b : Compact) → same_compact a b ≡ true → a ≡ b
-form_is a b h =
-    let one : (same_digest a.id b.id ≡ true) × ((same_digests a.inputs b.inputs && same_digests a.outputs b.outputs) ≡ true)
-    = and_both (same_digest a.id b.id) (same_digests a.inputs b.inputs && same_digests a.outputs b.outputs) h in
-    let two : (same_digests a.inputs b.inputs ≡ true) × (same_digests a.outputs b.outputs ≡ true) = and_both (same_digests a.inputs b.inputs) (same_digests a.outputs b.outputs) one.1 in
-    let e : a.id ≡ b.id = same_digest_is a.id b.id one.0 in
-    let f : a.inputs ≡ b.inputs = digests_are a.inputs b.inputs two.0 in
-    let g : a.outputs ≡ b.outputs = digests_are a.outputs b.outputs two.1 in
-    λ j. record { id = e j; inputs = f j; outputs = g j }
-
 found_is : (txs : List FullTx) (k : Compact) (t : FullTx) → first_with txs k ≡ Some t → In t txs × (compact t ≡ k)
 found_is [] k t h = absurd (let z : None ≡ Some t = h in cc)
 found_is (u ∷ us) k t h =
     elim (same_compact (compact u) k) as (λ c. same_compact (compact u) k ≡ c → In t (u ∷ us) × (compact t ≡ k)) [
-      | true ↦ λ e. let s : Some u ≡ Some t = rw e at h in let same : u ≡ t = cc in (inl (sym same), ap compact (sym same) ∙ form_is (compact u) k e)
+      | true ↦ λ e. let s : Some u ≡ Some t = rw e at h in let same : u ≡ t = cc in (inl (sym same), ap compact (sym same) ∙ same_compact_is (compact u) k e)
       | false ↦ λ e. let r : In t us × (compact t ≡ k) = found_is us k t (rw e at h) in (inr r.0, r.1)
     ] refl
 
@@ -137,20 +96,6 @@ spent_before mint handed ks ls b s =
     = split_fold r.0 r.1 (Some (genesis_book mint)) b (subst (λ l. fold_txs (Some (genesis_book mint)) l ≡ Some b) (sym r.3) s.folds) in
     (f.0, record { txs = r.0; handed_in = r.2; folds = f.1 })
 
--- a shard of a made hash has a part
-no_part : (es : List Entry) → is_no_part es ≡ true → es ≡ []
-no_part [] h = refl
-no_part (e ∷ es) h = cc
-
-part_of_made : (K : Shape) (x : Digest) (txs : List Compact) (os : List Outcome) → 0 < count x (all_outputs (won_txs txs os))
-    → is_no_part (part K.shards (shard_of K.shards x) 0 txs) ≡ false
-part_of_made K x txs os n = not_true _ (λ t.
-    let p : IsPart x 0 txs [] = is_part K.shards x 0 txs [] (sym (no_part (part K.shards (shard_of K.shards x) 0 txs) t)) in
-    let none_made : 0 ≡ count x (all_outputs (won_by (won_at os) 0 txs)) = count-made x (won_at os) p in
-    let is : won_by (won_at os) 0 txs ≡ won_txs txs os = won_by-won_txs (won_at os) 0 txs os (λ i. ap (won_at os) (omega arith)) in
-    let z : count x (all_outputs (won_by (won_at os) 0 txs)) ≡ count x (all_outputs (won_txs txs os)) = ap (λ ts. count x (all_outputs ts)) is in
-    omega arith)
-
 module _ (K : Shape) where
   -- each batch is done
   abbrev pub EachDone : (ℕ → List Record) → List Row → Type 0
@@ -159,14 +104,7 @@ module _ (K : Shape) where
 
   done_here : (J : ℕ → List Record) (r : Record) (b : Batch) → IsDone K J r → ((kind_of r == 6) && is_of b r) ≡ true → has_done (J (home_of K b.lane)) b ≡ true
   done_here J (Prepare stamp c txs) b d t = subst (λ e. has_done (J (home_of K e.lane)) e ≡ true) (split_test 6 6 c b t).1 d
-  done_here J (Genesis header hs) b d t = absurd (let z : false ≡ true = t in cc)
-  done_here J (Lock stamp c es) b d t = absurd (let z : false ≡ true = t in cc)
-  done_here J (Finish stamp c ds) b d t = absurd (let z : false ≡ true = t in cc)
-  done_here J (Forget stamp c) b d t = absurd (let z : false ≡ true = t in cc)
-  done_here J (Start header) b d t = absurd (let z : false ≡ true = t in cc)
-  done_here J (Commit stamp c os) b d t = absurd (let z : false ≡ true = t in cc)
-  done_here J (Discard stamp c) b d t = absurd (let z : false ≡ true = t in cc)
-  done_here J (Done stamp c) b d t = absurd (let z : false ≡ true = t in cc)
+  done_here J other b d t = absurd (let z : false ≡ true = t in cc)
 
   pub done_of : (J : ℕ → List Record) (past : List Row) (n : ℕ) (b : Batch) → EachDone J past → has_prepare (journal n past) b ≡ true → has_done (J (home_of K b.lane)) b ≡ true
   done_of J [] n b done h = absurd (let z : false ≡ true = h in cc)
@@ -233,25 +171,22 @@ module _ (K : Shape) (mint : List Output) (handed : List FullTx) (clean : Clean 
   inv_next later kept node (Start header) next caused once covered inv = absurd next
   inv_next later kept node (Lock stamp b es) next caused once covered inv =
       let st = all_structure K (minted mint) Any shards later kept in
-      lock_kept inv b (newly_held K Any (whole later) st node stamp b es next) (capped_lock K Any (whole later) st node stamp b es next)
+      let step = capped_lock K Any (whole later) st node stamp b es next in
+      lock_kept inv b step.0 step.1
   inv_next later kept node (Finish stamp b ds) next caused once covered inv =
       let st = all_structure K (minted mint) Any shards later kept in
       finish_kept inv b (capped_finish (view K (whole later)) (view K (record { node = node; what = Finish stamp b ds } ∷ whole later)) b
       (finish_changes K Any (whole later) st node stamp b ds next caused)
       (λ x. let t : count x (all_inputs (won_of K (whole later) b)) ≤ 1 = omega (arith, inv.takes_le x b, inv.spent_le x, inv.arrived_le x, inv.made_once x) in t)
       (λ x u n. finish_exact K (minted mint) Any shards later kept node stamp b ds next caused x n))
-  inv_next later kept node (Forget stamp b) next caused once covered inv =
-      subst (λ v. Inv genesis Never (capped v)) (sym (forget_view K Any (whole later) (all_structure K (minted mint) Any shards later kept) node stamp b)) inv
   inv_next later kept node (Prepare stamp b txs) next caused once covered inv =
       subst (λ v. Inv genesis Never (capped v)) (sym (prepare_view K Any (whole later) (all_structure K (minted mint) Any shards later kept) node stamp b txs next)) inv
   inv_next later kept node (Commit stamp b os) next caused once covered inv =
       let st = all_structure K (minted mint) Any shards later kept in
       capped_commit genesis Any (view K (whole later)) (view K (record { node = node; what = Commit stamp b os } ∷ whole later)) inv b
       (newly K Any (whole later) st node stamp b os shards next caused) (commit_changes K Any (whole later) st node stamp b os shards next caused) once covered
-  inv_next later kept node (Discard stamp b) next caused once covered inv =
-      subst (λ v. Inv genesis Never (capped v)) (sym (discard_view K Any (whole later) (all_structure K (minted mint) Any shards later kept) node stamp b)) inv
-  inv_next later kept node (Done stamp b) next caused once covered inv =
-      subst (λ v. Inv genesis Never (capped v)) (sym (done_view K Any (whole later) (all_structure K (minted mint) Any shards later kept) node stamp b)) inv
+  inv_next later kept node other next caused once covered inv = subst (λ v. Inv genesis Never (capped v)) (sym (quiet_view K (whole later) (record { node = node; what = other })
+      (λ J c. refl) (λ J c. refl) (λ J x. refl) (λ J x. refl) (λ J c. refl) (λ J c. refl) refl)) inv
 
   all_inv : (later : List Row) → Steady K (minted mint) Any later → (b : Book) → AreSpent mint handed (committed (whole later)) b → EachSpends (committed (whole later))
       → Inv genesis Never (capped (view K (whole later)))
@@ -271,29 +206,19 @@ module _ (K : Shape) (mint : List Output) (handed : List FullTx) (clean : Clean 
 
     none_locked : (x : Digest) (b : Batch) → Inv genesis Never (capped (view K (whole later))) → status (journal_at K (whole later) x) x ≡ Locked b → ⊥
     none_locked x b inv e =
-        let locked : has_lock (journal_at K (whole later) x) b ≡ true = has_it x b (let n : 0 < min (count x (held_inputs (lock_of (journal_at K (whole later) x) b))) 1 = (inv.locked x b e).3 in omega arith) in
+        let locked : has_lock (journal_at K (whole later) x) b ≡ true
+        = held_locked (journal_at K (whole later) x) x b (let n : 0 < min (count x (held_inputs (lock_of (journal_at K (whole later) x) b))) 1 = (inv.locked x b e).3 in omega arith) in
         true_false _ (finished_at b ((all_structure K (minted mint) Any shards later kept).lock_prepared (shard_node K (shard_of K.shards x)) b locked) (shard_of K.shards x) (
           shard_of-lt K.shards x shards,
           not_empty (lock_of (journal_at K (whole later) x) b) _ ((all_structure K (minted mint) Any shards later kept).lock_part (shard_of K.shards x) b locked)
               ((all_more K (minted mint) Any shards later kept (shard_node K (shard_of K.shards x))).lock_some b locked),
         )) (inv.locked x b e).1
-      where
-        has_it : (x : Digest) (b : Batch) → 0 < count x (held_inputs (lock_of (journal_at K (whole later) x) b)) → has_lock (journal_at K (whole later) x) b ≡ true
-        has_it x b n = elim (has_lock (journal_at K (whole later) x) b) as (λ c. has_lock (journal_at K (whole later) x) b ≡ c → c ≡ true) [
-          | true ↦ λ _. refl
-          | false ↦ λ f. absurd (let z : count x (held_inputs (lock_of (journal_at K (whole later) x) b)) ≡ 0 = ap (λ a. count x (held_inputs a)) (no_lock (journal_at K (whole later) x) b f) in omega arith)
-        ] refl
 
     none_coming : (x : Digest) (b : Batch) → 0 < count x (all_outputs (won_of K (whole later) b)) → has_finish (journal_at K (whole later) x) b ≡ false → ⊥
-    none_coming x b n f = true_false _ (finished_at b (prepared x b n) (shard_of K.shards x)
+    none_coming x b n f =
+        let prepared = won_prepared (lane_journal K (whole later) b) x b (outcomes_of (lane_journal K (whole later) b) b) n in
+        true_false _ (finished_at b prepared (shard_of K.shards x)
         (shard_of-lt K.shards x shards, part_of_made K x (txs_of (lane_journal K (whole later) b) b) (outcomes_of (lane_journal K (whole later) b) b) n)) f
-      where
-        prepared : (x : Digest) (b : Batch) → 0 < count x (all_outputs (won_of K (whole later) b)) → has_prepare (lane_journal K (whole later) b) b ≡ true
-        prepared x b n = elim (has_prepare (lane_journal K (whole later) b) b) as (λ c. has_prepare (lane_journal K (whole later) b) b ≡ c → c ≡ true) [
-          | true ↦ λ _. refl
-          | false ↦ λ e. absurd (let z : count x (all_outputs (won_of K (whole later) b)) ≡ 0
-              = ap (λ r. count x (all_outputs (won_txs (txs_in r) (outcomes_of (lane_journal K (whole later) b) b)))) (none_found (record_of 6 (lane_journal K (whole later) b) b) e) in omega arith)
-        ] refl
 
     module _ (b : Book) (s : AreSpent mint handed (committed (whole later)) b) (each : EachSpends (committed (whole later))) where
       the_account : Account (whole later) b

@@ -2,7 +2,7 @@
 use Rattle.std.proofs.Common.{◌≡◌, ◌≢◌, ◌+◌, List, [], length, ap, sym, ◌∙◌, arith}
 use Rattle.std.specs.Prelude.{◌↔◌, IsTrue, Bool, Result, Ok, Err, IfOk}
 use Rattle.std.proofs.lemmas.List.{length-map}
-use Rattle.cbdc_model.specs.Records.{Record, txs_of, Genesis, Lock, Finish, Forget, Start, Prepare, Commit, Discard, Done}
+use Rattle.cbdc_model.specs.Records.{Record, txs_of, Genesis, Start, Prepare, Commit, Discard, Done}
 use Rattle.cbdc_model.specs.Slots.{slot, InPrepare, InCommit, InDiscard}
 use Rattle.cbdc_model.specs.Grammar.{IsInGrammar}
 use Rattle.cbdc_model.specs.After.{After, Follows}
@@ -13,11 +13,6 @@ use Rattle.coord_core.proofs.Walks.{slot_is}
 
 -- what is next follows
 follows_admitted : (c : CoordOf) (J : List Record) (r : Record) → StandsFor c J → IsAdmitted c r → Follows c.header J r
-follows_admitted c J (Genesis header hs) stands next = absurd next
-follows_admitted c J (Lock stamp b es) stands next = absurd next
-follows_admitted c J (Finish stamp b ds) stands next = absurd next
-follows_admitted c J (Forget stamp b) stands next = absurd next
-follows_admitted c J (Start header) stands next = absurd next
 follows_admitted c J (Prepare stamp b txs) stands next =
     let s : (lane_at c b.lane).slot ≡ slot J b.lane = stands.slots b.lane next.0.0.0 in (
       omega (arith, stands.last, next.0.0.1),
@@ -41,14 +36,12 @@ follows_admitted c J (Discard stamp b) stands next =
 follows_admitted c J (Done stamp b) stands next =
     let s : slot J b.lane ≡ record { number = b.number; phase = InDiscard } = sym (stands.slots b.lane next.0.0) ∙ next.1 in
     (omega (arith, stands.last, next.0.1), sym next.0.0, ap (λ x. x.phase) s, ap (λ x. x.number) s)
+follows_admitted c J other stands next = absurd next
 
 -- what follows, and is in the grammar, is next
 admitted_follows : (c : CoordOf) (J : List Record) (r : Record) → IsWhole c → StandsFor c J → J ≢ [] → IsInGrammar c.header r → Follows c.header J r → IsAdmitted c r
 admitted_follows c J (Genesis header hs) whole stands begun grammar follows = absurd (begun follows)
 admitted_follows c J (Start header) whole stands begun grammar follows = absurd (begun follows)
-admitted_follows c J (Lock stamp b es) whole stands begun grammar follows = absurd (omega (arith, grammar.2.0, whole.node))
-admitted_follows c J (Finish stamp b ds) whole stands begun grammar follows = absurd (omega (arith, grammar.2.0, whole.node))
-admitted_follows c J (Forget stamp b) whole stands begun grammar follows = absurd (omega (arith, grammar.2.0, whole.node))
 admitted_follows c J (Prepare stamp b txs) whole stands begun grammar follows =
     let own = sym follows.1 in
     let s : (lane_at c b.lane).slot ≡ slot J b.lane = stands.slots b.lane own in (
@@ -72,6 +65,7 @@ admitted_follows c J (Done stamp b) whole stands begun grammar follows =
     let own = sym follows.1 in
     let s : (lane_at c b.lane).slot ≡ slot J b.lane = stands.slots b.lane own in
     ((own, (omega (arith, stands.last, follows.0)), grammar.0.1), s ∙ slot_is (slot J b.lane) b.number InDiscard (sym follows.3) follows.2)
+admitted_follows c J other whole stands begun grammar follows = absurd (omega (arith, grammar.2.0, whole.node))
 
 -- behind the test of the grammar, that of the lanes tells what is next
 pub next_in_grammar : {E : Type 0} (c : CoordOf) (r : Record) (result : Result Bool E) → IsInGrammar c.header r → IfOk result (λ b. IsTrue b ↔ IsAdmitted c r)

@@ -15,11 +15,6 @@ use Rattle.coord_core.specs.Stands.{StandsFor, batch_of}
 
 -- a record that is next for the lanes follows the journal that they stand for
 pub follows_next : (c : CoordOf) (J : List Record) (r : Record) → StandsFor c J → IsNext c r → Follows c.header J r
-follows_next c J (Genesis header hs) stands next = absurd next
-follows_next c J (Lock stamp b es) stands next = absurd next
-follows_next c J (Finish stamp b ds) stands next = absurd next
-follows_next c J (Forget stamp b) stands next = absurd next
-follows_next c J (Start header) stands next = absurd next
 follows_next c J (Prepare stamp b txs) stands next =
     let s : (lane_at c b.lane).slot ≡ slot J b.lane = stands.slots b.lane next.0.0.0 in (
       omega (arith, stands.last, next.0.0.1),
@@ -43,6 +38,7 @@ follows_next c J (Discard stamp b) stands next =
 follows_next c J (Done stamp b) stands next =
     let s : slot J b.lane ≡ record { number = b.number; phase = InDiscard } = sym (stands.slots b.lane next.0.0) ∙ next.1 in
     (omega (arith, stands.last, next.0.1), sym next.0.0, ap (λ x. x.phase) s, ap (λ x. x.number) s)
+follows_next c J other stands next = absurd next
 
 -- the batch and the phase that a record sets its lane to
 sets_of : Record → Option (Batch × Phase)
@@ -63,14 +59,7 @@ slot_by (Some (b, p)) s lane = if b.lane == lane then record { number = b.number
 slot_is_by : (r : Record) (past : List Record) (lane : ℕ) → slot (r ∷ past) lane ≡ slot_by (sets_of r) (slot past lane) lane
 unfolding sets_of
 slot_is_by (Genesis header hs) past lane = refl
-slot_is_by (Lock stamp b es) past lane = refl
-slot_is_by (Finish stamp b ds) past lane = refl
-slot_is_by (Forget stamp b) past lane = refl
-slot_is_by (Start header) past lane = refl
-slot_is_by (Prepare stamp b txs) past lane = refl
-slot_is_by (Commit stamp b os) past lane = refl
-slot_is_by (Discard stamp b) past lane = refl
-slot_is_by (Done stamp b) past lane = refl
+slot_is_by other past lane = refl
 
 -- a phase of a coordinator's lane
 abbrev pub IsCoordPhase : Phase → Type 0
@@ -92,10 +81,7 @@ set_facts h past (Lock stamp b es) node after = absurd (omega (arith, after.0.2.
 set_facts h past (Finish stamp b ds) node after = absurd (omega (arith, after.0.2.0))
 set_facts h past (Forget stamp b) node after = absurd (omega (arith, after.0.2.0))
 set_facts h past (Start header) node after = tt
-set_facts h past (Prepare stamp b txs) node after = (after.0.1, after.1.1, tt)
-set_facts h past (Commit stamp b os) node after = (after.0.1, after.1.1, tt)
-set_facts h past (Discard stamp b) node after = (after.0.1, after.1.1, tt)
-set_facts h past (Done stamp b) node after = (after.0.1, after.1.1, tt)
+set_facts h past other node after = (after.0.1, after.1.1, tt)
 
 abbrev pub no_slot : Slot
 no_slot = record { number = 0; phase = Idle }

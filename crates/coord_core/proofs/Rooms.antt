@@ -3,7 +3,7 @@ use Rattle.std.proofs.Common.{◌≡◌, ◌≢◌, ◌⊎◌, ℕ, zero, suc, �
 use Rattle.std.specs.Prelude.{All}
 use Rattle.std.proofs.lemmas.Bool.Decides.{eqb_tells}
 use Rattle.std.proofs.lemmas.List.{get_or-set_same, get_or-set_other, length-map}
-use Rattle.cbdc_model.specs.Records.{Header, Record, Genesis, Lock, Finish, Forget, Start, Prepare, Commit, Discard, Done}
+use Rattle.cbdc_model.specs.Records.{Header, Record, Prepare, Commit, Discard, Done}
 use Rattle.cbdc_model.specs.Slots.{Slot, Idle, InPrepare, InCommit, InDiscard}
 use Rattle.coord_core.specs.Masks.{mask_of, masks_of}
 use Rattle.coord_core.specs.Lanes.{CoordOf, LaneOf, IsWhole, IsNext, Takes, IsIdle, IsFresh, IsRoomed, AllRoomed, OthersRoomed, IsSameButRoom, HasGrown, KeepsOthers, no_lane, lane_at, with_lane, begun, turned}
@@ -56,11 +56,7 @@ taken_rooms c d (Prepare stamp b txs) whole next takes rooms =
 taken_rooms c d (Commit stamp b os) whole next takes rooms = turn_rooms c d stamp b.lane (record { number = b.number; phase = InCommit }) whole takes (λ e. cc) rooms
 taken_rooms c d (Discard stamp b) whole next takes rooms = turn_rooms c d stamp b.lane (record { number = b.number; phase = InDiscard }) whole takes (λ e. cc) rooms
 taken_rooms c d (Done stamp b) whole next takes rooms = turn_rooms c d stamp b.lane (record { number = b.number; phase = Idle }) whole takes (λ e. cc) rooms
-taken_rooms c d (Genesis header hs) whole next takes rooms = absurd next
-taken_rooms c d (Lock stamp b es) whole next takes rooms = absurd next
-taken_rooms c d (Finish stamp b ds) whole next takes rooms = absurd next
-taken_rooms c d (Forget stamp b) whole next takes rooms = absurd next
-taken_rooms c d (Start header) whole next takes rooms = absurd next
+taken_rooms c d other whole next takes rooms = absurd next
 
 -- lanes without a batch have room
 idle_at : (i : ℕ) (ls : List LaneOf) → All IsIdle ls → (get_or ls i no_lane).slot.phase ≡ Idle

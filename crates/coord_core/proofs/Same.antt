@@ -1,6 +1,6 @@
 -- What a coordinator's lanes stand for where room is made, and their header where a record is taken in.
 use Rattle.std.proofs.Common.{◌≡◌, ℕ, List, ap, ◌∙◌, sym, subst}
-use Rattle.cbdc_model.specs.Records.{Header, Record, txs_of, Genesis, Lock, Finish, Forget, Start, Prepare, Commit, Discard, Done}
+use Rattle.cbdc_model.specs.Records.{Header, Record, txs_of, Genesis, Start}
 use Rattle.coord_core.specs.Masks.{masks_of}
 use Rattle.coord_core.specs.Lanes.{CoordOf, IsOwn, IsSameButRoom, Takes}
 use Rattle.coord_core.specs.Stands.{StandsFor, batch_of}
@@ -8,14 +8,8 @@ use Rattle.coord_core.specs.Stands.{StandsFor, batch_of}
 -- a record that is taken in leaves the header
 pub takes_header : (c d : CoordOf) (r : Record) → Takes c d r → d.header ≡ c.header
 takes_header c d (Genesis header hs) t = ap (λ x. x.header) t
-takes_header c d (Lock stamp b es) t = ap (λ x. x.header) t
-takes_header c d (Finish stamp b ds) t = ap (λ x. x.header) t
-takes_header c d (Forget stamp b) t = ap (λ x. x.header) t
 takes_header c d (Start header) t = ap (λ x. x.header) t
-takes_header c d (Prepare stamp b txs) t = ap (λ x. x.header) t
-takes_header c d (Commit stamp b os) t = ap (λ x. x.header) t
-takes_header c d (Discard stamp b) t = ap (λ x. x.header) t
-takes_header c d (Done stamp b) t = ap (λ x. x.header) t
+takes_header c d other t = ap (λ x. x.header) t
 
 -- room does not matter to what the lanes stand for
 pub stands_same : (c d : CoordOf) (past : List Record) → IsSameButRoom c d → StandsFor c past → StandsFor d past

@@ -5,7 +5,7 @@ use Rattle.std.proofs.lemmas.Bool.Decides.{eqb_tells}
 use Rattle.std.proofs.lemmas.Bool.{ne_eqb}
 use Rattle.std.proofs.Math.Nat.{div-add-mod}
 use Rattle.std.specs.Prelude.{All}
-use Rattle.cbdc_model.specs.Records.{Header, Record, Batch, Compact, Outcome, same_batch, txs_of, Genesis, Lock, Finish, Forget, Start, Prepare, Commit, Discard, Done}
+use Rattle.cbdc_model.specs.Records.{Header, Record, Batch, Compact, Outcome, same_batch, txs_of, Start, Prepare, Commit, Discard, Done}
 use Rattle.cbdc_model.specs.Slots.{Slot, slot, Idle, InPrepare, InCommit, InDiscard}
 use Rattle.coord_core.specs.Masks.{masks_of}
 use Rattle.coord_core.specs.Lanes.{CoordOf, LaneOf, no_lane, IsOwn, lane_at, with_lane, begun, Takes, IsNext, IsWhole, IsIdle, IsFresh}
@@ -129,11 +129,6 @@ prepare_masks c d past stamp b txs is stands own lt q own' phase =
 
 -- one record more
 pub stands_next : (c d : CoordOf) (past : List Record) (r : Record) → IsWhole c → StandsFor c past → IsNext c r → Takes c d r → StandsFor d (r ∷ past)
-stands_next c d past (Genesis header hs) whole stands next takes = absurd next
-stands_next c d past (Lock stamp b es) whole stands next takes = absurd next
-stands_next c d past (Finish stamp b ds) whole stands next takes = absurd next
-stands_next c d past (Forget stamp b) whole stands next takes = absurd next
-stands_next c d past (Start header) whole stands next takes = absurd next
 stands_next c d past (Prepare stamp b txs) whole stands next takes = record {
   last = ap (λ x. x.last) takes;
   slots = slots_set c d past (Prepare stamp b txs) stamp b.lane l takes stands next.0.0.0 lt (sets_prepare past stamp b txs);
@@ -178,6 +173,7 @@ stands_next c d past (Done stamp b) whole stands next takes = record {
 
     l : LaneOf
     l = record (lane_at c b.lane) { slot = record { number = b.number; phase = Idle } }
+stands_next c d past other whole stands next takes = absurd next
 
 -- behind the first record no lane has a batch
 pub stands_first : (h : Header) (c : CoordOf) → IsFresh h c → StandsFor c (Start h ∷ [])

@@ -1,7 +1,7 @@
 -- A coordinator's journal has no record of another coordinator's lane.
 use Rattle.std.proofs.Common.{◌≡◌, ◌≢◌, ◌⊎◌, inl, inr, ◌<◌, ◌==◌, true, false, ℕ, List, [], ◌∷◌, refl, sym, ap, ◌∙◌, subst, arith}
 use Rattle.std.proofs.lemmas.Bool.Decides.{eqb_tells}
-use Rattle.cbdc_model.specs.Records.{Header, Record, Genesis, Lock, Finish, Forget, Start, Prepare, Commit, Discard, Done}
+use Rattle.cbdc_model.specs.Records.{Header, Record, Genesis, Start, Prepare, Commit, Discard, Done}
 use Rattle.cbdc_model.specs.Ranges.{home_of}
 use Rattle.cbdc_model.specs.Slots.{Slot, slot}
 use Rattle.cbdc_model.specs.After.{IsFirst, IsJournal}
@@ -20,13 +20,7 @@ module _ (h : Header) (lane : ℕ) (inside : h.node < h.shape.coordinators) (oth
   first_slot : (r : Record) → IsFirst r → slot (r ∷ []) lane ≡ no_lane.slot
   first_slot (Genesis header hs) first = refl
   first_slot (Start header) first = refl
-  first_slot (Lock stamp b es) first = absurd first
-  first_slot (Finish stamp b ds) first = absurd first
-  first_slot (Forget stamp b) first = absurd first
-  first_slot (Prepare stamp b txs) first = absurd first
-  first_slot (Commit stamp b os) first = absurd first
-  first_slot (Discard stamp b) first = absurd first
-  first_slot (Done stamp b) first = absurd first
+  first_slot other first = absurd first
 
   -- so the lane has no batch
   pub no_batch : (J : List Record) → IsJournal h J → slot J lane ≡ no_lane.slot
@@ -34,13 +28,11 @@ module _ (h : Header) (lane : ℕ) (inside : h.node < h.shape.coordinators) (oth
   no_batch (r ∷ []) j = first_slot r j.0
   no_batch (Genesis header hs ∷ (q ∷ past)) j = absurd (let none : q ∷ past ≡ [] = j.0.1 in cc)
   no_batch (Start header ∷ (q ∷ past)) j = absurd (let none : q ∷ past ≡ [] = j.0.1 in cc)
-  no_batch (Lock stamp b es ∷ (q ∷ past)) j = absurd (let shard = j.0.0.2 in omega (arith, shard, inside))
-  no_batch (Finish stamp b ds ∷ (q ∷ past)) j = absurd (let shard = j.0.0.2 in omega (arith, shard, inside))
-  no_batch (Forget stamp b ∷ (q ∷ past)) j = absurd (let shard = j.0.0.2 in omega (arith, shard, inside))
   no_batch (Prepare stamp b txs ∷ (q ∷ past)) j = rw (not_it b.lane j.0.1.1) (no_batch (q ∷ past) j.1)
   no_batch (Commit stamp b os ∷ (q ∷ past)) j = rw (not_it b.lane j.0.1.1) (no_batch (q ∷ past) j.1)
   no_batch (Discard stamp b ∷ (q ∷ past)) j = rw (not_it b.lane j.0.1.1) (no_batch (q ∷ past) j.1)
   no_batch (Done stamp b ∷ (q ∷ past)) j = rw (not_it b.lane j.0.1.1) (no_batch (q ∷ past) j.1)
+  no_batch (other ∷ (q ∷ past)) j = absurd (let shard = j.0.0.2 in omega (arith, shard, inside))
 
 -- what the lanes say of a lane is what the journal says
 pub slot_there : (c : CoordOf) (h : Header) (J : List Record) (lane : ℕ) (s : Slot) → c.header ≡ h → c.header.node < c.header.shape.coordinators → StandsFor c J → IsJournal h J

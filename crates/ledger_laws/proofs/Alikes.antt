@@ -1,21 +1,23 @@
 -- A recovered kept history is alike on all its shards.
-use Rattle.std.proofs.Common.{◌≡◌, inl, inr, ℕ, ◌+◌, ◌<◌, ◌≤◌, ◌/◌, true, false, cond, ◌&&◌, ◌==◌, if◌then◌else◌, List, [], ◌∷◌, ◌++◌, Some, None, is_some, refl, sym, ap, ◌∙◌, subst, arith}
+use Rattle.std.proofs.Common.{◌≡◌, inl, inr, ℕ, ◌+◌, ◌<◌, ◌≤◌, ◌/◌, true, false, cond, ◌&&◌, ◌==◌, if◌then◌else◌, List, [], ◌∷◌, ◌++◌, Some, is_some, refl, sym, ap, ◌∙◌, subst, arith}
 use Rattle.cbdc_model.specs.History.{first_rows, Minted}
 use Rattle.cbdc_model.specs.Outcomes.{decisions}
 use Rattle.cbdc_model.specs.Ranges.{shard_node, part, Concerned, is_no_part}
-use Rattle.cbdc_model.specs.Records.{Shape, Batch, Compact, Record, Row, journal, record_of, kind_of, is_of, decisions_in, Genesis, Lock, Finish, Forget, Start, Prepare, Commit, Discard, Done, lock_of, txs_of, outcomes_of}
+use Rattle.cbdc_model.specs.Records.{Shape, Batch, Compact, Record, Row, journal, record_of, kind_of, is_of, decisions_in, Finish, lock_of, txs_of, outcomes_of}
 use Rattle.cbdc_model.specs.Replies.{entries}
 use Rattle.cbdc_model.specs.World.{count_of, IsAlike, Alike}
 use Rattle.ledger_laws.proofs.Ledger.{SteadyJournals}
+pub use Rattle.ledger_laws.proofs.ByKind.{found_passes}
+use Rattle.ledger_laws.proofs.ByKind.{found_finish}
 use Rattle.ledger_laws.proofs.Next.{Next, has_lock, has_finish, has_prepare, has_forget, Steady}
 use Rattle.ledger_laws.proofs.Slots.{JournalOk}
 use Rattle.ledger_laws.proofs.More.{MoreOk}
 use Rattle.ledger_laws.proofs.Rows.{at, away, at_node, head_at, head_away}
 use Rattle.ledger_laws.proofs.Lookups.{true_false, not_true}
 use Rattle.ledger_laws.proofs.First.{journal_first, all_first}
-use Rattle.ledger_laws.proofs.Moves.{split_test, once, not_empty, all_structure, all_more, none_of}
+use Rattle.ledger_laws.proofs.Moves.{once, not_empty, all_structure, all_more, none_of}
 use Rattle.ledger_laws.proofs.Recovered.{AllIdle, done_if_prepared, done_forgot, all_dones, all_phases}
-use Rattle.ledger_laws.proofs.Standing.{Facts, standing}
+use Rattle.ledger_laws.proofs.Standing.{standing}
 
 -- a record is found where one is counted
 count_none : (kind : ℕ) (J : List Record) (b : Batch) → is_some (record_of kind J b) ≡ false → count_of kind J b ≡ 0
@@ -47,21 +49,6 @@ count_next K node J r ok more next kind b one =
       | false ↦ λ t. omega (arith, one)
     ] refl
 
-some_is : (q r : Record) → Some q ≡ Some r → q ≡ r
-some_is q r e = cc
-
--- what is found passes the test
-pub found_passes : (kind : ℕ) (J : List Record) (b : Batch) (r : Record) → record_of kind J b ≡ Some r → ((kind_of r == kind) && is_of b r) ≡ true
-found_passes kind [] b r e = absurd (let z : None ≡ Some r = e in cc)
-found_passes kind (q ∷ J) b r e = step kind q J b r e (λ g. found_passes kind J b r g)
-  where
-    step : (kind : ℕ) (q : Record) (J : List Record) (b : Batch) (r : Record) → record_of kind (q ∷ J) b ≡ Some r
-        → (record_of kind J b ≡ Some r → ((kind_of r == kind) && is_of b r) ≡ true) → ((kind_of r == kind) && is_of b r) ≡ true
-    step kind q J b r e rest = elim ((kind_of q == kind) && is_of b q) as (λ t. ((kind_of q == kind) && is_of b q) ≡ t → cond t (Some q) (record_of kind J b) ≡ Some r → ((kind_of r == kind) && is_of b r) ≡ true) [
-      | true ↦ λ t g. let same : q ≡ r = some_is q r g in subst (λ a. ((kind_of a == kind) && is_of b a) ≡ true) same t
-      | false ↦ λ t g. rest g
-    ] refl e
-
 module _ (K : Shape) (minting : Minted) (P : Compact → Type 0) (shards : 0 < K.shards) where
   abbrev whole : List Row → List Row
   whole later = later ++ first_rows K minting
@@ -92,29 +79,10 @@ module _ (K : Shape) (minting : Minted) (P : Compact → Type 0) (shards : 0 < K
     pub finish_facts : (s : ℕ) → has_finish (journal (shard_node K s) (whole later)) b ≡ true
         → has_lock (journal (shard_node K s) (whole later)) b ≡ true
         × (decisions_in (record_of 3 (journal (shard_node K s) (whole later)) b) ≡ decisions (outcomes_of (lane_of later b) b) (entries (lock_of (journal (shard_node K s) (whole later)) b)))
-    finish_facts s h = elim (record_of 3 (journal (shard_node K s) (whole later)) b) as (λ r. record_of 3 (journal (shard_node K s) (whole later)) b ≡ r → is_some r ≡ true
-        → has_lock (journal (shard_node K s) (whole later)) b ≡ true × (decisions_in r ≡ decisions (outcomes_of (lane_of later b) b) (entries (lock_of (journal (shard_node K s) (whole later)) b)))) [
-          | None ↦ λ e t. absurd (let z : false ≡ true = t in cc)
-          | Some r ↦ λ e t. of_record s r e
-        ] refl h
-      where
-        of_record : (s : ℕ) (r : Record) → record_of 3 (journal (shard_node K s) (whole later)) b ≡ Some r
-            → has_lock (journal (shard_node K s) (whole later)) b ≡ true × (decisions_in (Some r) ≡ decisions (outcomes_of (lane_of later b) b) (entries (lock_of (journal (shard_node K s) (whole later)) b)))
-        of_record s r e = by_kind s r (found_passes 3 (journal (shard_node K s) (whole later)) b r e) (standing K minting P shards later kept (shard_node K s) 3 b r e)
-          where
-            by_kind : (s : ℕ) (r : Record) → ((kind_of r == 3) && is_of b r) ≡ true → Facts K (λ n. journal n (whole later)) (shard_node K s) r
-                → has_lock (journal (shard_node K s) (whole later)) b ≡ true × (decisions_in (Some r) ≡ decisions (outcomes_of (lane_of later b) b) (entries (lock_of (journal (shard_node K s) (whole later)) b)))
-            by_kind s (Finish stamp c ds) t f =
-                subst (λ d. has_lock (journal (shard_node K s) (whole later)) d ≡ true × (ds ≡ decisions (outcomes_of (lane_of later d) d) (entries (lock_of (journal (shard_node K s) (whole later)) d))))
-                (split_test 3 3 c b t).1 (f.1, f.2)
-            by_kind s (Genesis header hs) t f = absurd (let z : false ≡ true = t in cc)
-            by_kind s (Start header) t f = absurd (let z : false ≡ true = t in cc)
-            by_kind s (Lock stamp c es) t f = absurd (let z : false ≡ true = t in cc)
-            by_kind s (Forget stamp c) t f = absurd (let z : false ≡ true = t in cc)
-            by_kind s (Prepare stamp c txs) t f = absurd (let z : false ≡ true = t in cc)
-            by_kind s (Commit stamp c os) t f = absurd (let z : false ≡ true = t in cc)
-            by_kind s (Discard stamp c) t f = absurd (let z : false ≡ true = t in cc)
-            by_kind s (Done stamp c) t f = absurd (let z : false ≡ true = t in cc)
+    finish_facts s h =
+        let f = found_finish (journal (shard_node K s) (whole later)) b h in
+        let g = standing K minting P shards later kept (shard_node K s) 3 b (Finish f.0 b f.1) f.2 in
+        (g.1, ap decisions_in f.2 ∙ g.2)
 
     none_there : (s : ℕ) → is_no_part (part K.shards s 0 (txs_of (lane_of later b) b)) ≡ true → has_lock (journal (shard_node K s) (whole later)) b ≡ false
     none_there s e = not_true _ (λ h. true_false _ e (concerned s h))

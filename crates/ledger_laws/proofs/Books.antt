@@ -9,7 +9,7 @@ use Rattle.std.specs.FinMap.Entries.{put, find, by_order}
 use Rattle.cbdc_model.specs.Book.{Book, value}
 use Rattle.cbdc_model.specs.Coins.{Output}
 
-abbrev key_cmp : List ℕ → List ℕ → Ordering
+abbrev pub key_cmp : List ℕ → List ℕ → Ordering
 key_cmp = slice_cmp nat_cmp
 
 pub data SameKey (p q : List ℕ) : Type 0 where
@@ -48,7 +48,7 @@ get-remove_other b k q n = elim (keys q k) [
 ]
 
 -- the value
-abbrev entries_value : List (List ℕ × Output) → ℕ
+abbrev pub entries_value : List (List ℕ × Output) → ℕ
 entries_value es = sum_by (λ o. o.value) (map (λ e. e.1) es)
 
 entries_value-cons : (e : List ℕ × Output) (es : List (List ℕ × Output)) → entries_value (e ∷ es) ≡ e.1.value + entries_value es

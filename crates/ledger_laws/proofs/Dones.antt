@@ -1,6 +1,6 @@
 -- In one journal a lane's earlier batches are done, and a batch that is forgotten was finished.
-use Rattle.std.proofs.Common.{◌≡◌, ℕ, ◌<◌, ◌≤◌, Bool, true, false, ◌==◌, List, ◌∷◌, refl, sym, subst, arith}
-use Rattle.cbdc_model.specs.Records.{Shape, Batch, same_batch, Compact, Outcome, Answered, Record, Genesis, Lock, Finish, Forget, Start, Prepare, Commit, Discard, Done}
+use Rattle.std.proofs.Common.{◌≡◌, ℕ, ◌<◌, ◌≤◌, true, false, ◌==◌, List, ◌∷◌, refl, sym, subst, arith}
+use Rattle.cbdc_model.specs.Records.{Shape, Batch, same_batch, Compact, Outcome, Record, Genesis, Lock, Finish, Forget, Start, Prepare, Commit, Discard, Done}
 use Rattle.cbdc_model.specs.Slots.{slot, Idle, InFinish, InCommit, InDiscard}
 use Rattle.ledger_laws.proofs.Next.{Next, has_finish, has_prepare, has_commit, has_forget}
 use Rattle.ledger_laws.proofs.Slots.{JournalOk}
@@ -19,33 +19,6 @@ at_lane : {A : Type 0} (f : ℕ → A) (a b : ℕ) (c : A) → (a == b) ≡ true
 at_lane f a b c e h = let same_lane : a ≡ b = grind (arith, e) in subst (λ n. f n ≡ c) same_lane h
 
 module _ (K : Shape) (node : ℕ) (past : List Record) (ok : JournalOk past) (more : MoreOk past) (dones : DoneOk K node past) where
-  lock_done : (stamp : ℕ) (c : Batch) (es : List Answered) → Next K node past (Lock stamp c es) → DoneOk K node (Lock stamp c es ∷ past)
-  lock_done stamp c es next = record {
-    pure = λ b h. grind (arith, dones.pure b);
-    past_done = λ b h l. absurd (true_false _ h (dones.pure b next.1.0));
-    idle_done = λ b h p. absurd (true_false _ h (dones.pure b next.1.0));
-    finish_here = λ b p e. grind (arith, dones.finish_here b);
-    forgot = λ b h. grind (arith, dones.forgot b, dones.finish_here b);
-  }
-
-  finish_done : (stamp : ℕ) (c : Batch) (ds : List Bool) → Next K node past (Finish stamp c ds) → DoneOk K node (Finish stamp c ds ∷ past)
-  finish_done stamp c ds next = record {
-    pure = λ b h. grind (arith, dones.pure b);
-    past_done = λ b h l. absurd (true_false _ h (dones.pure b next.1.0));
-    idle_done = λ b h p. absurd (true_false _ h (dones.pure b next.1.0));
-    finish_here = λ b p e. grind (arith, dones.finish_here b);
-    forgot = λ b h. grind (arith, dones.forgot b, dones.finish_here b);
-  }
-
-  forget_done : (stamp : ℕ) (c : Batch) → Next K node past (Forget stamp c) → DoneOk K node (Forget stamp c ∷ past)
-  forget_done stamp c next = record {
-    pure = λ b h. grind (arith, dones.pure b);
-    past_done = λ b h l. absurd (true_false _ h (dones.pure b next.1.0));
-    idle_done = λ b h p. absurd (true_false _ h (dones.pure b next.1.0));
-    finish_here = λ b p e. grind (arith, dones.finish_here b);
-    forgot = λ b h. grind (arith, dones.forgot b, dones.finish_here b);
-  }
-
   prepare_past : (stamp : ℕ) (c : Batch) (txs : List Compact) → Next K node past (Prepare stamp c txs) → (b : Batch)
       → has_prepare (Prepare stamp c txs ∷ past) b ≡ true → b.number < (slot (Prepare stamp c txs ∷ past) b.lane).number → has_done past b ≡ true
   prepare_past stamp c txs next b h l = elim (same_or_not c b) [
@@ -61,15 +34,6 @@ module _ (K : Shape) (node : ℕ) (past : List Record) (ok : JournalOk past) (mo
       itself : (c b : Batch) → c ≡ b → b.number < (slot (Prepare stamp c txs ∷ past) b.lane).number → ⊥
       itself c b e l = let l' : c.number < (slot (Prepare stamp c txs ∷ past) c.lane).number = subst (λ d. d.number < (slot (Prepare stamp c txs ∷ past) d.lane).number) (sym e) l in grind arith
 
-  prepare_done : (stamp : ℕ) (c : Batch) (txs : List Compact) → Next K node past (Prepare stamp c txs) → DoneOk K node (Prepare stamp c txs ∷ past)
-  prepare_done stamp c txs next = record {
-    pure = λ b h. grind (arith, dones.pure b);
-    past_done = prepare_past stamp c txs next;
-    idle_done = λ b h p. grind (arith, dones.idle_done b, dones.past_done b, ok.prepare_below b);
-    finish_here = λ b p e. grind (arith, dones.finish_here b);
-    forgot = λ b h. grind (arith, dones.forgot b, dones.finish_here b);
-  }
-
   commit_past : (stamp : ℕ) (c : Batch) (os : List Outcome) → Next K node past (Commit stamp c os) → (b : Batch) → has_prepare past b ≡ true → b.number < (slot (Commit stamp c os ∷ past) b.lane).number → has_done past b ≡ true
   commit_past stamp c os next b h l = elim (c.lane == b.lane) as (λ v. (c.lane == b.lane) ≡ v → has_done past b ≡ true) [
     | true ↦ λ e. dones.past_done b h (
@@ -77,15 +41,6 @@ module _ (K : Shape) (node : ℕ) (past : List Record) (ok : JournalOk past) (mo
         let l' : b.number < c.number = rw e at l in omega arith)
     | false ↦ λ e. dones.past_done b h (rw e at l)
   ] refl
-
-  commit_done : (stamp : ℕ) (c : Batch) (os : List Outcome) → Next K node past (Commit stamp c os) → DoneOk K node (Commit stamp c os ∷ past)
-  commit_done stamp c os next = record {
-    pure = λ b h. grind (arith, dones.pure b);
-    past_done = commit_past stamp c os next;
-    idle_done = λ b h p. grind (arith, dones.idle_done b, dones.past_done b, ok.prepare_below b);
-    finish_here = λ b p e. grind (arith, dones.finish_here b);
-    forgot = λ b h. grind (arith, dones.forgot b, dones.finish_here b);
-  }
 
   discard_past : (stamp : ℕ) (c : Batch) → Next K node past (Discard stamp c) → (b : Batch) → has_prepare past b ≡ true → b.number < (slot (Discard stamp c ∷ past) b.lane).number → has_done past b ≡ true
   discard_past stamp c next b h l = elim (c.lane == b.lane) as (λ v. (c.lane == b.lane) ≡ v → has_done past b ≡ true) [
@@ -95,34 +50,33 @@ module _ (K : Shape) (node : ℕ) (past : List Record) (ok : JournalOk past) (mo
     | false ↦ λ e. dones.past_done b h (rw e at l)
   ] refl
 
-  discard_done : (stamp : ℕ) (c : Batch) → Next K node past (Discard stamp c) → DoneOk K node (Discard stamp c ∷ past)
-  discard_done stamp c next = record {
-    pure = λ b h. grind (arith, dones.pure b);
-    past_done = discard_past stamp c next;
-    idle_done = λ b h p. grind (arith, dones.idle_done b, dones.past_done b, ok.prepare_below b);
-    finish_here = λ b p e. grind (arith, dones.finish_here b);
-    forgot = λ b h. grind (arith, dones.forgot b, dones.finish_here b);
-  }
+  past_done_next : (r : Record) → Next K node past r → (b : Batch) → has_prepare (r ∷ past) b ≡ true → b.number < (slot (r ∷ past) b.lane).number → has_done (r ∷ past) b ≡ true
+  past_done_next (Genesis header hs) next b h l = absurd next
+  past_done_next (Start header) next b h l = absurd next
+  past_done_next (Prepare stamp c txs) next b h l = prepare_past stamp c txs next b h l
+  past_done_next (Commit stamp c os) next b h l = commit_past stamp c os next b h l
+  past_done_next (Discard stamp c) next b h l = discard_past stamp c next b h l
+  past_done_next (Done stamp c) next b h l = grind (arith, dones.past_done b, dones.idle_done b)
+  past_done_next another next b h l = absurd (true_false _ h (dones.pure b next.1.0))
 
-  done_done : (stamp : ℕ) (c : Batch) → Next K node past (Done stamp c) → DoneOk K node (Done stamp c ∷ past)
-  done_done stamp c next = record {
-    pure = λ b h. grind (arith, dones.pure b);
-    past_done = λ b h l. grind (arith, dones.past_done b, dones.idle_done b);
-    idle_done = λ b h p. grind (arith, dones.idle_done b, dones.past_done b, ok.prepare_below b);
-    finish_here = λ b p e. grind (arith, dones.finish_here b);
-    forgot = λ b h. grind (arith, dones.forgot b, dones.finish_here b);
-  }
+  idle_done_next : (r : Record) → Next K node past r → (b : Batch) → has_prepare (r ∷ past) b ≡ true → (slot (r ∷ past) b.lane).phase ≡ Idle → has_done (r ∷ past) b ≡ true
+  idle_done_next (Genesis header hs) next b h p = absurd next
+  idle_done_next (Start header) next b h p = absurd next
+  idle_done_next (Lock stamp c es) next b h p = absurd (true_false _ h (dones.pure b next.1.0))
+  idle_done_next (Finish stamp c ds) next b h p = absurd (true_false _ h (dones.pure b next.1.0))
+  idle_done_next (Forget stamp c) next b h p = absurd (true_false _ h (dones.pure b next.1.0))
+  idle_done_next another next b h p = grind (arith, dones.idle_done b, dones.past_done b, ok.prepare_below b)
 
   pub next_done : (r : Record) → Next K node past r → DoneOk K node (r ∷ past)
   next_done (Genesis header hs) next = absurd next
   next_done (Start header) next = absurd next
-  next_done (Lock stamp c es) next = lock_done stamp c es next
-  next_done (Finish stamp c ds) next = finish_done stamp c ds next
-  next_done (Forget stamp c) next = forget_done stamp c next
-  next_done (Prepare stamp c txs) next = prepare_done stamp c txs next
-  next_done (Commit stamp c os) next = commit_done stamp c os next
-  next_done (Discard stamp c) next = discard_done stamp c next
-  next_done (Done stamp c) next = done_done stamp c next
+  next_done another next = record {
+    pure = λ b h. grind (arith, dones.pure b);
+    past_done = past_done_next another next;
+    idle_done = idle_done_next another next;
+    finish_here = λ b p e. grind (arith, dones.finish_here b);
+    forgot = λ b h. grind (arith, dones.forgot b, dones.finish_here b);
+  }
 
 -- a batch that is committed, discarded or done has its Prepare and its Commit
 pub record PhaseOk (past : List Record) : Type 0 where
@@ -175,62 +129,29 @@ module _ (K : Shape) (node : ℕ) (past : List Record) (ok : JournalOk past) (ph
     | other o ↦ phases.done_prepared b (rw o at h)
   ]
 
-  lock_phase : (stamp : ℕ) (c : Batch) (es : List Answered) → Next K node past (Lock stamp c es) → PhaseOk (Lock stamp c es ∷ past)
-  lock_phase stamp c es next = record {
-    commit_here = λ b p e. grind (arith, phases.commit_here b);
-    discard_here = λ b p e. grind (arith, phases.discard_here b);
-    done_prepared = λ b h. grind (arith, phases.done_prepared b);
-  }
+  commit_here_next : (r : Record) → Next K node past r → (b : Batch) → (slot (r ∷ past) b.lane).phase ≡ InCommit → (slot (r ∷ past) b.lane).number ≡ b.number
+      → (has_prepare (r ∷ past) b ≡ true) × (has_commit (r ∷ past) b ≡ true)
+  commit_here_next (Genesis header hs) next b p n = absurd next
+  commit_here_next (Start header) next b p n = absurd next
+  commit_here_next (Commit stamp c os) next b p n = commit_commit_here stamp c os next b p n
+  commit_here_next another next b p n = grind (arith, phases.commit_here b)
 
-  finish_phase : (stamp : ℕ) (c : Batch) (ds : List Bool) → Next K node past (Finish stamp c ds) → PhaseOk (Finish stamp c ds ∷ past)
-  finish_phase stamp c ds next = record {
-    commit_here = λ b p e. grind (arith, phases.commit_here b);
-    discard_here = λ b p e. grind (arith, phases.discard_here b);
-    done_prepared = λ b h. grind (arith, phases.done_prepared b);
-  }
+  discard_here_next : (r : Record) → Next K node past r → (b : Batch) → (slot (r ∷ past) b.lane).phase ≡ InDiscard → (slot (r ∷ past) b.lane).number ≡ b.number
+      → (has_prepare (r ∷ past) b ≡ true) × (has_commit (r ∷ past) b ≡ true)
+  discard_here_next (Genesis header hs) next b p n = absurd next
+  discard_here_next (Start header) next b p n = absurd next
+  discard_here_next (Discard stamp c) next b p n = discard_discard_here stamp c next b p n
+  discard_here_next another next b p n = grind (arith, phases.discard_here b)
 
-  forget_phase : (stamp : ℕ) (c : Batch) → Next K node past (Forget stamp c) → PhaseOk (Forget stamp c ∷ past)
-  forget_phase stamp c next = record {
-    commit_here = λ b p e. grind (arith, phases.commit_here b);
-    discard_here = λ b p e. grind (arith, phases.discard_here b);
-    done_prepared = λ b h. grind (arith, phases.done_prepared b);
-  }
-
-  prepare_phase : (stamp : ℕ) (c : Batch) (txs : List Compact) → Next K node past (Prepare stamp c txs) → PhaseOk (Prepare stamp c txs ∷ past)
-  prepare_phase stamp c txs next = record {
-    commit_here = λ b p e. grind (arith, phases.commit_here b);
-    discard_here = λ b p e. grind (arith, phases.discard_here b);
-    done_prepared = λ b h. grind (arith, phases.done_prepared b);
-  }
-
-  commit_phase : (stamp : ℕ) (c : Batch) (os : List Outcome) → Next K node past (Commit stamp c os) → PhaseOk (Commit stamp c os ∷ past)
-  commit_phase stamp c os next = record {
-    commit_here = commit_commit_here stamp c os next;
-    discard_here = λ b p e. grind (arith, phases.discard_here b);
-    done_prepared = λ b h. grind (arith, phases.done_prepared b);
-  }
-
-  discard_phase : (stamp : ℕ) (c : Batch) → Next K node past (Discard stamp c) → PhaseOk (Discard stamp c ∷ past)
-  discard_phase stamp c next = record {
-    commit_here = λ b p e. grind (arith, phases.commit_here b);
-    discard_here = discard_discard_here stamp c next;
-    done_prepared = λ b h. grind (arith, phases.done_prepared b);
-  }
-
-  done_phase : (stamp : ℕ) (c : Batch) → Next K node past (Done stamp c) → PhaseOk (Done stamp c ∷ past)
-  done_phase stamp c next = record {
-    commit_here = λ b p e. grind (arith, phases.commit_here b);
-    discard_here = λ b p e. grind (arith, phases.discard_here b);
-    done_prepared = done_done_prepared stamp c next;
-  }
+  done_prepared_next : (r : Record) → Next K node past r → (b : Batch) → has_done (r ∷ past) b ≡ true → (has_prepare (r ∷ past) b ≡ true) × (has_commit (r ∷ past) b ≡ true)
+  done_prepared_next (Genesis header hs) next b h = absurd next
+  done_prepared_next (Start header) next b h = absurd next
+  done_prepared_next (Done stamp c) next b h = done_done_prepared stamp c next b h
+  done_prepared_next another next b h = grind (arith, phases.done_prepared b)
 
   pub next_phase : (r : Record) → Next K node past r → PhaseOk (r ∷ past)
-  next_phase (Genesis header hs) next = absurd next
-  next_phase (Start header) next = absurd next
-  next_phase (Lock stamp c es) next = lock_phase stamp c es next
-  next_phase (Finish stamp c ds) next = finish_phase stamp c ds next
-  next_phase (Forget stamp c) next = forget_phase stamp c next
-  next_phase (Prepare stamp c txs) next = prepare_phase stamp c txs next
-  next_phase (Commit stamp c os) next = commit_phase stamp c os next
-  next_phase (Discard stamp c) next = discard_phase stamp c next
-  next_phase (Done stamp c) next = done_phase stamp c next
+  next_phase r next = record {
+    commit_here = commit_here_next r next;
+    discard_here = discard_here_next r next;
+    done_prepared = done_prepared_next r next;
+  }

@@ -1,13 +1,14 @@
 -- A record found in a beginning of a journal is found in the whole of it; what was caused by beginnings is caused by the whole.
-use Rattle.std.proofs.Common.{◌≡◌, ◌⊎◌, inl, inr, ℕ, ◌+◌, ◌<◌, ◌/◌, Bool, true, false, ◌&&◌, ◌==◌, List, [], ◌∷◌, ◌++◌, Some, is_some, refl, sym, ap, ◌∙◌, subst, arith, append_assoc}
+use Rattle.std.proofs.Common.{◌≡◌, ◌⊎◌, inl, inr, ℕ, ◌+◌, ◌<◌, ◌/◌, true, false, ◌&&◌, ◌==◌, List, [], ◌∷◌, ◌++◌, Some, is_some, refl, sym, ap, ◌∙◌, subst, arith, append_assoc}
 use Rattle.cbdc_model.specs.Causes.{at_shards, AllHave, IsCaused}
 use Rattle.cbdc_model.specs.History.{first_rows, Minted}
 use Rattle.cbdc_model.specs.Lanes.{IsEnd, first_of}
 use Rattle.cbdc_model.specs.Ranges.{shard_node, part, Concerned}
-use Rattle.cbdc_model.specs.Records.{Shape, Batch, Compact, Record, record_of, kind_of, is_of, txs_in, Genesis, Lock, Finish, Forget, Start, Prepare, Commit, Discard, Done}
+use Rattle.cbdc_model.specs.Records.{Shape, Batch, Compact, Record, record_of, kind_of, is_of, txs_in, Lock, Finish, Forget, Commit, Discard, Done}
 use Rattle.cbdc_model.specs.World.{replaced}
 use Rattle.ledger_laws.proofs.Ledger.{SteadyLists}
 use Rattle.ledger_laws.proofs.Next.{Next, has_lock, has_prepare}
+use Rattle.ledger_laws.proofs.ByKind.{test_batch, found_new, not_of_first}
 use Rattle.ledger_laws.proofs.Slots.{JournalOk, next_ok}
 use Rattle.ledger_laws.proofs.More.{MoreOk, next_more}
 use Rattle.ledger_laws.proofs.Dones.{PhaseOk, next_phase}
@@ -17,12 +18,7 @@ use Rattle.ledger_laws.proofs.First.{journal_first, all_first, AllFirst, IsFirst
 use Rattle.ledger_laws.proofs.Moves.{SameCauses, caused_same, once, locked_before, test_step, not_empty, in_range, split_test, all_structure, all_more}
 use Rattle.ledger_laws.proofs.Recovered.{all_phases}
 use Rattle.ledger_laws.proofs.Cuts.{cut}
-
-pub replaced_at : (J : ℕ → List Record) (n : ℕ) (own : List Record) (m : ℕ) → n ≡ m → replaced J n own m ≡ own
-replaced_at J n own m e = grind arith
-
-pub replaced_away : (J : ℕ → List Record) (n : ℕ) (own : List Record) (m : ℕ) → (n == m) ≡ false → replaced J n own m ≡ J m
-replaced_away J n own m e = rw e
+pub use Rattle.ledger_laws.proofs.Cuts.{replaced_at, replaced_away}
 
 abbrev pub IsShardKind : ℕ → Type 0
 IsShardKind kind = (kind ≡ 2) ⊎ (kind ≡ 3) ⊎ (kind ≡ 4)
@@ -49,14 +45,11 @@ stands [] kind b h = absurd (let z : false ≡ true = h in cc)
 stands (r ∷ J) kind b h =
     elim ((kind_of r == kind) && is_of b r) as (λ t. ((kind_of r == kind) && is_of b r) ≡ t
     → (newer : List Record) × (q : Record) × (rest : List Record) × (r ∷ J ≡ newer ++ q ∷ rest) × (((kind_of q == kind) && is_of b q) ≡ true) × (record_of kind (r ∷ J) b ≡ Some q)) [
-      | true ↦ λ t. ([], r, J, refl, t, found kind r J b t)
+      | true ↦ λ t. ([], r, J, refl, t, found_new kind r J b t)
       | false ↦ λ t.
           let s = stands J kind b (subst (λ q. is_some q ≡ true) (test_step kind r J b t) h) in
           (r ∷ s.0, s.1, s.2, ap (λ L. r ∷ L) s.3, s.4, test_step kind r J b t ∙ s.5)
     ] refl
-  where
-    found : (kind : ℕ) (q : Record) (J : List Record) (b : Batch) → ((kind_of q == kind) && is_of b q) ≡ true → record_of kind (q ∷ J) b ≡ Some q
-    found kind q J b t = rw t
 
 -- of each journal, when each record of it is next
 record Oks (J : List Record) : Type 0 where
@@ -65,23 +58,9 @@ record Oks (J : List Record) : Type 0 where
   pub phases : PhaseOk J
   pub once : Once J
 
-first_once : (J : List Record) → AllFirst J → Once J
+pub first_once : (J : List Record) → AllFirst J → Once J
 first_once [] f = tt
-first_once (Genesis header hs ∷ J) f = (λ kind c t. absurd (no_test (1 == kind) t), first_once J f.1)
-  where
-    no_test : (a : Bool) → (a && false) ≡ true → ⊥
-    no_test a h = grind arith
-first_once (Start header ∷ J) f = (λ kind c t. absurd (no_test (5 == kind) t), first_once J f.1)
-  where
-    no_test : (a : Bool) → (a && false) ≡ true → ⊥
-    no_test a h = grind arith
-first_once (Lock stamp c es ∷ J) f = absurd f.0
-first_once (Finish stamp c es ∷ J) f = absurd f.0
-first_once (Forget stamp c ∷ J) f = absurd f.0
-first_once (Prepare stamp c es ∷ J) f = absurd f.0
-first_once (Commit stamp c es ∷ J) f = absurd f.0
-first_once (Discard stamp c ∷ J) f = absurd f.0
-first_once (Done stamp c ∷ J) f = absurd f.0
+first_once (r ∷ J) f = (λ kind c t. absurd (not_of_first r c f.0 (test_batch kind c r t)), first_once J f.1)
 
 module _ (K : Shape) (minting : Minted) (P : Compact → Type 0) (shards : 0 < K.shards) where
   first_oks : (n : ℕ) → Oks (first_of K minting n)
@@ -148,14 +127,6 @@ module _ (K : Shape) (minting : Minted) (P : Compact → Type 0) (shards : 0 < K
 
         lock_is : (q : Record) (newer rest : List Record) → X (shard_node K s) ≡ newer ++ q ∷ rest → ((kind_of q == 2) && is_of b q) ≡ true
             → Concerned K (txs_in (record_of 6 (X (b.lane / K.lanes)) b)) s
-        lock_is (Genesis header hs) newer rest e t = absurd (let z : false ≡ true = t in cc)
-        lock_is (Start header) newer rest e t = absurd (let z : false ≡ true = t in cc)
-        lock_is (Finish stamp c ds) newer rest e t = absurd (let z : false ≡ true = t in cc)
-        lock_is (Forget stamp c) newer rest e t = absurd (let z : false ≡ true = t in cc)
-        lock_is (Prepare stamp c txs) newer rest e t = absurd (let z : false ≡ true = t in cc)
-        lock_is (Commit stamp c os) newer rest e t = absurd (let z : false ≡ true = t in cc)
-        lock_is (Discard stamp c) newer rest e t = absurd (let z : false ≡ true = t in cc)
-        lock_is (Done stamp c) newer rest e t = absurd (let z : false ≡ true = t in cc)
         lock_is (Lock stamp c es) newer rest e t =
             let back : IsEnd (first_of K minting (shard_node K s)) rest = behind (shard_node K s) newer rest (Lock stamp c es) e (λ f. f) in
             let f = kept.each (shard_node K s) newer rest (Lock stamp c es) e back in
@@ -168,6 +139,7 @@ module _ (K : Shape) (minting : Minted) (P : Compact → Type 0) (shards : 0 < K
               in_range K (shard_node K s) rest (Lock stamp c es) f.0 s refl,
               not_empty es _ (f.1.caused.1 s refl ∙ ap (λ o. part K.shards s 0 (txs_in o)) cause) f.0.5,
             )
+        lock_is other newer rest e t = absurd (let z : false ≡ true = t in cc)
 
     -- so is that of any later record of it
     shard_part : (kind s : ℕ) (b : Batch) → IsShardKind kind → (b.lane / K.lanes == shard_node K s) ≡ false → is_some (record_of kind (X (shard_node K s)) b) ≡ true
@@ -175,24 +147,10 @@ module _ (K : Shape) (minting : Minted) (P : Compact → Type 0) (shards : 0 < K
     shard_part kind s b (inl two) apart h = lock_part s b apart (subst (λ k. is_some (record_of k (X (shard_node K s)) b) ≡ true) two h)
     shard_part kind s b (inr later) apart h =
         let q = stands (X (shard_node K s)) kind b h in
-        let back : IsEnd (first_of K minting (shard_node K s)) q.2 = behind (shard_node K s) q.0 q.2 q.1 q.3 (not_first q.1 kind b q.4) in
+        let back : IsEnd (first_of K minting (shard_node K s)) q.2 = behind (shard_node K s) q.0 q.2 q.1 q.3 (λ first. not_of_first q.1 b first (test_batch kind b q.1 q.4)) in
         let oks : Oks q.2 = oks_at (shard_node K s) (q.0 ++ q.1 ∷ []) q.2 (q.3 ∙ sym (append_assoc q.0 (q.1 ∷ []) q.2)) back in
         let locked : has_lock q.2 b ≡ true = locked_before K (shard_node K s) q.2 oks.ok oks.more q.1 (kept.each (shard_node K s) q.0 q.2 q.1 q.3 back).0 kind b q.4 later in
         lock_part s b apart (subst (λ o. is_some o ≡ true) (found_in (shard_node K s) q.2 2 b (q.0 ++ q.1 ∷ [], q.3 ∙ sym (append_assoc q.0 (q.1 ∷ []) q.2)) locked) locked)
-      where
-        no_test : (a : Bool) → (a && false) ≡ true → ⊥
-        no_test a h = grind arith
-
-        not_first : (q : Record) (kind : ℕ) (b : Batch) → ((kind_of q == kind) && is_of b q) ≡ true → IsFirst q → ⊥
-        not_first (Genesis header hs) kind b t f = no_test (1 == kind) t
-        not_first (Start header) kind b t f = no_test (5 == kind) t
-        not_first (Lock stamp c es) kind b t f = f
-        not_first (Finish stamp c ds) kind b t f = f
-        not_first (Forget stamp c) kind b t f = f
-        not_first (Prepare stamp c txs) kind b t f = f
-        not_first (Commit stamp c os) kind b t f = f
-        not_first (Discard stamp c) kind b t f = f
-        not_first (Done stamp c) kind b t f = f
 
     -- what was caused by beginnings of the journals is caused by the journals
     module _ (n : ℕ) (rest : List Record) (r : Record) (rest_end : IsEnd rest (X n)) (back : IsEnd (first_of K minting n) rest) (V : ℕ → List Record) (ends : (m : ℕ) → IsEnd (V m) (X m)) where
@@ -217,9 +175,6 @@ module _ (K : Shape) (minting : Minted) (P : Compact → Type 0) (shards : 0 < K
               true_false _ (all s (subst (λ o. Concerned K (txs_in o) s) here c)) t
 
       causes_same : (q : Record) → Next K n rest q → IsCaused K (replaced V n rest) n q → SameCauses K (replaced V n rest) (replaced X n rest) q
-      causes_same (Genesis header hs) next c = tt
-      causes_same (Start header) next c = tt
-      causes_same (Prepare stamp b txs) next c = tt
       causes_same (Lock stamp b es) next c = found_there n rest V ends (b.lane / K.lanes) 6 b c.0
       causes_same (Finish stamp b ds) next c = found_there n rest V ends (b.lane / K.lanes) 7 b c.0
       causes_same (Forget stamp b) next c = found_there n rest V ends (b.lane / K.lanes) 8 b c.0
@@ -235,6 +190,7 @@ module _ (K : Shape) (minting : Minted) (P : Compact → Type 0) (shards : 0 < K
         replaced_at V n rest (b.lane / K.lanes) next.2 ∙ sym (replaced_at X n rest (b.lane / K.lanes) next.2),
         same_at 4 (inr (inr refl)) b next.1 next.2 ((oks_at n rest_end.0 rest rest_end.1 back).phases.discard_here b next.3 next.4).0 c.0,
       )
+      causes_same other next c = tt
 
       pub now_caused : Next K n rest r → IsCaused K (replaced V n rest) n r → IsCaused K (replaced X n rest) n r
       now_caused next c = caused_same K (replaced V n rest) (replaced X n rest) n r

@@ -1,9 +1,10 @@
 -- The first rows have the invariant.
 use Rattle.std.proofs.Common.{◌≡◌, ◌⊎◌, inl, inr, ℕ, zero, suc, ◌+◌, ◌<◌, ◌≤◌, ◌/◌, true, false, ◌==◌, if◌then◌else◌, List, [], ◌∷◌, ◌++◌, refl, sym, ap, ◌∙◌, subst, arith}
+pub use Rattle.cbdc_model.specs.After.{IsFirst}
 use Rattle.cbdc_model.specs.History.{header_of, won_of, committed, all_inputs, all_outputs, starts, geneses, first_rows, Minted}
 use Rattle.cbdc_model.specs.Outcomes.{won_txs}
 use Rattle.cbdc_model.specs.Ranges.{shard_of, shard_node, journal_at, lane_journal, on_shard}
-use Rattle.cbdc_model.specs.Records.{Digest, Shape, Batch, Compact, Record, Row, journal, Genesis, Lock, Finish, Forget, Start, Prepare, Commit, Discard, Done, lock_of, txs_of, outcomes_of}
+use Rattle.cbdc_model.specs.Records.{Digest, Shape, Batch, Compact, Record, Row, journal, Genesis, Start, lock_of, txs_of, outcomes_of}
 use Rattle.cbdc_model.specs.Slots.{slot, Idle, InLock, InPrepare}
 use Rattle.cbdc_model.specs.Status.{status, has, held_inputs, Unspent, Locked, Absent}
 use Rattle.ledger_laws.proofs.Next.{has_lock, has_finish, has_prepare, has_commit, Each}
@@ -13,17 +14,6 @@ use Rattle.ledger_laws.proofs.View.{Inv}
 use Rattle.ledger_laws.proofs.CommitStep.{Apart}
 use Rattle.ledger_laws.proofs.Rows.{Structure, view, arrived}
 use Rattle.ledger_laws.proofs.Lookups.{shard_of-lt, true_false}
-
-abbrev pub IsFirst : Record → Type 0
-IsFirst (Genesis header hs) = Unit {0}
-IsFirst (Start header) = Unit {0}
-IsFirst (Lock stamp b es) = ⊥
-IsFirst (Finish stamp b ds) = ⊥
-IsFirst (Forget stamp b) = ⊥
-IsFirst (Prepare stamp b txs) = ⊥
-IsFirst (Commit stamp b os) = ⊥
-IsFirst (Discard stamp b) = ⊥
-IsFirst (Done stamp b) = ⊥
 
 abbrev pub AllFirst : List Record → Type 0
 AllFirst [] = Unit {0}
@@ -51,13 +41,7 @@ nothing (Genesis header hs ∷ J) h =
 nothing (Start header ∷ J) h =
     let n : Nothing J = nothing J h.1 in
     record { lock = n.lock; finish = n.finish; prepare = n.prepare; commit = n.commit; locks = n.locks; txs = n.txs; outcomes = n.outcomes; phase = n.phase }
-nothing (Lock stamp b es ∷ J) h = absurd h.0
-nothing (Finish stamp b ds ∷ J) h = absurd h.0
-nothing (Forget stamp b ∷ J) h = absurd h.0
-nothing (Prepare stamp b txs ∷ J) h = absurd h.0
-nothing (Commit stamp b os ∷ J) h = absurd h.0
-nothing (Discard stamp b ∷ J) h = absurd h.0
-nothing (Done stamp b ∷ J) h = absurd h.0
+nothing (other ∷ J) h = absurd h.0
 
 pub journal_first : (n : ℕ) (rows : List Row) → RowsFirst rows → AllFirst (journal n rows)
 journal_first n [] h = tt
@@ -88,13 +72,7 @@ no_committed (row ∷ rows) h = first_row row rows h.0 (no_committed rows h.1)
         of_record : (node : ℕ) (r : Record) (rows : List Row) → IsFirst r → committed rows ≡ [] → committed (record { node = node; what = r } ∷ rows) ≡ []
         of_record node (Genesis header hs) rows first e = rw e
         of_record node (Start header) rows first e = rw e
-        of_record node (Lock stamp b es) rows first e = absurd first
-        of_record node (Finish stamp b ds) rows first e = absurd first
-        of_record node (Forget stamp b) rows first e = absurd first
-        of_record node (Prepare stamp b txs) rows first e = absurd first
-        of_record node (Commit stamp b os) rows first e = absurd first
-        of_record node (Discard stamp b) rows first e = absurd first
-        of_record node (Done stamp b) rows first e = absurd first
+        of_record node other rows first e = absurd first
 
 -- the journals of the first rows
 pub journal_starts : (K : Shape) (minting : Minted) (n m : ℕ) → m ≤ n → journal n (starts K minting m) ≡ []

@@ -8,6 +8,7 @@ use Rattle.cbdc_model.specs.Replies.{refusal, first_reply, reply_to, answered}
 use Rattle.cbdc_model.specs.Ranges.{shard_of, shard_node, on_shard, is_empty, entry_of, part}
 use Rattle.cbdc_model.specs.Outcomes.{reply_at, outcome_by, outcome, outcomes}
 use Rattle.cbdc_model.specs.Grammar.{IsHash, IsBatchOf, IsHashList, RisesFrom, IsReply, IsOutcome, IsEntry, IsCompact}
+use Rattle.ledger_laws.proofs.Lookups.{number_is}
 
 -- the hashes of a list that lie on a shard
 on_length : (shards s : ℕ) (xs : List Digest) → length (on_shard shards s xs) ≤ length xs
@@ -24,14 +25,11 @@ on_all Q shards s (x ∷ xs) h = elim (shard_of shards x == s) as (λ c. AllByRe
   | false ↦ on_all Q shards s xs h.1
 ]
 
-is_equal : (m n : ℕ) → (m == n) ≡ true → m ≡ n
-is_equal m n e = grind (arith, e)
-
 on_here : (K : Shape) (s : ℕ) (xs : List Digest) → AllByRecursion (λ x. shard_node K (shard_of K.shards x) ≡ shard_node K s) (on_shard K.shards s xs)
 on_here K s [] = tt
 on_here K s (x ∷ xs) = elim (shard_of K.shards x == s) as (λ c. (shard_of K.shards x == s) ≡ c
     → AllByRecursion (λ x. shard_node K (shard_of K.shards x) ≡ shard_node K s) (if c then x ∷ on_shard K.shards s xs else on_shard K.shards s xs)) [
-      | true ↦ λ e. (ap (λ n. K.coordinators + n) (is_equal (shard_of K.shards x) s e), on_here K s xs)
+      | true ↦ λ e. (ap (λ n. K.coordinators + n) (number_is (shard_of K.shards x) s e), on_here K s xs)
       | false ↦ λ e. on_here K s xs
     ] refl
 

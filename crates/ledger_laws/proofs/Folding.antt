@@ -1,5 +1,5 @@
 -- The committed transactions of a kept history fold to a book, whose hashes are known by their statuses.
-use Rattle.std.proofs.Common.{if◌then◌else◌, ◌≡◌, ◌⊎◌, inl, inr, ℕ, suc, ◌+◌, ◌-◌, ◌<◌, ◌≤◌, Bool, true, false, ◌&&◌, List, [], ◌∷◌, ◌++◌, map, Some, None, find, refl, sym, ap, ◌∙◌, subst, arith, sum_by}
+use Rattle.std.proofs.Common.{if◌then◌else◌, ◌≡◌, ◌⊎◌, inl, inr, ℕ, suc, ◌+◌, ◌-◌, ◌<◌, ◌≤◌, true, false, List, [], ◌∷◌, ◌++◌, map, Some, None, find, refl, sym, ap, ◌∙◌, subst, arith, sum_by}
 use Rattle.std.proofs.lemmas.List.Sums.{sum_by-cons}
 use Rattle.std.specs.FinMap as book
 use Rattle.std.specs.Ordering.{nat_cmp}
@@ -8,16 +8,16 @@ use Rattle.cbdc_model.specs.Book.{Book, genesis_book, put_all, spend, spend_from
 use Rattle.cbdc_model.specs.Clean.{IsMember, IsNamed, Clean, IsProperCompact}
 use Rattle.cbdc_model.specs.Coins.{Output, Coin, FullTx, coin_hash, tx_id, tx_coins, made_coins, compact, genesis_tx, genesis_hashes}
 use Rattle.cbdc_model.specs.History.{first_rows, committed, newly_won, won_of, all_inputs, all_outputs, same_compact, AreHandedIn, minted, history_of, Minted}
-use Rattle.cbdc_model.specs.Next.{same_digests}
 use Rattle.cbdc_model.specs.Outcomes.{won_txs}
-use Rattle.cbdc_model.specs.Records.{Digest, same_digest, Shape, Compact, Outcome, is_won, Record, Row, journal, Genesis, Lock, Finish, Forget, Start, Prepare, Commit, Discard, Done, txs_of}
+use Rattle.cbdc_model.specs.Records.{Digest, Shape, Compact, Outcome, is_won, Record, Row, journal, Commit, txs_of}
 use Rattle.cbdc_model.specs.Status.{Unspent, Locked}
 use Rattle.ledger_laws.proofs.Next.{Next, Each, Steady}
 use Rattle.ledger_laws.specs.Sets.{IsPlaced, Folds}
 use Rattle.ledger_laws.specs.Laws.{FoldLaw}
 use Rattle.ledger_laws.proofs.Ledger.{steady}
 use Rattle.ledger_laws.proofs.Waiting.{waits_for, none_taken}
-use Rattle.ledger_laws.proofs.Counts.{count, same_digest_is, same_digest_self}
+use Rattle.ledger_laws.proofs.Counts.{count}
+use Rattle.ledger_laws.proofs.Equality.{same_compact_is, same_compact_self}
 use Rattle.ledger_laws.proofs.View.{Inv}
 use Rattle.ledger_laws.proofs.CommitStep.{Apart, Makes, maker}
 use Rattle.ledger_laws.proofs.Rows.{Structure, view}
@@ -28,36 +28,6 @@ use Rattle.ledger_laws.proofs.Funded.{Funded, behind, behind_all, behind_all-sum
 use Rattle.ledger_laws.proofs.Members.{In, in_contains, contains_in, CoinAt, coin_at, Made, made_is, coins_apart, apart, tx_coins_once, genesis_member, in_count, count_in}
 
 -- the full forms of compact transactions
-and_both : (a b : Bool) → (a && b) ≡ true → (a ≡ true) × (b ≡ true)
-and_both a b h = grind arith
-
-same_digests_is : (xs ys : List Digest) → same_digests xs ys ≡ true → xs ≡ ys
-same_digests_is [] [] h = refl
-same_digests_is [] (y ∷ ys) h = cc
-same_digests_is (x ∷ xs) [] h = cc
-same_digests_is (x ∷ xs) (y ∷ ys) h =
-    let both : (same_digest x y ≡ true) × (same_digests xs ys ≡ true) = and_both (same_digest x y) (same_digests xs ys) h in
-    let e : x ≡ y = same_digest_is x y both.0 in
-    let f : xs ≡ ys = same_digests_is xs ys both.1 in
-    λ i. e i ∷ f i
-
-same_digests_self : (xs : List Digest) → same_digests xs xs ≡ true
-same_digests_self [] = refl
-same_digests_self (x ∷ xs) = rw (same_digest_self x, same_digests_self xs)
-
-same_compact_is : (a b : Compact) → same_compact a b ≡ true → a ≡ b
-same_compact_is a b h =
-    let one : (same_digest a.id b.id ≡ true) × ((same_digests a.inputs b.inputs && same_digests a.outputs b.outputs) ≡ true)
-    = and_both (same_digest a.id b.id) (same_digests a.inputs b.inputs && same_digests a.outputs b.outputs) h in
-    let two : (same_digests a.inputs b.inputs ≡ true) × (same_digests a.outputs b.outputs ≡ true) = and_both (same_digests a.inputs b.inputs) (same_digests a.outputs b.outputs) one.1 in
-    let i' : a.id ≡ b.id = same_digest_is a.id b.id one.0 in
-    let s' : a.inputs ≡ b.inputs = same_digests_is a.inputs b.inputs two.0 in
-    let o' : a.outputs ≡ b.outputs = same_digests_is a.outputs b.outputs two.1 in
-    λ j. record { id = i' j; inputs = s' j; outputs = o' j }
-
-same_compact_self : (a : Compact) → same_compact a a ≡ true
-same_compact_self a = rw (same_digest_self a.id, same_digests_self a.inputs, same_digests_self a.outputs)
-
 record FullForm (txs : List FullTx) (k : Compact) : Type 0 where
   tx : FullTx
   inside : In tx txs
@@ -96,16 +66,9 @@ won_each P (t ∷ ts) (o ∷ os) each = elim (is_won o) as (λ c. Each P (if c t
 
 module _ (K : Shape) (P : Compact → Type 0) where
   newly_each : (past : List Row) (st : Structure K P past) (node : ℕ) (r : Record) → Next K node (journal node past) r → Each P (newly_won r (journal node past))
-  newly_each past st node (Genesis header hs) next = tt
-  newly_each past st node (Start header) next = tt
-  newly_each past st node (Lock stamp b es) next = tt
-  newly_each past st node (Finish stamp b ds) next = tt
-  newly_each past st node (Forget stamp b) next = tt
-  newly_each past st node (Prepare stamp b txs) next = tt
-  newly_each past st node (Discard stamp b) next = tt
-  newly_each past st node (Done stamp b) next = tt
   newly_each past st node (Commit stamp b os) next =
       won_each P (txs_of (journal node past) b) os (subst (λ n. Each P (txs_of (journal n past) b)) (sym next.2) (st.proper b))
+  newly_each past st node other next = tt
 
   pub kept_each : (minting : Minted) → 0 < K.shards → Apart (λ x. count x minting.hashes) P → (later : List Row) → Steady K minting P later
       → Each P (committed (later ++ first_rows K minting))

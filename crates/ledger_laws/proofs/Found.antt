@@ -2,8 +2,8 @@
 use Rattle.std.proofs.Common.{◌≡◌, ℕ, ◌<◌, ◌≤◌, ◌/◌, true, false, ◌&&◌, ◌==◌, List, [], ◌∷◌, ◌++◌, length, Some, None, is_some, refl, sym, ap, ◌∙◌, subst, arith}
 use Rattle.std.specs.List.{AllByRecursion}
 use Rattle.std.proofs.lemmas.List.Elements.{recursion_from_All}
-use Rattle.cbdc_model.specs.Records.{Digest, Shape, Batch, same_batch, Compact, Outcome, Record, Row, journal, record_of, kind_of, is_of, is_in_lane, entries_in, lock_of, txs_of, Genesis, Lock, Finish, Forget, Start, Prepare, Commit, Discard, Done}
-use Rattle.cbdc_model.specs.Slots.{slot, Idle, InLock, InFinish, InPrepare, InCommit, InDiscard}
+use Rattle.cbdc_model.specs.Records.{Digest, Shape, Batch, same_batch, Compact, Outcome, Record, Row, journal, record_of, kind_of, is_of, is_in_lane, entries_in, lock_of, txs_of, Lock, Forget, Commit, Done}
+use Rattle.cbdc_model.specs.Slots.{slot, Idle}
 use Rattle.cbdc_model.specs.Status.{status, Locked}
 use Rattle.cbdc_model.specs.Ranges.{shard_node, Concerned}
 use Rattle.cbdc_model.specs.Grammar.{IsBatchOf, IsEntry, IsInGrammar}
@@ -12,20 +12,15 @@ use Rattle.ledger_laws.proofs.Next.{has_lock, has_finish, has_forget, Steady}
 use Rattle.ledger_laws.proofs.Rows.{at, away, at_node, head_at, head_away}
 use Rattle.ledger_laws.proofs.Lookups.{true_false}
 use Rattle.ledger_laws.proofs.First.{journal_first, all_first}
-use Rattle.ledger_laws.proofs.Moves.{none_of, split_test, test_step}
-use Rattle.ledger_laws.proofs.Alikes.{found_passes}
+use Rattle.ledger_laws.proofs.Moves.{none_of}
+pub use Rattle.ledger_laws.proofs.ByKind.{found_new}
+use Rattle.ledger_laws.proofs.ByKind.{test_step, some_is, found_lock}
 use Rattle.ledger_laws.proofs.Recovered.{all_dones, all_phases}
 use Rattle.ledger_laws.proofs.Last as last
 use Rattle.ledger_laws.proofs.Phases.{in_order}
 use Rattle.ledger_laws.proofs.Older.{all_older}
 
-pub found_new : (kind : ℕ) (q : Record) (J : List Record) (b : Batch) → ((kind_of q == kind) && is_of b q) ≡ true → record_of kind (q ∷ J) b ≡ Some q
-found_new kind q J b t = rw t
-
-some_is : (q r : Record) → Some q ≡ Some r → q ≡ r
-some_is q r e = cc
-
-both_same : (c b : Batch) → (c.lane == b.lane) ≡ true → c.number ≡ b.number → same_batch c b ≡ true
+pub both_same : (c b : Batch) → (c.lane == b.lane) ≡ true → c.number ≡ b.number → same_batch c b ≡ true
 both_same c b l n = grind arith
 
 -- every record that stands is in the grammar of its node
@@ -58,27 +53,15 @@ module _ (K : Shape) (minting : Minted) (P : Compact → Type 0) (shards : 0 < K
     pub all : AllByRecursion (IsEntry K n) (lock_of (J n) b)
 
   pub lock_fits : (n : ℕ) (b : Batch) → has_lock (J n) b ≡ true → LockFits n b
-  lock_fits n b h = elim (record_of 2 (J n) b) as (λ o. record_of 2 (J n) b ≡ o → is_some o ≡ true → LockFits n b) [
-    | None ↦ λ e t. absurd (let z : false ≡ true = t in cc)
-    | Some r ↦ λ e t. of_record r e (found_passes 2 (J n) b r e) (found_grammar K minting P shards later kept n 2 b r e)
-  ] refl h
-    where
-      of_record : (r : Record) → record_of 2 (J n) b ≡ Some r → ((kind_of r == 2) && is_of b r) ≡ true → IsInGrammar (header_of K minting.id n) r → LockFits n b
-      of_record (Lock stamp c es) e t g =
-          let is : es ≡ lock_of (J n) b = ap entries_in (sym e) in
-          record {
-            of_shape = subst (λ d. IsBatchOf K d) (split_test 2 2 c b t).1 g.1;
-            size = subst (λ fs. (1 ≤ length fs) × (length fs ≤ K.batch)) is g.3;
-            all = subst (λ fs. AllByRecursion (IsEntry K n) fs) is (recursion_from_All (IsEntry K n) es g.5);
-          }
-      of_record (Genesis header hs) e t g = absurd (let z : false ≡ true = t in cc)
-      of_record (Start header) e t g = absurd (let z : false ≡ true = t in cc)
-      of_record (Finish stamp c ds) e t g = absurd (let z : false ≡ true = t in cc)
-      of_record (Forget stamp c) e t g = absurd (let z : false ≡ true = t in cc)
-      of_record (Prepare stamp c txs) e t g = absurd (let z : false ≡ true = t in cc)
-      of_record (Commit stamp c os) e t g = absurd (let z : false ≡ true = t in cc)
-      of_record (Discard stamp c) e t g = absurd (let z : false ≡ true = t in cc)
-      of_record (Done stamp c) e t g = absurd (let z : false ≡ true = t in cc)
+  lock_fits n b h =
+      let f = found_lock (J n) b h in
+      let g = found_grammar K minting P shards later kept n 2 b (Lock f.0 b f.1) f.2 in
+      let is : f.1 ≡ lock_of (J n) b = ap entries_in (sym f.2) in
+      record {
+        of_shape = g.1;
+        size = subst (λ fs. (1 ≤ length fs) × (length fs ≤ K.batch)) is g.3;
+        all = subst (λ fs. AllByRecursion (IsEntry K n) fs) is (recursion_from_All (IsEntry K n) f.1 g.5);
+      }
 
   -- where the lane is idle at a shard with this number, the batch is forgotten there
   pub forgot_here : (s : ℕ) (b : Batch) → 1 ≤ b.number → (slot (J (shard_node K s)) b.lane).number ≡ b.number → (slot (J (shard_node K s)) b.lane).phase ≡ Idle → has_forget (J (shard_node K s)) b ≡ true
@@ -94,13 +77,7 @@ module _ (K : Shape) (minting : Minted) (P : Compact → Type 0) (shards : 0 < K
       of_record (Done stamp c) e l m i =
           absurd (true_false _ ((all_phases K minting P shards later kept (shard_node K s)).done_prepared b (ap is_some (last.last_found (J (shard_node K s)) 9 b (Done stamp c) e (both_same c b l m)))).0
           ((all_dones K minting P shards later kept (shard_node K s)).pure b (omega arith)))
-      of_record (Genesis header hs) e l m i = absurd (let z : false ≡ true = l in cc)
-      of_record (Start header) e l m i = absurd (let z : false ≡ true = l in cc)
-      of_record (Lock stamp c es) e l m i = absurd (let z : InLock ≡ Idle = i in cc)
-      of_record (Finish stamp c ds) e l m i = absurd (let z : InFinish ≡ Idle = i in cc)
-      of_record (Prepare stamp c txs) e l m i = absurd (let z : InPrepare ≡ Idle = i in cc)
-      of_record (Commit stamp c os) e l m i = absurd (let z : InCommit ≡ Idle = i in cc)
-      of_record (Discard stamp c) e l m i = absurd (let z : InDiscard ≡ Idle = i in cc)
+      of_record other e l m i = cc
 
   pub finished_here : (s : ℕ) (b : Batch) → has_forget (J (shard_node K s)) b ≡ true → has_finish (J (shard_node K s)) b ≡ true
   finished_here s b h = (all_dones K minting P shards later kept (shard_node K s)).forgot b h

@@ -2,7 +2,7 @@
 use Rattle.std.proofs.Common.{◌≡◌, ℕ, ◌+◌, ◌-◌, ◌<◌, ◌≤◌, List, [], ◌∷◌, ◌++◌, refl, sym, ap, ◌∙◌, subst, arith, append-nil}
 use Rattle.cbdc_model.specs.Causes.{IsCaused}
 use Rattle.cbdc_model.specs.History.{first_rows, committed, newly_won, all_inputs, all_outputs, Minted}
-use Rattle.cbdc_model.specs.Records.{Digest, Shape, Batch, Compact, Outcome, Record, Row, journal, Genesis, Lock, Finish, Forget, Start, Prepare, Commit, Discard, Done}
+use Rattle.cbdc_model.specs.Records.{Digest, Shape, Batch, Compact, Outcome, Record, Row, journal, Genesis, Start, Commit}
 use Rattle.ledger_laws.proofs.Next.{Next, Steady}
 use Rattle.ledger_laws.proofs.Counts.{count, count-append}
 use Rattle.ledger_laws.proofs.View.{View, Inv, none, some, none_or_some}
@@ -65,12 +65,6 @@ module _ (K : Shape) (minting : Minted) (P : Compact → Type 0) (shards : 0 < K
       → Funded (λ x. count x minting.hashes) (committed (record { node = node; what = r } ∷ past))
   funded_next past st inv f node (Genesis header hs) next caused = absurd next
   funded_next past st inv f node (Start header) next caused = absurd next
-  funded_next past st inv f node (Lock stamp b es) next caused = quiet_funded past (record { node = node; what = Lock stamp b es }) refl f
-  funded_next past st inv f node (Finish stamp b ds) next caused = quiet_funded past (record { node = node; what = Finish stamp b ds }) refl f
-  funded_next past st inv f node (Forget stamp b) next caused = quiet_funded past (record { node = node; what = Forget stamp b }) refl f
-  funded_next past st inv f node (Prepare stamp b txs) next caused = quiet_funded past (record { node = node; what = Prepare stamp b txs }) refl f
-  funded_next past st inv f node (Discard stamp b) next caused = quiet_funded past (record { node = node; what = Discard stamp b }) refl f
-  funded_next past st inv f node (Done stamp b) next caused = quiet_funded past (record { node = node; what = Done stamp b }) refl f
   funded_next past st inv f node (Commit stamp b os) next caused =
       funded-append (λ x. count x minting.hashes) (committed past) _ f
       (funded_commit past st inv f node stamp b os next caused)
@@ -81,6 +75,7 @@ module _ (K : Shape) (minting : Minted) (P : Compact → Type 0) (shards : 0 < K
       funded_commit past st inv f node stamp b os next caused =
           newly_funded apart inv b (newly K P past st node stamp b os shards next caused) (commit_changes K P past st node stamp b os shards next caused)
           (behind_all (λ x. count x minting.hashes) (committed past)) (λ x. behind_all-sum (λ x. count x minting.hashes) (committed past) f x)
+  funded_next past st inv f node other next caused = quiet_funded past (record { node = node; what = other }) refl f
 
   pub kept_funded : (later : List Row) → Steady K minting P later → Funded (λ x. count x minting.hashes) (committed (later ++ first_rows K minting))
   kept_funded [] kept = subst (λ ts. Funded (λ x. count x minting.hashes) ts) (sym (no_committed (first_rows K minting) (all_first K minting P shards))) tt

@@ -1,13 +1,13 @@
 -- What the answers to a call are, by the function that plans them.
 use Rattle.std.proofs.Common.{◌≡◌, ◌⊎◌, inl, inr, ℕ, ◌<◌, Bool, true, false, ◌&&◌, ◌||◌, not, ◌==◌, nat_lt, if◌then◌else◌, List, [], ◌∷◌, Option, Some, None, refl, sym, ap, subst, arith}
-use Rattle.cbdc_model.specs.Records.{Digest, Batch, Entry, Answered, Record, is_held, record_of, decisions_in, lock_of}
+use Rattle.cbdc_model.specs.Records.{Batch, Entry, Answered, Record, is_held, record_of, decisions_in, lock_of}
 use Rattle.cbdc_model.specs.Slots.{Phase, slot, slot_stamp, Idle, InLock, InFinish}
 use Rattle.cbdc_model.specs.Replies.{entries}
-use Rattle.cbdc_model.specs.Next.{Plan, is_idle, lock_again, next_lock, finish_again, finish_now, finish_in, next_finish, forget_in, next_forget, misfit, difference, same_entry, same_decision, same_digests}
+use Rattle.cbdc_model.specs.Next.{Plan, is_idle, lock_again, next_lock, finish_again, finish_now, finish_in, next_finish, forget_in, next_forget, misfit, difference, same_entry, same_decision}
 use Rattle.cbdc_model.specs.After.{FitsReplies}
 use Rattle.ledger_laws.specs.Laws.{IsGranted}
 use Rattle.ledger_laws.proofs.Answered.{IsStale, LockAnswered, FinishAnswered, ForgetAnswered, lock_stale, lock_stored, lock_appends, finish_stale, finish_stored, finish_appends, forget_stale, forget_stored, forget_appends}
-use Rattle.ledger_laws.proofs.Counts.{same_digest_self}
+use Rattle.ledger_laws.proofs.Equality.{same_entry_self, same_decision_self}
 
 granted_if : {A : Type 0} (c : Bool) (one other : Plan A) → (c ≡ true → IsGranted one) → (c ≡ false → IsGranted other) → IsGranted (if c then one else other)
 granted_if true one other h g = h refl
@@ -17,20 +17,6 @@ granted_if false one other h g = g refl
 difference_self : {A : Type 0} (same : A → A → Bool) → ((a : A) → same a a ≡ true) → (xs : List A) → difference same xs xs ≡ None
 difference_self same self [] = refl
 difference_self same self (x ∷ xs) = rw (self x, difference_self same self xs)
-
-same_digests_self : (xs : List Digest) → same_digests xs xs ≡ true
-same_digests_self [] = refl
-same_digests_self (x ∷ xs) = rw (same_digest_self x, same_digests_self xs)
-
-number_self : (n : ℕ) → (n == n) ≡ true
-number_self n = grind arith
-
-same_entry_self : (e : Entry) → same_entry e e ≡ true
-same_entry_self e = rw (number_self e.place, same_digest_self e.id, same_digests_self e.inputs, same_digests_self e.outputs)
-
-same_decision_self : (d : Bool) → same_decision d d ≡ true
-same_decision_self true = refl
-same_decision_self false = refl
 
 -- tests
 stale_test : (m n : ℕ) (c : Bool) → (nat_lt m n || ((m == n) && c)) ≡ false → (m < n) ⊎ ((n ≡ m) × (c ≡ true)) → ⊥

@@ -1,7 +1,7 @@
 -- Laws of one history, as the functions state them.
-use Rattle.std.proofs.Common.{◌≡◌, inl, inr, ℕ, true, false, ◌==◌, if◌then◌else◌, List, [], ◌∷◌, ◌++◌, refl, sym, ap, ◌∙◌, subst}
+use Rattle.std.proofs.Common.{inl, inr, List, [], ◌∷◌, sym, ◌∙◌, subst}
 use Rattle.std.proofs.lemmas.List.{append_cancel_right}
-use Rattle.cbdc_model.specs.Records.{Compact, Record, Row, journal, lock_of, Genesis, Lock, Finish, Forget, Start, Prepare, Commit, Discard, Done}
+use Rattle.cbdc_model.specs.Records.{Compact, Record, journal, lock_of, Prepare}
 use Rattle.cbdc_model.specs.Replies.{entries}
 use Rattle.cbdc_model.specs.Ranges.{shard_node}
 use Rattle.cbdc_model.specs.Outcomes.{decisions}
@@ -10,6 +10,7 @@ use Rattle.cbdc_model.specs.Coins.{genesis_hashes}
 use Rattle.cbdc_model.specs.Clean.{IsProperCompact}
 use Rattle.cbdc_model.specs.World.{Lock_call, Finish_call, Forget_call}
 use Rattle.cbdc_model.specs.History.{minted, first_rows, history_of, won_of, all_outputs}
+pub use Rattle.ledger_laws.proofs.Rows.{journal-append}
 use Rattle.ledger_laws.specs.Laws.{ReachLaw, MoreLaw, OneHistoryLaw, CutLaw, MakerLaw, AnswerLaw}
 use Rattle.ledger_laws.proofs.Ledger.{steady, proper_of, passes_of}
 use Rattle.ledger_laws.proofs.Next.{Each, AllProper}
@@ -23,15 +24,6 @@ use Rattle.ledger_laws.proofs.Granted.{lock_granted, finish_granted, forget_gran
 
 pub reach_law : ReachLaw
 reach_law K mint txs later shards kept = reach K (minted mint) (IsProperCompact txs) shards later (steady K (minted mint) (IsProperCompact txs) later kept)
-
-pub journal-append : (n : ℕ) (xs ys : List Row) → journal n (xs ++ ys) ≡ journal n xs ++ journal n ys
-journal-append n [] ys = refl
-journal-append n (row ∷ xs) ys =
-    let ih : journal n (xs ++ ys) ≡ journal n xs ++ journal n ys = journal-append n xs ys in
-    elim (row.node == n) as (λ c. (if c then row.what ∷ journal n (xs ++ ys) else journal n (xs ++ ys)) ≡ (if c then row.what ∷ journal n xs else journal n xs) ++ journal n ys) [
-      | true ↦ ap (λ J. row.what ∷ J) ih
-      | false ↦ ih
-    ]
 
 pub one_history_law : OneHistoryLaw
 one_history_law K m J one other a b =
@@ -65,14 +57,7 @@ each_more P Q f (Prepare stamp b txs) h = all_more txs h
     all_more : (ts : List Compact) → Each P ts → Each Q ts
     all_more [] h = tt
     all_more (t ∷ ts) h = (f t h.0, all_more ts h.1)
-each_more P Q f (Genesis header hs) h = tt
-each_more P Q f (Lock stamp b es) h = tt
-each_more P Q f (Finish stamp b ds) h = tt
-each_more P Q f (Forget stamp b) h = tt
-each_more P Q f (Start header) h = tt
-each_more P Q f (Commit stamp b os) h = tt
-each_more P Q f (Discard stamp b) h = tt
-each_more P Q f (Done stamp b) h = tt
+each_more P Q f other h = tt
 
 pub more_law : MoreLaw
 more_law K mint txs more [] sub kept = tt

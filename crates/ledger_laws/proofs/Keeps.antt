@@ -2,7 +2,7 @@
 use Rattle.std.proofs.Common.{◌≡◌, ◌⊎◌, inl, inr, ℕ, ◌/◌, Bool, true, false, ◌==◌, if◌then◌else◌, List, ◌∷◌, refl, sym, ap, ◌∙◌, subst, arith}
 use Rattle.cbdc_model.specs.Causes.{IsCaused}
 use Rattle.cbdc_model.specs.Ranges.{shard_node, lane_journal, part}
-use Rattle.cbdc_model.specs.Records.{Shape, Batch, same_batch, Compact, Outcome, Answered, Record, Row, journal, Genesis, Lock, Finish, Forget, Start, Prepare, Commit, Discard, Done, lock_of, txs_of}
+use Rattle.cbdc_model.specs.Records.{Shape, Batch, same_batch, Compact, Outcome, Answered, Record, Row, journal, Genesis, Lock, Finish, Start, Prepare, Commit, lock_of, txs_of}
 use Rattle.cbdc_model.specs.Replies.{entries}
 use Rattle.ledger_laws.proofs.Next.{Next, has_lock, has_finish, has_prepare, has_commit, Each, AllProper}
 use Rattle.ledger_laws.proofs.View.{same, other, same_or_not, same_batch_is}
@@ -189,11 +189,7 @@ keeps K P past st node (Start header) next caused proper = absurd next
 keeps K P past st node (Lock stamp b es) next caused proper = lock_keeps K P past st node stamp b es next caused
 keeps K P past st node (Finish stamp b ds) next caused proper = finish_keeps K P past st node stamp b ds next caused
 keeps K P past st node (Prepare stamp b txs) next caused proper = prepare_keeps K P past st node stamp b txs next proper
-keeps K P past st node (Forget stamp b) next caused proper = quiet_keeps K P past st (record { node = node; what = Forget stamp b }) next
-    (λ J c. refl) (λ J c. refl) (λ J c. refl) (λ J c h. h) (λ J c h. h) (λ J c. refl)
 keeps K P past st node (Commit stamp b os) next caused proper = quiet_keeps K P past st (record { node = node; what = Commit stamp b os }) next
     (λ J c. refl) (λ J c. refl) (λ J c. refl) (λ J c h. h) (λ J c h. commit_stays J stamp b c os h) (λ J c. refl)
-keeps K P past st node (Discard stamp b) next caused proper = quiet_keeps K P past st (record { node = node; what = Discard stamp b }) next
-    (λ J c. refl) (λ J c. refl) (λ J c. refl) (λ J c h. h) (λ J c h. h) (λ J c. refl)
-keeps K P past st node (Done stamp b) next caused proper = quiet_keeps K P past st (record { node = node; what = Done stamp b }) next
+keeps K P past st node another next caused proper = quiet_keeps K P past st (record { node = node; what = another }) next
     (λ J c. refl) (λ J c. refl) (λ J c. refl) (λ J c h. h) (λ J c h. h) (λ J c. refl)

@@ -1,7 +1,7 @@
 -- What stands of a lane's last batch at its coordinator, by its phase; and one lane after the other is brought to rest.
 use Rattle.std.proofs.Common.{◌≡◌, ◌⊎◌, inl, inr, ℕ, zero, suc, ◌+◌, ◌*◌, ◌^◌, ◌<◌, ◌≤◌, ◌/◌, true, false, ◌&&◌, ◌==◌, List, [], ◌++◌, Some, None, is_some, refl, sym, ap, ◌∙◌, subst, arith}
 use Rattle.std.proofs.Math.Nat.{div-lt_iff_lt-mul}
-use Rattle.cbdc_model.specs.Records.{Shape, Batch, Compact, Record, Row, journal, record_of, kind_of, is_of, Genesis, Lock, Finish, Forget, Start, Prepare, Commit, Discard, Done}
+use Rattle.cbdc_model.specs.Records.{Shape, Batch, Compact, Record, Row, journal, record_of, kind_of, is_of, Lock, Finish}
 use Rattle.cbdc_model.specs.Slots.{slot, Idle, InLock, InFinish, InPrepare, InCommit, InDiscard}
 use Rattle.cbdc_model.specs.Grammar.{IsInGrammar}
 use Rattle.cbdc_model.specs.History.{Minted, header_of, first_rows}
@@ -11,81 +11,26 @@ use Rattle.ledger_laws.proofs.Next.{Steady}
 use Rattle.ledger_laws.proofs.Slots.{JournalOk}
 use Rattle.ledger_laws.proofs.Dones.{PhaseOk}
 use Rattle.ledger_laws.proofs.Rows.{at, away, at_node}
-use Rattle.ledger_laws.proofs.Moves.{split_test, all_structure}
-use Rattle.ledger_laws.proofs.Alikes.{found_passes}
+use Rattle.ledger_laws.proofs.ByKind.{test_kind, found_passes, found_prepare, found_commit, found_discard}
+use Rattle.ledger_laws.proofs.Moves.{all_structure}
 use Rattle.ledger_laws.proofs.Recovered.{all_dones, all_phases}
 use Rattle.ledger_laws.proofs.Reaching.{run-append}
-use Rattle.ledger_laws.proofs.Last as last
+use Rattle.ledger_laws.proofs.Last.{phase_stands}
 use Rattle.ledger_laws.proofs.Found.{found_grammar}
 use Rattle.ledger_laws.proofs.Writing.{AllLocked, Open, Goes, stay, begin-append, raise}
 use Rattle.ledger_laws.proofs.LaneRuns.{Prepared, Committed, Discarded, by_prepare, by_commit, by_discard}
 
 module _ (H : List Record) (b : Batch) where
-  prepare_is : (slot H b.lane).number ≡ b.number → (r : Record) → record_of 6 H b ≡ Some r → ((kind_of r == 6) && is_of b r) ≡ true → (txs : List Compact) × Prepared b txs H
-  prepare_is n (Prepare stamp c txs) e t =
-      (txs, record { cause = stamp; stands = subst (λ d. record_of 6 H b ≡ Some (Prepare stamp d txs)) (split_test 6 6 c b t).1 e; number = n })
-  prepare_is n (Genesis header hs) e t = absurd (let z : false ≡ true = t in cc)
-  prepare_is n (Start header) e t = absurd (let z : false ≡ true = t in cc)
-  prepare_is n (Lock stamp c es) e t = absurd (let z : false ≡ true = t in cc)
-  prepare_is n (Finish stamp c ds) e t = absurd (let z : false ≡ true = t in cc)
-  prepare_is n (Forget stamp c) e t = absurd (let z : false ≡ true = t in cc)
-  prepare_is n (Commit stamp c os) e t = absurd (let z : false ≡ true = t in cc)
-  prepare_is n (Discard stamp c) e t = absurd (let z : false ≡ true = t in cc)
-  prepare_is n (Done stamp c) e t = absurd (let z : false ≡ true = t in cc)
-
-  commit_is : (r : Record) → record_of 7 H b ≡ Some r → ((kind_of r == 7) && is_of b r) ≡ true → Committed b H
-  commit_is (Commit stamp c os) e t = record { stamp = stamp; outcomes = os; stands = subst (λ d. record_of 7 H b ≡ Some (Commit stamp d os)) (split_test 7 7 c b t).1 e }
-  commit_is (Genesis header hs) e t = absurd (let z : false ≡ true = t in cc)
-  commit_is (Start header) e t = absurd (let z : false ≡ true = t in cc)
-  commit_is (Lock stamp c es) e t = absurd (let z : false ≡ true = t in cc)
-  commit_is (Finish stamp c ds) e t = absurd (let z : false ≡ true = t in cc)
-  commit_is (Forget stamp c) e t = absurd (let z : false ≡ true = t in cc)
-  commit_is (Prepare stamp c txs) e t = absurd (let z : false ≡ true = t in cc)
-  commit_is (Discard stamp c) e t = absurd (let z : false ≡ true = t in cc)
-  commit_is (Done stamp c) e t = absurd (let z : false ≡ true = t in cc)
-
-  discard_is : (r : Record) → record_of 8 H b ≡ Some r → ((kind_of r == 8) && is_of b r) ≡ true → Discarded b H
-  discard_is (Discard stamp c) e t = record { stamp = stamp; stands = subst (λ d. record_of 8 H b ≡ Some (Discard stamp d)) (split_test 8 8 c b t).1 e }
-  discard_is (Genesis header hs) e t = absurd (let z : false ≡ true = t in cc)
-  discard_is (Start header) e t = absurd (let z : false ≡ true = t in cc)
-  discard_is (Lock stamp c es) e t = absurd (let z : false ≡ true = t in cc)
-  discard_is (Finish stamp c ds) e t = absurd (let z : false ≡ true = t in cc)
-  discard_is (Forget stamp c) e t = absurd (let z : false ≡ true = t in cc)
-  discard_is (Prepare stamp c txs) e t = absurd (let z : false ≡ true = t in cc)
-  discard_is (Commit stamp c os) e t = absurd (let z : false ≡ true = t in cc)
-  discard_is (Done stamp c) e t = absurd (let z : false ≡ true = t in cc)
-
   prepared : is_some (record_of 6 H b) ≡ true → (slot H b.lane).number ≡ b.number → (txs : List Compact) × Prepared b txs H
-  prepared h n = elim (record_of 6 H b) as (λ o. record_of 6 H b ≡ o → is_some o ≡ true → (txs : List Compact) × Prepared b txs H) [
-    | None ↦ λ e t. absurd (let z : false ≡ true = t in cc)
-    | Some r ↦ λ e t. prepare_is n r e (found_passes 6 H b r e)
-  ] refl h
+  prepared h n = let f = found_prepare H b h in (f.1, record { cause = f.0; stands = f.2; number = n })
 
   committed : is_some (record_of 7 H b) ≡ true → Committed b H
-  committed h = elim (record_of 7 H b) as (λ o. record_of 7 H b ≡ o → is_some o ≡ true → Committed b H) [
-    | None ↦ λ e t. absurd (let z : false ≡ true = t in cc)
-    | Some r ↦ λ e t. commit_is r e (found_passes 7 H b r e)
-  ] refl h
+  committed h = let f = found_commit H b h in record { stamp = f.0; outcomes = f.1; stands = f.2 }
 
   discarded : (slot H b.lane).phase ≡ InDiscard → (slot H b.lane).number ≡ b.number → Discarded b H
-  discarded p n = by_last (last.last_is H b n)
-    where
-      to_kind : (kind : ℕ) (r : Record) → record_of kind H b ≡ Some r → kind_of r ≡ kind → (last.slot_by (Some r)).phase ≡ InDiscard → Discarded b H
-      to_kind kind (Discard stamp c) e k q =
-          let e' : record_of 8 H b ≡ Some (Discard stamp c) = subst (λ m. record_of m H b ≡ Some (Discard stamp c)) (sym k) e in
-          discard_is (Discard stamp c) e' (found_passes 8 H b (Discard stamp c) e')
-      to_kind kind (Genesis header hs) e k q = absurd (let z : Idle ≡ InDiscard = q in cc)
-      to_kind kind (Start header) e k q = absurd (let z : Idle ≡ InDiscard = q in cc)
-      to_kind kind (Lock stamp c es) e k q = absurd (let z : InLock ≡ InDiscard = q in cc)
-      to_kind kind (Finish stamp c ds) e k q = absurd (let z : InFinish ≡ InDiscard = q in cc)
-      to_kind kind (Forget stamp c) e k q = absurd (let z : Idle ≡ InDiscard = q in cc)
-      to_kind kind (Prepare stamp c txs) e k q = absurd (let z : InPrepare ≡ InDiscard = q in cc)
-      to_kind kind (Commit stamp c os) e k q = absurd (let z : InCommit ≡ InDiscard = q in cc)
-      to_kind kind (Done stamp c) e k q = absurd (let z : Idle ≡ InDiscard = q in cc)
-
-      by_last : last.LastIs H b → Discarded b H
-      by_last (last.nothing_yet z i) = absurd (let q : Idle ≡ InDiscard = sym i ∙ p in cc)
-      by_last (last.of_kind kind r e w k q) = to_kind kind r e k (sym q ∙ p)
+  discarded p n =
+      let f = found_discard H b (phase_stands H b n InDiscard p (λ i. let z : Idle ≡ InDiscard = sym i ∙ p in cc)) in
+      record { stamp = f.0; stands = f.1 }
 
 -- no shard's record stands at a coordinator
 module _ (K : Shape) (minting : Minted) (P : Compact → Type 0) (shards : 0 < K.shards) (later : List Row) (kept : Steady K minting P later) (n : ℕ) (home : n < K.coordinators) where
@@ -95,25 +40,7 @@ module _ (K : Shape) (minting : Minted) (P : Compact → Type 0) (shards : 0 < K
   stands_elsewhere : (kind : ℕ) (b : Batch) (r : Record) → ((kind_of r == kind) && is_of b r) ≡ true → (kind ≡ 2) ⊎ (kind ≡ 3) → IsInGrammar (header_of K minting.id n) r → ⊥
   stands_elsewhere kind b (Lock stamp c es) t which g = omega (arith, g.2.0)
   stands_elsewhere kind b (Finish stamp c ds) t which g = omega (arith, g.2.0)
-  stands_elsewhere kind b (Forget stamp c) t which g = omega (arith, g.2.0)
-  stands_elsewhere kind b (Genesis header hs) t which g = omega (arith, g.2.0)
-  stands_elsewhere kind b (Start header) t which g = grind (arith, t)
-  stands_elsewhere kind b (Prepare stamp c txs) t which g = not_six 6 kind c b t which (omega arith)
-    where
-      not_six : (k kind : ℕ) (c b : Batch) → ((k == kind) && is_of b (Forget 0 c)) ≡ true → (kind ≡ 2) ⊎ (kind ≡ 3) → 3 < k → ⊥
-      not_six k kind c b t which lt = let s : (k ≡ kind) × (c ≡ b) = split_test k kind c b t in grind arith
-  stands_elsewhere kind b (Commit stamp c os) t which g = not_seven 7 kind c b t which (omega arith)
-    where
-      not_seven : (k kind : ℕ) (c b : Batch) → ((k == kind) && is_of b (Forget 0 c)) ≡ true → (kind ≡ 2) ⊎ (kind ≡ 3) → 3 < k → ⊥
-      not_seven k kind c b t which lt = let s : (k ≡ kind) × (c ≡ b) = split_test k kind c b t in grind arith
-  stands_elsewhere kind b (Discard stamp c) t which g = not_eight 8 kind c b t which (omega arith)
-    where
-      not_eight : (k kind : ℕ) (c b : Batch) → ((k == kind) && is_of b (Forget 0 c)) ≡ true → (kind ≡ 2) ⊎ (kind ≡ 3) → 3 < k → ⊥
-      not_eight k kind c b t which lt = let s : (k ≡ kind) × (c ≡ b) = split_test k kind c b t in grind arith
-  stands_elsewhere kind b (Done stamp c) t which g = not_nine 9 kind c b t which (omega arith)
-    where
-      not_nine : (k kind : ℕ) (c b : Batch) → ((k == kind) && is_of b (Forget 0 c)) ≡ true → (kind ≡ 2) ⊎ (kind ≡ 3) → 3 < k → ⊥
-      not_nine k kind c b t which lt = let s : (k ≡ kind) × (c ≡ b) = split_test k kind c b t in grind arith
+  stands_elsewhere kind b other t which g = let k : kind_of other ≡ kind = test_kind kind b other t in grind (arith, k, which)
 
   not_here : (kind : ℕ) (b : Batch) → (kind ≡ 2) ⊎ (kind ≡ 3) → is_some (record_of kind J b) ≡ true → ⊥
   not_here kind b which h = elim (record_of kind J b) as (λ o. record_of kind J b ≡ o → is_some o ≡ true → ⊥) [

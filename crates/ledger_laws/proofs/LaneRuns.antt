@@ -1,20 +1,17 @@
 -- One lane's open batch is brought to its Done, phase by phase.
 use Rattle.std.proofs.Common.{◌≡◌, ◌⊎◌, inl, inr, ℕ, zero, suc, ◌+◌, ◌*◌, ◌^◌, ◌<◌, ◌≤◌, ◌/◌, true, false, ◌&&◌, ◌==◌, List, ◌∷◌, Some, is_some, refl, sym, ap, ◌∙◌, subst, arith}
-use Rattle.cbdc_model.specs.Records.{Shape, Batch, same_batch, Compact, Outcome, Record, record_of, kind_of, is_of, txs_in, txs_of, last_stamp, Genesis, Lock, Finish, Forget, Start, Prepare, Commit, Discard, Done}
+use Rattle.cbdc_model.specs.Records.{Shape, Batch, same_batch, Compact, Outcome, Record, record_of, kind_of, is_of, txs_in, txs_of, last_stamp, Prepare, Commit, Discard, Done}
 use Rattle.cbdc_model.specs.Slots.{slot, Idle, InPrepare, InCommit, InDiscard}
 use Rattle.cbdc_model.specs.Ranges.{shard_node, part, is_no_part, Concerned}
 use Rattle.cbdc_model.specs.Causes.{AllHave}
 use Rattle.cbdc_model.specs.History.{Minted}
 use Rattle.cbdc_model.specs.World.{World, journals}
 use Rattle.ledger_laws.proofs.Rows.{at, away, at_node}
-use Rattle.ledger_laws.proofs.Lookups.{true_false}
+use Rattle.ledger_laws.proofs.Lookups.{true_false, number_self}
 use Rattle.ledger_laws.proofs.Moves.{split_test}
 use Rattle.ledger_laws.proofs.Found.{found_new}
 use Rattle.ledger_laws.proofs.Resuming.{Writes, lock_writes, commit_writes, finish_writes, discard_writes, forget_writes, done_writes}
 use Rattle.ledger_laws.proofs.Writing.{AllLocked, Open, Goes, Written, write, stay, go_on, weaken, raise}
-
-number_self : (n : ℕ) → (n == n) ≡ true
-number_self n = grind arith
 
 below : (n s : ℕ) → s < suc n → (n == s) ≡ false → s < n
 below n s lt e = grind arith
@@ -52,14 +49,7 @@ module _ (b : Batch) (txs : List Compact) (H : List Record) (p : Prepared b txs 
     where
       itself : (b : Batch) → ((7 == 7) && same_batch b b) ≡ true
       itself b = grind arith
-  after_commit (Genesis header hs) t = absurd (let z : false ≡ true = t in cc)
-  after_commit (Start header) t = absurd (let z : false ≡ true = t in cc)
-  after_commit (Lock stamp c es) t = absurd (let z : false ≡ true = t in cc)
-  after_commit (Finish stamp c ds) t = absurd (let z : false ≡ true = t in cc)
-  after_commit (Forget stamp c) t = absurd (let z : false ≡ true = t in cc)
-  after_commit (Prepare stamp c ts) t = absurd (let z : false ≡ true = t in cc)
-  after_commit (Discard stamp c) t = absurd (let z : false ≡ true = t in cc)
-  after_commit (Done stamp c) t = absurd (let z : false ≡ true = t in cc)
+  after_commit other t = absurd (let z : false ≡ true = t in cc)
 
   after_discard : (r : Record) → ((kind_of r == 8) && is_of b r) ≡ true → Prepared b txs (r ∷ H) × Discarded b (r ∷ H) × ((slot (r ∷ H) b.lane).phase ≡ InDiscard)
   after_discard (Discard stamp c) t =
@@ -71,25 +61,11 @@ module _ (b : Batch) (txs : List Compact) (H : List Record) (p : Prepared b txs 
     where
       itself : (b : Batch) → ((8 == 8) && same_batch b b) ≡ true
       itself b = grind arith
-  after_discard (Genesis header hs) t = absurd (let z : false ≡ true = t in cc)
-  after_discard (Start header) t = absurd (let z : false ≡ true = t in cc)
-  after_discard (Lock stamp c es) t = absurd (let z : false ≡ true = t in cc)
-  after_discard (Finish stamp c ds) t = absurd (let z : false ≡ true = t in cc)
-  after_discard (Forget stamp c) t = absurd (let z : false ≡ true = t in cc)
-  after_discard (Prepare stamp c ts) t = absurd (let z : false ≡ true = t in cc)
-  after_discard (Commit stamp c os) t = absurd (let z : false ≡ true = t in cc)
-  after_discard (Done stamp c) t = absurd (let z : false ≡ true = t in cc)
+  after_discard other t = absurd (let z : false ≡ true = t in cc)
 
   after_done : (r : Record) → ((kind_of r == 9) && is_of b r) ≡ true → (slot (r ∷ H) b.lane).phase ≡ Idle
   after_done (Done stamp c) t = subst (λ d. (slot (Done stamp d ∷ H) b.lane).phase ≡ Idle) (sym (split_test 9 9 c b t).1) (rw (number_self b.lane))
-  after_done (Genesis header hs) t = absurd (let z : false ≡ true = t in cc)
-  after_done (Start header) t = absurd (let z : false ≡ true = t in cc)
-  after_done (Lock stamp c es) t = absurd (let z : false ≡ true = t in cc)
-  after_done (Finish stamp c ds) t = absurd (let z : false ≡ true = t in cc)
-  after_done (Forget stamp c) t = absurd (let z : false ≡ true = t in cc)
-  after_done (Prepare stamp c ts) t = absurd (let z : false ≡ true = t in cc)
-  after_done (Commit stamp c os) t = absurd (let z : false ≡ true = t in cc)
-  after_done (Discard stamp c) t = absurd (let z : false ≡ true = t in cc)
+  after_done other t = absurd (let z : false ≡ true = t in cc)
 
 module _ (K : Shape) (minting : Minted) (P : Compact → Type 0) (shards : 0 < K.shards) (b : Batch) (txs : List Compact) (home : b.lane / K.lanes < K.coordinators) where
   abbrev At : World → List Record → Type 0

@@ -1,7 +1,8 @@
 -- The last record of a lane in a journal, against the slot.
-use Rattle.std.proofs.Common.{◌≡◌, ℕ, Bool, true, false, cond, ◌&&◌, ◌==◌, if◌then◌else◌, List, [], ◌∷◌, Option, Some, None, find, refl, sym, ap, ◌∙◌, subst, arith}
-use Rattle.cbdc_model.specs.Records.{Batch, same_batch, Record, record_of, kind_of, is_of, is_in_lane, stamp_of, stamp_in, Genesis, Lock, Finish, Forget, Start, Prepare, Commit, Discard, Done}
-use Rattle.cbdc_model.specs.Slots.{Slot, slot, slot_stamp, Idle, InLock, InFinish, InPrepare, InCommit, InDiscard}
+use Rattle.std.proofs.Common.{◌≡◌, ◌⊎◌, inl, inr, ℕ, Bool, true, false, cond, ◌&&◌, ◌==◌, if◌then◌else◌, List, [], ◌∷◌, Option, Some, None, is_some, find, refl, sym, ap, ◌∙◌, subst, arith}
+use Rattle.cbdc_model.specs.Records.{Batch, Record, record_of, kind_of, is_of, is_in_lane, stamp_of, stamp_in, Genesis, Lock, Finish, Forget, Start, Prepare, Commit, Discard, Done}
+use Rattle.cbdc_model.specs.Slots.{Phase, Slot, slot, slot_stamp, Idle, InLock, InFinish, InPrepare, InCommit, InDiscard}
+use Rattle.ledger_laws.proofs.ByKind.{some_is, of_in_lane}
 
 abbrev pub last_of : List Record → ℕ → Option Record
 last_of J lane = find (λ r. is_in_lane lane r) J
@@ -18,38 +19,22 @@ slot_by (Some (Commit stamp b os)) = record { number = b.number; phase = InCommi
 slot_by (Some (Discard stamp b)) = record { number = b.number; phase = InDiscard }
 slot_by (Some (Done stamp b)) = record { number = b.number; phase = Idle }
 
+-- what a record leaves in a lane's slot
+pub slot_next : (r : Record) (J : List Record) (lane : ℕ) → slot (r ∷ J) lane ≡ (if is_in_lane lane r then slot_by (Some r) else slot J lane)
+slot_next (Genesis header hs) J lane = refl
+slot_next other J lane = refl
+
 slot_head : (c : Bool) (r : Option Record) (rest : Option Record) (s : Slot) → s ≡ slot_by rest → (if c then slot_by r else s) ≡ slot_by (cond c r rest)
 slot_head true r rest s e = refl
 slot_head false r rest s e = e
 
 pub slot_is : (J : List Record) (lane : ℕ) → slot J lane ≡ slot_by (last_of J lane)
 slot_is [] lane = refl
-slot_is (Genesis header hs ∷ J) lane = slot_is J lane
-slot_is (Start header ∷ J) lane = slot_is J lane
-slot_is (Lock stamp b es ∷ J) lane = slot_head (b.lane == lane) (Some (Lock stamp b es)) (last_of J lane) (slot J lane) (slot_is J lane)
-slot_is (Finish stamp b ds ∷ J) lane = slot_head (b.lane == lane) (Some (Finish stamp b ds)) (last_of J lane) (slot J lane) (slot_is J lane)
-slot_is (Forget stamp b ∷ J) lane = slot_head (b.lane == lane) (Some (Forget stamp b)) (last_of J lane) (slot J lane) (slot_is J lane)
-slot_is (Prepare stamp b txs ∷ J) lane = slot_head (b.lane == lane) (Some (Prepare stamp b txs)) (last_of J lane) (slot J lane) (slot_is J lane)
-slot_is (Commit stamp b os ∷ J) lane = slot_head (b.lane == lane) (Some (Commit stamp b os)) (last_of J lane) (slot J lane) (slot_is J lane)
-slot_is (Discard stamp b ∷ J) lane = slot_head (b.lane == lane) (Some (Discard stamp b)) (last_of J lane) (slot J lane) (slot_is J lane)
-slot_is (Done stamp b ∷ J) lane = slot_head (b.lane == lane) (Some (Done stamp b)) (last_of J lane) (slot J lane) (slot_is J lane)
+slot_is (r ∷ J) lane = slot_next r J lane ∙ slot_head (is_in_lane lane r) (Some r) (last_of J lane) (slot J lane) (slot_is J lane)
 
-some_is : (q r : Record) → Some q ≡ Some r → q ≡ r
-some_is q r e = cc
-
-in_lane_of : (c b : Batch) → same_batch c b ≡ true → (c.lane == b.lane) ≡ true
-in_lane_of c b h = grind arith
-
-of_in_lane : (b : Batch) (r : Record) → is_of b r ≡ true → is_in_lane b.lane r ≡ true
-of_in_lane b (Genesis header hs) h = cc
-of_in_lane b (Start header) h = cc
-of_in_lane b (Lock stamp c es) h = in_lane_of c b h
-of_in_lane b (Finish stamp c ds) h = in_lane_of c b h
-of_in_lane b (Forget stamp c) h = in_lane_of c b h
-of_in_lane b (Prepare stamp c txs) h = in_lane_of c b h
-of_in_lane b (Commit stamp c os) h = in_lane_of c b h
-of_in_lane b (Discard stamp c) h = in_lane_of c b h
-of_in_lane b (Done stamp c) h = in_lane_of c b h
+-- a record of one lane leaves the slots of the others
+pub slot_stays : (r : Record) (J : List Record) (lane : ℕ) → is_in_lane lane r ≡ false → slot (r ∷ J) lane ≡ slot J lane
+slot_stays r J lane h = slot_next r J lane ∙ ap (λ c. if c then slot_by (Some r) else slot J lane) h
 
 second : (a b : Bool) → (a && b) ≡ true → b ≡ true
 second a b h = grind arith
@@ -82,8 +67,13 @@ last_in_lane (q ∷ J) lane r e = step q J lane r e (λ g. last_in_lane J lane r
       | false ↦ λ l g. rest g
     ] refl e
 
-both_same : (c b : Batch) → (c.lane == b.lane) ≡ true → c.number ≡ b.number → same_batch c b ≡ true
-both_same c b l n = grind arith
+-- a record of the lane with the slot's number is of the batch
+of_number : (b : Batch) (r : Record) → is_in_lane b.lane r ≡ true → (slot_by (Some r)).number ≡ b.number → is_of b r ≡ true
+of_number b (Genesis header hs) l n = l
+of_number b other l n = grind (arith, l, n)
+
+own_test : (b : Batch) (r : Record) → is_of b r ≡ true → ((kind_of r == kind_of r) && is_of b r) ≡ true
+own_test b r i = grind (arith, i)
 
 -- what the last record is, by the phase
 pub data LastIs (J : List Record) (b : Batch) : Type 0 where
@@ -96,16 +86,57 @@ last_is J b n = elim (last_of J b.lane) as (λ r. last_of J b.lane ≡ r → Las
   | Some r ↦ λ e. of_record J b r e (sym (ap (λ s. s.number) (slot_is J b.lane ∙ ap slot_by e)) ∙ n) (last_in_lane J b.lane r e)
 ] refl
   where
-    found : (J : List Record) (b : Batch) (r : Record) (kind : ℕ) → last_of J b.lane ≡ Some r → ((kind_of r == kind) && is_of b r) ≡ true → kind_of r ≡ kind → LastIs J b
-    found J b r kind e t k = of_kind kind r (last_found J kind b r e t) (ap stamp_in e) k (ap (λ s. s.phase) (slot_is J b.lane ∙ ap slot_by e))
-
     of_record : (J : List Record) (b : Batch) (r : Record) → last_of J b.lane ≡ Some r → (slot_by (Some r)).number ≡ b.number → is_in_lane b.lane r ≡ true → LastIs J b
-    of_record J b (Genesis header hs) e n l = absurd (let z : false ≡ true = l in cc)
-    of_record J b (Start header) e n l = absurd (let z : false ≡ true = l in cc)
-    of_record J b (Lock stamp c es) e n l = found J b (Lock stamp c es) 2 e (both_same c b l n) refl
-    of_record J b (Finish stamp c ds) e n l = found J b (Finish stamp c ds) 3 e (both_same c b l n) refl
-    of_record J b (Forget stamp c) e n l = found J b (Forget stamp c) 4 e (both_same c b l n) refl
-    of_record J b (Prepare stamp c txs) e n l = found J b (Prepare stamp c txs) 6 e (both_same c b l n) refl
-    of_record J b (Commit stamp c os) e n l = found J b (Commit stamp c os) 7 e (both_same c b l n) refl
-    of_record J b (Discard stamp c) e n l = found J b (Discard stamp c) 8 e (both_same c b l n) refl
-    of_record J b (Done stamp c) e n l = found J b (Done stamp c) 9 e (both_same c b l n) refl
+    of_record J b r e n l =
+        of_kind (kind_of r) r (last_found J (kind_of r) b r e (own_test b r (of_number b r l n))) (ap stamp_in e) refl (ap (λ s. s.phase) (slot_is J b.lane ∙ ap slot_by e))
+
+-- the kind of the record that leaves a lane in a phase; it is not told of an idle one
+abbrev pub kind_in : Phase → ℕ
+kind_in Idle = 0
+kind_in InLock = 2
+kind_in InFinish = 3
+kind_in InPrepare = 6
+kind_in InCommit = 7
+kind_in InDiscard = 8
+
+by_phase : (r : Record) → ((slot_by (Some r)).phase ≡ Idle) ⊎ (kind_of r ≡ kind_in (slot_by (Some r)).phase)
+by_phase (Genesis header hs) = inl refl
+by_phase (Start header) = inl refl
+by_phase (Forget stamp b) = inl refl
+by_phase (Done stamp b) = inl refl
+by_phase other = inr refl
+
+-- the last record of the batch of a slot that is not idle
+pub record LastStands (J : List Record) (b : Batch) : Type 0 where
+  pub last : Record
+  pub stands : record_of (kind_in (slot J b.lane).phase) J b ≡ Some last
+  pub stamp : slot_stamp J b.lane ≡ stamp_of last
+  pub phase : (slot_by (Some last)).phase ≡ (slot J b.lane).phase
+
+pub last_stands : (J : List Record) (b : Batch) → (slot J b.lane).number ≡ b.number → ((slot J b.lane).phase ≡ Idle → ⊥) → LastStands J b
+last_stands J b n busy = from (last_is J b n)
+  where
+    from : LastIs J b → LastStands J b
+    from (nothing_yet z i) = absurd (busy i)
+    from (of_kind kind r e w k q) = elim (by_phase r) [
+      | inl i ↦ absurd (busy (q ∙ i))
+      | inr m ↦ record {
+        last = r;
+        stands = subst (λ h. record_of h J b ≡ Some r) (sym k ∙ m ∙ ap kind_in (sym q)) e;
+        stamp = w;
+        phase = sym q;
+      }
+    ]
+
+-- and its stamp, by its phase
+pub last_stamped : (J : List Record) (b : Batch) (p : Phase) → (slot J b.lane).phase ≡ p → (l : LastStands J b) → (record_of (kind_in p) J b ≡ Some l.last) × (slot_stamp J b.lane ≡ stamp_in (record_of (kind_in p) J b))
+last_stamped J b p e l =
+    let stands : record_of (kind_in p) J b ≡ Some l.last = subst (λ q. record_of (kind_in q) J b ≡ Some l.last) e l.stands in
+    (stands, l.stamp ∙ ap stamp_in (sym stands))
+
+pub phase_stands : (J : List Record) (b : Batch) → (slot J b.lane).number ≡ b.number → (p : Phase) → (slot J b.lane).phase ≡ p → ((slot J b.lane).phase ≡ Idle → ⊥) → is_some (record_of (kind_in p) J b) ≡ true
+phase_stands J b n p e busy = ap is_some (last_stamped J b p e (last_stands J b n busy)).0
+
+pub phase_stamp : (J : List Record) (b : Batch) → (slot J b.lane).number ≡ b.number → (p : Phase) → (slot J b.lane).phase ≡ p → ((slot J b.lane).phase ≡ Idle → ⊥)
+    → slot_stamp J b.lane ≡ stamp_in (record_of (kind_in p) J b)
+phase_stamp J b n p e busy = (last_stamped J b p e (last_stands J b n busy)).1

@@ -1,6 +1,6 @@
 -- At most one batch of a lane has stamps above 2^62.
 use Rattle.std.proofs.Common.{◌≡◌, ◌⊎◌, inl, inr, ℕ, ◌+◌, ◌-◌, ◌^◌, ◌<◌, ◌≤◌, ◌/◌, true, false, ◌&&◌, ◌==◌, List, [], ◌∷◌, ◌++◌, Some, None, is_some, refl, sym, ap, ◌∙◌, subst, arith}
-use Rattle.cbdc_model.specs.Records.{Shape, Batch, Compact, Record, Row, journal, record_of, kind_of, is_of, stamp_of, stamp_in, lock_of, txs_of, Genesis, Lock, Finish, Forget, Start, Prepare, Commit, Discard, Done}
+use Rattle.cbdc_model.specs.Records.{Shape, Batch, Compact, Record, Row, journal, record_of, kind_of, is_of, stamp_in, lock_of, txs_of, Genesis, Lock, Finish, Forget, Start, Prepare, Commit, Discard, Done}
 use Rattle.cbdc_model.specs.Ranges.{shard_node, Concerned}
 use Rattle.cbdc_model.specs.Grammar.{IsInGrammar}
 use Rattle.cbdc_model.specs.Slots.{slot, InPrepare, InCommit, InDiscard}
@@ -17,8 +17,8 @@ use Rattle.ledger_laws.proofs.Rows.{at, away, at_node, head_at, head_away}
 use Rattle.ledger_laws.proofs.View.{same_batch_is}
 use Rattle.ledger_laws.proofs.Lookups.{true_false}
 use Rattle.ledger_laws.proofs.First.{journal_first, all_first}
-use Rattle.ledger_laws.proofs.Moves.{none_of, not_empty, split_test, test_step, all_structure, all_more}
-use Rattle.ledger_laws.proofs.Alikes.{found_passes}
+use Rattle.ledger_laws.proofs.Moves.{none_of, not_empty, all_structure, all_more}
+use Rattle.ledger_laws.proofs.ByKind.{split_test, test_batch, test_step, some_is, found_new, found_passes, found_prepare}
 use Rattle.ledger_laws.proofs.Standing.{Facts, standing}
 use Rattle.ledger_laws.proofs.Recovered.{all_dones, all_phases}
 use Rattle.ledger_laws.proofs.Repeats.{all_order}
@@ -33,9 +33,6 @@ module _ (K : Shape) (n : ℕ) (J : List Record) (ok : JournalOk J) (more : More
   nothing_behind : (r : Record) (b : Batch) → Next K n J r → is_of b r ≡ true → has_done J b ≡ true → ⊥
   nothing_behind (Genesis header hs) b next t h = absurd next
   nothing_behind (Start header) b next t h = absurd next
-  nothing_behind (Lock stamp c es) b next t h = at_shard b next.1.0 h
-  nothing_behind (Finish stamp c ds) b next t h = at_shard b next.1.0 h
-  nothing_behind (Forget stamp c) b next t h = at_shard b next.1.0 h
   nothing_behind (Prepare stamp c txs) b next t h =
       let e : c ≡ b = same_batch_is c b t in
       let m : b.number ≡ (slot J b.lane).number + 1 = subst (λ d. d.number ≡ (slot J d.lane).number + 1) e next.4 in
@@ -49,15 +46,7 @@ module _ (K : Shape) (n : ℕ) (J : List Record) (ok : JournalOk J) (more : More
   nothing_behind (Done stamp c) b next t h =
       let e : c ≡ b = same_batch_is c b t in
       true_false _ h (more.in_discard b (subst (λ d. (slot J d.lane).phase ≡ InDiscard) e next.3) (subst (λ d. (slot J d.lane).number ≡ d.number) e next.4))
-
-found_new : (kind : ℕ) (q : Record) (J : List Record) (b : Batch) → ((kind_of q == kind) && is_of b q) ≡ true → record_of kind (q ∷ J) b ≡ Some q
-found_new kind q J b t = rw t
-
-of_batch : (kind : ℕ) (r : Record) (b : Batch) → ((kind_of r == kind) && is_of b r) ≡ true → is_of b r ≡ true
-of_batch kind r b t = grind arith
-
-some_is : (q r : Record) → Some q ≡ Some r → q ≡ r
-some_is q r e = cc
+  nothing_behind other b next t h = at_shard b next.1.0 h
 
 record LastDone (J : List Record) : Type 0 where
   le : (kind : ℕ) (b : Batch) → has_done J b ≡ true → stamp_in (record_of kind J b) ≤ stamp_in (record_of 9 J b)
@@ -69,7 +58,7 @@ next_last K n J r ok more phases dones order next last = record {
     | false ↦ λ t.
         let before : has_done J b ≡ true = sym (ap is_some (test_step 9 r J b t)) ∙ h in
         elim ((kind_of r == kind) && is_of b r) as (λ u. ((kind_of r == kind) && is_of b r) ≡ u → stamp_in (record_of kind (r ∷ J) b) ≤ stamp_in (record_of 9 (r ∷ J) b)) [
-          | true ↦ λ u. absurd (nothing_behind K n J ok more phases dones r b next (of_batch kind r b u) before)
+          | true ↦ λ u. absurd (nothing_behind K n J ok more phases dones r b next (test_batch kind b r u) before)
           | false ↦ λ u. both_same (ap stamp_in (test_step kind r J b u)) (ap stamp_in (test_step 9 r J b t)) (last.le kind b before)
         ] refl
   ] refl;
@@ -122,7 +111,7 @@ module _ (K : Shape) (minting : Minted) (P : Compact → Type 0) (shards : 0 < K
 
     -- of any record of a batch: its Prepare stands
     prepared : (n kind : ℕ) (b : Batch) (r : Record) → record_of kind (J n) b ≡ Some r → ((kind_of r == kind) && is_of b r) ≡ true → is_some (record_of 6 (J (b.lane / K.lanes)) b) ≡ true
-    prepared n kind b r e t = by_record r e (of_batch kind r b t) t (standing K minting P shards later kept n kind b r e) (was_next later kept n kind b r e)
+    prepared n kind b r e t = by_record r e (test_batch kind b r t) t (standing K minting P shards later kept n kind b r e) (was_next later kept n kind b r e)
       where
         by_record : (r : Record) → record_of kind (J n) b ≡ Some r → is_of b r ≡ true → ((kind_of r == kind) && is_of b r) ≡ true → Facts K J n r
             → (rest : List Record) × Next K n rest r × IsInGrammar (header_of K minting.id n) r → is_some (record_of 6 (J (b.lane / K.lanes)) b) ≡ true
@@ -143,7 +132,7 @@ module _ (K : Shape) (minting : Minted) (P : Compact → Type 0) (shards : 0 < K
     -- and none is newer than its Done
     done_last : (n kind : ℕ) (b : Batch) (r : Record) → record_of kind (J n) b ≡ Some r → ((kind_of r == kind) && is_of b r) ≡ true
         → is_some (record_of 9 (J (b.lane / K.lanes)) b) ≡ true → stamp_in (record_of kind (J n) b) ≤ stamp_in (record_of 9 (J (b.lane / K.lanes)) b)
-    done_last n kind b r e t done = by_record r e (of_batch kind r b t) t (standing K minting P shards later kept n kind b r e) (was_next later kept n kind b r e)
+    done_last n kind b r e t done = by_record r e (test_batch kind b r t) t (standing K minting P shards later kept n kind b r e) (was_next later kept n kind b r e)
       where
         at_home : n ≡ b.lane / K.lanes → stamp_in (record_of kind (J n) b) ≤ stamp_in (record_of 9 (J (b.lane / K.lanes)) b)
         at_home home = subst (λ m. stamp_in (record_of kind (J m) b) ≤ stamp_in (record_of 9 (J (b.lane / K.lanes)) b)) (sym home) ((all_last later kept (b.lane / K.lanes)).le kind b done)
@@ -187,21 +176,9 @@ module _ (K : Shape) (minting : Minted) (P : Compact → Type 0) (shards : 0 < K
 
     -- a Prepare has an early stamp
     early : (b : Batch) → is_some (record_of 6 (J (b.lane / K.lanes)) b) ≡ true → stamp_in (record_of 6 (J (b.lane / K.lanes)) b) ≤ 2 ^ 62
-    early b h = elim (record_of 6 (J (b.lane / K.lanes)) b) as (λ o. record_of 6 (J (b.lane / K.lanes)) b ≡ o → is_some o ≡ true → stamp_in o ≤ 2 ^ 62) [
-      | None ↦ λ e t. absurd (let z : false ≡ true = t in cc)
-      | Some r ↦ λ e t. of_record r (found_passes 6 (J (b.lane / K.lanes)) b r e) (was_next later kept (b.lane / K.lanes) 6 b r e).2
-    ] refl h
-      where
-        of_record : (r : Record) → ((kind_of r == 6) && is_of b r) ≡ true → IsInGrammar (header_of K minting.id (b.lane / K.lanes)) r → stamp_of r ≤ 2 ^ 62
-        of_record (Prepare stamp c txs) t g = g.0.1
-        of_record (Genesis header hs) t g = absurd (let z : false ≡ true = t in cc)
-        of_record (Start header) t g = absurd (let z : false ≡ true = t in cc)
-        of_record (Lock stamp c es) t g = absurd (let z : false ≡ true = t in cc)
-        of_record (Finish stamp c ds) t g = absurd (let z : false ≡ true = t in cc)
-        of_record (Forget stamp c) t g = absurd (let z : false ≡ true = t in cc)
-        of_record (Commit stamp c os) t g = absurd (let z : false ≡ true = t in cc)
-        of_record (Discard stamp c) t g = absurd (let z : false ≡ true = t in cc)
-        of_record (Done stamp c) t g = absurd (let z : false ≡ true = t in cc)
+    early b h =
+        let f = found_prepare (J (b.lane / K.lanes)) b h in
+        subst (λ o. stamp_in o ≤ 2 ^ 62) (sym f.2) (was_next later kept (b.lane / K.lanes) 6 b (Prepare f.0 b f.1) f.2).2.0.1
 
     -- a late record is one
     found : (n kind : ℕ) (b : Batch) → 2 ^ 62 < stamp_in (record_of kind (J n) b) → (r : Record) × (record_of kind (J n) b ≡ Some r)

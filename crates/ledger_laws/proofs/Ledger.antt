@@ -2,7 +2,7 @@
 use Rattle.std.proofs.Common.{◌≡◌, ℕ, ◌+◌, ◌<◌, List, [], ◌∷◌, ◌++◌, Some, sym, ◌∙◌, arith}
 use Rattle.std.specs.List.{All, AllByRecursion}
 use Rattle.std.proofs.lemmas.List.Elements.{All-from_recursion, recursion_from_All}
-use Rattle.cbdc_model.specs.Records.{Shape, Digest, Compact, Record, Row, journal, Genesis, Lock, Finish, Forget, Start, Prepare, Commit, Discard, Done}
+use Rattle.cbdc_model.specs.Records.{Shape, Digest, Compact, Record, Row, journal, Genesis, Lock, Forget, Start, Prepare, Commit}
 use Rattle.cbdc_model.specs.Grammar.{IsInGrammar}
 use Rattle.cbdc_model.specs.After.{After, Follows}
 use Rattle.cbdc_model.specs.History.{Minted, header_of, first_rows, TxsPass, IsSteady, IsOrdered}
@@ -25,23 +25,16 @@ pub next_of : (K : Shape) (id : Digest) (node : ℕ) (past : List Record) (r : R
 next_of K id node past (Genesis header hs) some h = absurd (some h.0.2.1 h.1)
 next_of K id node past (Start header) some h = absurd (some (omega (arith, h.0.2)) h.1)
 next_of K id node past (Lock stamp b es) some h = (h.1.0, h.0.2, h.1.1, h.1.2, h.1.3, h.0.3.0)
-next_of K id node past (Finish stamp b ds) some h = (h.1.0, h.0.2, h.1.1, h.1.2, h.1.3)
 next_of K id node past (Forget stamp b) some h = (h.1.0, h.0.2, h.1.1, h.1.2)
-next_of K id node past (Prepare stamp b txs) some h = (h.1.0, h.0.2, h.1.1, h.1.2, h.1.3)
 next_of K id node past (Commit stamp b os) some h = (h.1.0, h.0.2, h.1.1, h.1.2, h.1.3, h.1.4)
-next_of K id node past (Discard stamp b) some h = (h.1.0, h.0.2, h.1.1, h.1.2, h.1.3)
-next_of K id node past (Done stamp b) some h = (h.1.0, h.0.2, h.1.1, h.1.2, h.1.3)
+next_of K id node past other some h = (h.1.0, h.0.2, h.1.1, h.1.2, h.1.3)
 
 follows_of : (K : Shape) (id : Digest) (node : ℕ) (past : List Record) (r : Record) → Next K node past r → Follows (header_of K id node) past r
 follows_of K id node past (Genesis header hs) n = absurd n
 follows_of K id node past (Start header) n = absurd n
-follows_of K id node past (Lock stamp b es) n = (n.0, n.2, n.3, n.4)
-follows_of K id node past (Finish stamp b ds) n = (n.0, n.2, n.3, n.4)
 follows_of K id node past (Forget stamp b) n = (n.0, n.2, n.3)
-follows_of K id node past (Prepare stamp b txs) n = (n.0, n.2, n.3, n.4)
 follows_of K id node past (Commit stamp b os) n = (n.0, n.2, n.3, n.4, n.5)
-follows_of K id node past (Discard stamp b) n = (n.0, n.2, n.3, n.4)
-follows_of K id node past (Done stamp b) n = (n.0, n.2, n.3, n.4)
+follows_of K id node past other n = (n.0, n.2, n.3, n.4)
 
 pub after_of : (K : Shape) (id : Digest) (node : ℕ) (past : List Record) (r : Record) → Next K node past r → IsInGrammar (header_of K id node) r
     → After (header_of K id node) past r
@@ -49,14 +42,7 @@ after_of K id node past r next grammar = (grammar, follows_of K id node past r n
 
 pub proper_of : (P : Compact → Type 0) (r : Record) → TxsPass P r → AllProper P r
 proper_of P (Prepare stamp b txs) h = each_is P txs h
-proper_of P (Genesis header hs) h = tt
-proper_of P (Lock stamp b es) h = tt
-proper_of P (Finish stamp b ds) h = tt
-proper_of P (Forget stamp b) h = tt
-proper_of P (Start header) h = tt
-proper_of P (Commit stamp b os) h = tt
-proper_of P (Discard stamp b) h = tt
-proper_of P (Done stamp b) h = tt
+proper_of P other h = tt
 
 all_is : (P : Compact → Type 0) (ts : List Compact) → Each P ts → All P ts
 all_is P ts each = All-from_recursion P ts (by_recursion ts each)
@@ -65,16 +51,14 @@ all_is P ts each = All-from_recursion P ts (by_recursion ts each)
     by_recursion [] h = tt
     by_recursion (t ∷ ts) h = (h.0, by_recursion ts h.1)
 
+-- where every transaction passes, every record does
+pub each_passes : (P : Compact → Type 0) → ((t : Compact) → P t) → (r : Record) → TxsPass P r
+each_passes P all (Prepare stamp b txs) = λ k d lt. all _
+each_passes P all other = tt
+
 pub passes_of : (P : Compact → Type 0) (r : Record) → AllProper P r → TxsPass P r
 passes_of P (Prepare stamp b txs) h = all_is P txs h
-passes_of P (Genesis header hs) h = tt
-passes_of P (Lock stamp b es) h = tt
-passes_of P (Finish stamp b ds) h = tt
-passes_of P (Forget stamp b) h = tt
-passes_of P (Start header) h = tt
-passes_of P (Commit stamp b os) h = tt
-passes_of P (Discard stamp b) h = tt
-passes_of P (Done stamp b) h = tt
+passes_of P other h = tt
 
 module _ (K : Shape) (minting : Minted) (P : Compact → Type 0) where
   -- at a node of a history that is kept so far

@@ -1,5 +1,7 @@
 pub mod Next
+pub mod ByKind
 pub mod Counts
+pub mod Equality
 pub mod Parts
 pub mod Replies
 pub mod Slots
@@ -58,4 +60,5 @@ pub mod Resuming
 pub mod Writing
 pub mod LaneRuns
 pub mod LanePhases
+pub mod Openings
 pub mod Opening

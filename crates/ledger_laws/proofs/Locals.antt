@@ -3,17 +3,16 @@ use Rattle.std.proofs.Common.{◌≡◌, inl, inr, ℕ, ◌<◌, ◌≤◌, ◌/
 use Rattle.cbdc_model.specs.Causes.{greatest, at_shards, IsCaused}
 use Rattle.cbdc_model.specs.History.{first_rows, goes_above, IsOrdered, Minted}
 use Rattle.cbdc_model.specs.Ranges.{shard_node}
-use Rattle.cbdc_model.specs.Records.{Shape, Batch, Compact, Record, Row, journal, record_of, kind_of, is_of, stamp_of, stamp_in, Genesis, Lock, Finish, Forget, Start, Prepare, Commit, Discard, Done}
+use Rattle.cbdc_model.specs.Records.{Shape, Batch, Compact, Record, Row, journal, record_of, kind_of, is_of, stamp_of, stamp_in, Lock, Finish, Forget, Commit, Discard, Done}
 use Rattle.cbdc_model.specs.World.{replaced}
+use Rattle.ledger_laws.proofs.Cuts.{cons_same, replaced_at, replaced_away}
 use Rattle.ledger_laws.proofs.Ledger.{EachSteady}
 use Rattle.ledger_laws.proofs.Next.{Next, Steady}
-use Rattle.ledger_laws.proofs.Rows.{at, away, at_node, head_at, head_away}
+use Rattle.ledger_laws.proofs.Rows.{at, away, at_node, head_at, head_away, journal-append}
 use Rattle.ledger_laws.proofs.Members.{In}
-use Rattle.ledger_laws.proofs.Moves.{SameCauses, caused_same, test_step, greatest_bound, in_range}
-use Rattle.ledger_laws.proofs.OneHistory.{above_all}
-
-found_new : (kind : ℕ) (q : Record) (J : List Record) (b : Batch) → ((kind_of q == kind) && is_of b q) ≡ true → record_of kind (q ∷ J) b ≡ Some q
-found_new kind q J b t = rw t
+use Rattle.ledger_laws.proofs.ByKind.{test_step, found_new}
+use Rattle.ledger_laws.proofs.Moves.{SameCauses, caused_same, greatest_bound, in_range}
+use Rattle.ledger_laws.proofs.OneHistory.{above_all, row_same}
 
 -- journals I are journals J with a record r more at node n
 module _ (K : Shape) (n : ℕ) (r : Record) (I J : ℕ → List Record) (next : Next K n (J n) r)
@@ -44,43 +43,22 @@ module _ (K : Shape) (n : ℕ) (r : Record) (I J : ℕ → List Record) (next : 
 
   module _ (m : ℕ) (apart : (n == m) ≡ false) where
     causes_before : (q : Record) → stamp_of q ≤ stamp_of r → Next K m (I m) q → IsCaused K I m q → SameCauses K I J q
-    causes_before (Genesis header hs) le at_q c = tt
-    causes_before (Start header) le at_q c = tt
-    causes_before (Prepare stamp b txs) le at_q c = tt
     causes_before (Lock stamp b es) le at_q c = older 6 (b.lane / K.lanes) b (omega (arith, c.2))
     causes_before (Finish stamp b ds) le at_q c = older 7 (b.lane / K.lanes) b (omega (arith, c.2))
     causes_before (Forget stamp b) le at_q c = older 8 (b.lane / K.lanes) b (omega (arith, c.1))
     causes_before (Commit stamp b os) le at_q c = (subst (λ k. I k ≡ J k) at_q.2 (others m apart), older_shards 2 b stamp le (omega (arith, c.2)))
     causes_before (Discard stamp b) le at_q c = (subst (λ k. I k ≡ J k) at_q.2 (others m apart), older_shards 3 b stamp le (omega (arith, c.1)))
     causes_before (Done stamp b) le at_q c = (subst (λ k. I k ≡ J k) at_q.2 (others m apart), older_shards 4 b stamp le (omega (arith, c.1)))
+    causes_before other le at_q c = tt
 
     was_caused_there : (q : Record) → stamp_of q ≤ stamp_of r → Next K m (I m) q → IsCaused K I m q → IsCaused K J m q
     was_caused_there q le at_q c = caused_same K I J m q (others m apart) (causes_before q le at_q c) c
-
-journal-append : (n : ℕ) (A B : List Row) → journal n (A ++ B) ≡ journal n A ++ journal n B
-journal-append n [] B = refl
-journal-append n (a ∷ A) B = elim (at_node a.node n) [
-  | at e ↦ head_at a (A ++ B) n e ∙ ap (λ J. a.what ∷ J) (journal-append n A B) ∙ ap (λ J. J ++ journal n B) (sym (head_at a A n e))
-  | away e ↦ head_away a (A ++ B) n e ∙ journal-append n A B ∙ ap (λ J. J ++ journal n B) (sym (head_away a A n e))
-]
-
-replaced_at : (J : ℕ → List Record) (n : ℕ) (own : List Record) (m : ℕ) → n ≡ m → replaced J n own m ≡ own
-replaced_at J n own m e = grind arith
-
-replaced_away : (J : ℕ → List Record) (n : ℕ) (own : List Record) (m : ℕ) → (n == m) ≡ false → replaced J n own m ≡ J m
-replaced_away J n own m e = rw e
 
 above_stamp : (a b : Row) → goes_above a b ≡ true → stamp_of b.what ≤ stamp_of a.what
 above_stamp a b h = above_numbers (stamp_of a.what) (stamp_of b.what) a.node b.node h
   where
     above_numbers : (p q u v : ℕ) → (nat_lt q p || ((q == p) && nat_lt v u)) ≡ true → q ≤ p
     above_numbers p q u v h = grind arith
-
-cons_same : (a b : Record) (A B : List Record) → a ∷ A ≡ b ∷ B → (a ≡ b) × (A ≡ B)
-cons_same a b A B e = (cc, cc)
-
-row_same : (a b : Row) → a.node ≡ b.node → a.what ≡ b.what → a ≡ b
-row_same a b n w = λ i. record { node = n i; what = w i }
 
 -- a record of a journal stands in the list
 in_list : (rows : List Row) (n : ℕ) (newer rest : List Record) (r : Record) → journal n rows ≡ newer ++ r ∷ rest → In (record { node = n; what = r }) rows

@@ -1,5 +1,5 @@
 -- What a journal without a record finds of it, and numbers of shards.
-use Rattle.std.proofs.Common.{◌≡◌, ℕ, ◌*◌, ◌/◌, ◌%◌, ◌<◌, Bool, true, false, List, [], ◌∷◌, Option, Some, None, is_some, slice_index, refl, ap, arith, mul-lt-mul_of_pos_right, div-lt_iff_lt-mul, mod-lt, lit<}
+use Rattle.std.proofs.Common.{◌≡◌, ℕ, ◌*◌, ◌/◌, ◌%◌, ◌<◌, ◌==◌, Bool, true, false, List, [], ◌∷◌, Option, Some, None, is_some, slice_index, refl, ap, arith, mul-lt-mul_of_pos_right, div-lt_iff_lt-mul, mod-lt, lit<}
 use Rattle.cbdc_model.specs.Outcomes.{won_txs}
 use Rattle.cbdc_model.specs.Ranges.{shard_of, first_byte}
 use Rattle.cbdc_model.specs.Records.{Digest, record_of, entries_in, outcomes_in, Batch, Compact, Record, lock_of, outcomes_of}
@@ -10,6 +10,15 @@ not_true a h = grind arith
 
 pub true_false : (a : Bool) → a ≡ true → a ≡ false → ⊥
 true_false a t f = cc
+
+pub number_is : (m n : ℕ) → (m == n) ≡ true → m ≡ n
+number_is m n h = grind (arith, h)
+
+pub number_self : (n : ℕ) → (n == n) ≡ true
+number_self n = grind arith
+
+pub other_way : (m n : ℕ) → (m == n) ≡ false → (n == m) ≡ false
+other_way m n e = grind arith
 
 pub won_txs-nil : (txs : List Compact) → won_txs txs [] ≡ []
 won_txs-nil [] = refl

@@ -3,7 +3,7 @@ use Rattle.std.proofs.Common.{◌≡◌, ◌⊎◌, inl, inr, ℕ, ◌<◌, true
 use Rattle.cbdc_model.specs.Causes.{IsCaused}
 use Rattle.cbdc_model.specs.History.{first_rows, committed, won_of, all_outputs, Minted}
 use Rattle.cbdc_model.specs.Ranges.{journal_at}
-use Rattle.cbdc_model.specs.Records.{Digest, Shape, Batch, Compact, Record, Row, journal, Genesis, Lock, Finish, Forget, Start, Prepare, Commit, Discard, Done}
+use Rattle.cbdc_model.specs.Records.{Digest, Shape, Batch, Compact, Record, Row, journal}
 use Rattle.cbdc_model.specs.Status.{Status, status, Unspent, Locked, Absent}
 use Rattle.ledger_laws.proofs.Next.{Next, has_finish, Steady}
 use Rattle.ledger_laws.proofs.Counts.{count}
@@ -12,7 +12,7 @@ use Rattle.ledger_laws.proofs.LockStep.{Locks}
 use Rattle.ledger_laws.proofs.FinishStep.{Finishes}
 use Rattle.ledger_laws.proofs.CommitStep.{Apart, Commits}
 use Rattle.ledger_laws.proofs.Rows.{Structure, view}
-use Rattle.ledger_laws.proofs.Steps.{lock_changes, commit_changes, finish_changes, forget_view, discard_view, done_view, prepare_view}
+use Rattle.ledger_laws.proofs.Steps.{view_step, no_change, by_lock, by_commit, by_finish}
 use Rattle.ledger_laws.proofs.First.{no_committed, all_first}
 use Rattle.ledger_laws.proofs.Theory.{kept_structure, kept_inv}
 
@@ -48,15 +48,12 @@ commit_makers {v = v} {w = w} {b = b} {ts = ts} step has x n = elim (none_or_som
 module _ (K : Shape) (minting : Minted) (P : Compact → Type 0) (shards : 0 < K.shards) (apart : Apart (λ x. count x minting.hashes) P) where
   makers_next : (past : List Row) → Structure K P past → HasMakers (view K past)
       → (node : ℕ) (r : Record) → Next K node (journal node past) r → IsCaused K (λ n. journal n past) node r → HasMakers (view K (record { node = node; what = r } ∷ past))
-  makers_next past st has node (Genesis header hs) next caused = absurd next
-  makers_next past st has node (Start header) next caused = absurd next
-  makers_next past st has node (Lock stamp b es) next caused = lock_makers (lock_changes K P past st apart node stamp b es next caused) has
-  makers_next past st has node (Finish stamp b ds) next caused = finish_makers (finish_changes K P past st node stamp b ds next caused) has
-  makers_next past st has node (Forget stamp b) next caused = subst HasMakers (sym (forget_view K P past st node stamp b)) has
-  makers_next past st has node (Prepare stamp b txs) next caused = subst HasMakers (sym (prepare_view K P past st node stamp b txs next)) has
-  makers_next past st has node (Commit stamp b os) next caused = commit_makers (commit_changes K P past st node stamp b os shards next caused) has
-  makers_next past st has node (Discard stamp b) next caused = subst HasMakers (sym (discard_view K P past st node stamp b)) has
-  makers_next past st has node (Done stamp b) next caused = subst HasMakers (sym (done_view K P past st node stamp b)) has
+  makers_next past st has node r next caused = elim (view_step K P past shards apart st node r next caused) [
+    | no_change e ↦ subst HasMakers (sym e) has
+    | by_lock b held step ↦ lock_makers step has
+    | by_commit b ts step ↦ commit_makers step has
+    | by_finish b step ↦ finish_makers step has
+  ]
 
   kept_makers : (later : List Row) → Steady K minting P later → HasMakers (view K (later ++ first_rows K minting))
   kept_makers [] kept = λ x n. absurd (let z : count x (all_outputs (committed (first_rows K minting))) ≡ 0 = ap (λ ts. count x (all_outputs ts)) (no_committed (first_rows K minting) (all_first K minting P shards)) in omega arith)

@@ -1,8 +1,8 @@
 -- Journals whose stamps rise have a history in order of stamp and node.
 use Rattle.std.proofs.Common.{◌≡◌, ℕ, zero, suc, ◌<◌, ◌≤◌, true, false, ◌&&◌, ◌||◌, ◌==◌, nat_lt, if◌then◌else◌, List, [], ◌∷◌, refl, sym, ap, ◌∙◌, subst, arith}
-use Rattle.cbdc_model.specs.History.{goes_above, IsAbove, IsOrdered}
+use Rattle.cbdc_model.specs.History.{goes_above, IsOrdered}
 use Rattle.cbdc_model.specs.Records.{Record, Row, journal, stamp_of}
-use Rattle.ledger_laws.proofs.Worlds.{insert_row}
+use Rattle.ledger_laws.proofs.Worlds.{insert_row, above_inserted}
 use Rattle.ledger_laws.proofs.Rows.{at, away, at_node, head_at, head_away}
 
 -- stamps below a number, and rising stamps
@@ -17,9 +17,6 @@ Rising (r ∷ J) = AllBelow J (stamp_of r) × Rising J
 pub below_more : (J : List Record) (s t : ℕ) → s ≤ t → AllBelow J s → AllBelow J t
 below_more [] s t le h = tt
 below_more (q ∷ J) s t le h = (let l : stamp_of q < s = h.0 in omega arith, below_more J s t le h.1)
-
-other_way : (m n : ℕ) → (m == n) ≡ false → (n == m) ≡ false
-other_way m n e = grind arith
 
 pub insert_away : (row : Row) (later : List Row) (m : ℕ) → (row.node == m) ≡ false → journal m (insert_row row later) ≡ journal m later
 insert_away row [] m e = head_away row [] m e
@@ -68,13 +65,6 @@ insert_at row (head ∷ later) h =
           let apart : (head.node == row.node) ≡ false = below_head row head later h g in
           head_away head (insert_row row later) row.node apart ∙ insert_at row later (below_tail row head later h) ∙ ap (λ J. row.what ∷ J) (sym (head_away head later row.node apart))
     ] refl
-
-above_inserted : (head row : Row) (later : List Row) → goes_above head row ≡ true → IsAbove head later → IsAbove head (insert_row row later)
-above_inserted head row [] h k = h
-above_inserted head row (next ∷ later) h k = elim (goes_above row next) as (λ c. IsAbove head (if c then row ∷ next ∷ later else next ∷ insert_row row later)) [
-  | true ↦ h
-  | false ↦ k
-]
 
 pub insert_ordered : (row : Row) (later : List Row) → AllBelow (journal row.node later) (stamp_of row.what) → IsOrdered later → IsOrdered (insert_row row later)
 insert_ordered row [] h o = (tt, tt)

@@ -1,6 +1,6 @@
 -- More of what one journal keeps: each kind of record of a batch comes once.
 use Rattle.std.proofs.Common.{◌≡◌, ℕ, ◌<◌, ◌≤◌, Bool, true, false, ◌==◌, List, ◌∷◌, length, is_some, refl, subst, arith}
-use Rattle.cbdc_model.specs.Records.{Shape, Batch, same_batch, Compact, Outcome, Answered, Record, record_of, Genesis, Lock, Finish, Forget, Start, Prepare, Commit, Discard, Done, lock_of}
+use Rattle.cbdc_model.specs.Records.{Shape, Batch, same_batch, Outcome, Record, record_of, Genesis, Finish, Start, Commit, lock_of}
 use Rattle.cbdc_model.specs.Slots.{slot, InLock, InFinish, InPrepare, InCommit, InDiscard}
 use Rattle.ledger_laws.proofs.Next.{Next, has_lock, has_commit, has_forget, has_discard}
 use Rattle.ledger_laws.proofs.Slots.{JournalOk}
@@ -28,20 +28,6 @@ pub other_lane : (c b : Batch) → same_batch c b ≡ false → (c.lane == b.lan
 other_lane c b o e n = grind arith
 
 module _ (K : Shape) (node : ℕ) (past : List Record) (ok : JournalOk past) (more : MoreOk past) where
-  lock_more : (stamp : ℕ) (c : Batch) (es : List Answered) → Next K node past (Lock stamp c es) → MoreOk (Lock stamp c es ∷ past)
-  lock_more stamp c es next = record {
-    forget_below = λ b h. grind (arith, more.forget_below b);
-    commit_below = λ b h. grind (arith, more.commit_below b);
-    discard_below = λ b h. grind (arith, more.discard_below b);
-    done_below = λ b h. grind (arith, more.done_below b);
-    in_lock = λ b p n. grind (arith, more.in_lock b, more.forget_below b);
-    in_finish = λ b p n. grind (arith, more.in_finish b, ok.locked b, more.in_lock b);
-    in_prepare = λ b p n. grind (arith, more.in_prepare b, more.discard_below b, more.done_below b);
-    in_commit = λ b p n. grind (arith, more.in_commit b, more.in_prepare b);
-    in_discard = λ b p n. grind (arith, more.in_discard b, more.in_commit b);
-    lock_some = λ b h. grind (arith, more.lock_some b);
-  }
-
   finish_in_finish : (stamp : ℕ) (c : Batch) (ds : List Bool) → Next K node past (Finish stamp c ds) → (b : Batch)
       → (slot (Finish stamp c ds ∷ past) b.lane).phase ≡ InFinish → (slot (Finish stamp c ds ∷ past) b.lane).number ≡ b.number
       → (has_lock past b ≡ true) × (has_forget past b ≡ false)
@@ -53,47 +39,12 @@ module _ (K : Shape) (node : ℕ) (past : List Record) (ok : JournalOk past) (mo
     ] refl
   ]
 
-  finish_more : (stamp : ℕ) (c : Batch) (ds : List Bool) → Next K node past (Finish stamp c ds) → MoreOk (Finish stamp c ds ∷ past)
-  finish_more stamp c ds next = record {
-    forget_below = λ b h. grind (arith, more.forget_below b);
-    commit_below = λ b h. grind (arith, more.commit_below b);
-    discard_below = λ b h. grind (arith, more.discard_below b);
-    done_below = λ b h. grind (arith, more.done_below b);
-    in_lock = λ b p n. grind (arith, more.in_lock b, more.forget_below b);
-    in_finish = finish_in_finish stamp c ds next;
-    in_prepare = λ b p n. grind (arith, more.in_prepare b, more.discard_below b, more.done_below b);
-    in_commit = λ b p n. grind (arith, more.in_commit b, more.in_prepare b);
-    in_discard = λ b p n. grind (arith, more.in_discard b, more.in_commit b);
-    lock_some = λ b h. grind (arith, more.lock_some b);
-  }
-
-  forget_more : (stamp : ℕ) (c : Batch) → Next K node past (Forget stamp c) → MoreOk (Forget stamp c ∷ past)
-  forget_more stamp c next = record {
-    forget_below = λ b h. grind (arith, more.forget_below b);
-    commit_below = λ b h. grind (arith, more.commit_below b);
-    discard_below = λ b h. grind (arith, more.discard_below b);
-    done_below = λ b h. grind (arith, more.done_below b);
-    in_lock = λ b p n. grind (arith, more.in_lock b, more.forget_below b);
-    in_finish = λ b p n. grind (arith, more.in_finish b, ok.locked b, more.in_lock b);
-    in_prepare = λ b p n. grind (arith, more.in_prepare b, more.discard_below b, more.done_below b);
-    in_commit = λ b p n. grind (arith, more.in_commit b, more.in_prepare b);
-    in_discard = λ b p n. grind (arith, more.in_discard b, more.in_commit b);
-    lock_some = λ b h. grind (arith, more.lock_some b);
-  }
-
-  prepare_more : (stamp : ℕ) (c : Batch) (txs : List Compact) → Next K node past (Prepare stamp c txs) → MoreOk (Prepare stamp c txs ∷ past)
-  prepare_more stamp c txs next = record {
-    forget_below = λ b h. grind (arith, more.forget_below b);
-    commit_below = λ b h. grind (arith, more.commit_below b);
-    discard_below = λ b h. grind (arith, more.discard_below b);
-    done_below = λ b h. grind (arith, more.done_below b);
-    in_lock = λ b p n. grind (arith, more.in_lock b, more.forget_below b);
-    in_finish = λ b p n. grind (arith, more.in_finish b, ok.locked b, more.in_lock b);
-    in_prepare = λ b p n. grind (arith, more.in_prepare b, more.discard_below b, more.done_below b);
-    in_commit = λ b p n. grind (arith, more.in_commit b, more.in_prepare b);
-    in_discard = λ b p n. grind (arith, more.in_discard b, more.in_commit b);
-    lock_some = λ b h. grind (arith, more.lock_some b);
-  }
+  in_finish_next : (r : Record) → Next K node past r → (b : Batch) → (slot (r ∷ past) b.lane).phase ≡ InFinish → (slot (r ∷ past) b.lane).number ≡ b.number
+      → (has_lock (r ∷ past) b ≡ true) × (has_forget (r ∷ past) b ≡ false)
+  in_finish_next (Genesis header hs) next b p n = absurd next
+  in_finish_next (Start header) next b p n = absurd next
+  in_finish_next (Finish stamp c ds) next b p n = finish_in_finish stamp c ds next b p n
+  in_finish_next another next b p n = grind (arith, more.in_finish b, ok.locked b, more.in_lock b)
 
   commit_in_commit : (stamp : ℕ) (c : Batch) (os : List Outcome) → Next K node past (Commit stamp c os) → (b : Batch)
       → (slot (Commit stamp c os ∷ past) b.lane).phase ≡ InCommit → (slot (Commit stamp c os ∷ past) b.lane).number ≡ b.number
@@ -106,55 +57,25 @@ module _ (K : Shape) (node : ℕ) (past : List Record) (ok : JournalOk past) (mo
     ] refl
   ]
 
-  commit_more : (stamp : ℕ) (c : Batch) (os : List Outcome) → Next K node past (Commit stamp c os) → MoreOk (Commit stamp c os ∷ past)
-  commit_more stamp c os next = record {
-    forget_below = λ b h. grind (arith, more.forget_below b);
-    commit_below = λ b h. grind (arith, more.commit_below b);
-    discard_below = λ b h. grind (arith, more.discard_below b);
-    done_below = λ b h. grind (arith, more.done_below b);
-    in_lock = λ b p n. grind (arith, more.in_lock b, more.forget_below b);
-    in_finish = λ b p n. grind (arith, more.in_finish b, ok.locked b, more.in_lock b);
-    in_prepare = λ b p n. grind (arith, more.in_prepare b, more.discard_below b, more.done_below b);
-    in_commit = commit_in_commit stamp c os next;
-    in_discard = λ b p n. grind (arith, more.in_discard b, more.in_commit b);
-    lock_some = λ b h. grind (arith, more.lock_some b);
-  }
-
-  discard_more : (stamp : ℕ) (c : Batch) → Next K node past (Discard stamp c) → MoreOk (Discard stamp c ∷ past)
-  discard_more stamp c next = record {
-    forget_below = λ b h. grind (arith, more.forget_below b);
-    commit_below = λ b h. grind (arith, more.commit_below b);
-    discard_below = λ b h. grind (arith, more.discard_below b);
-    done_below = λ b h. grind (arith, more.done_below b);
-    in_lock = λ b p n. grind (arith, more.in_lock b, more.forget_below b);
-    in_finish = λ b p n. grind (arith, more.in_finish b, ok.locked b, more.in_lock b);
-    in_prepare = λ b p n. grind (arith, more.in_prepare b, more.discard_below b, more.done_below b);
-    in_commit = λ b p n. grind (arith, more.in_commit b, more.in_prepare b);
-    in_discard = λ b p n. grind (arith, more.in_discard b, more.in_commit b);
-    lock_some = λ b h. grind (arith, more.lock_some b);
-  }
-
-  done_more : (stamp : ℕ) (c : Batch) → Next K node past (Done stamp c) → MoreOk (Done stamp c ∷ past)
-  done_more stamp c next = record {
-    forget_below = λ b h. grind (arith, more.forget_below b);
-    commit_below = λ b h. grind (arith, more.commit_below b);
-    discard_below = λ b h. grind (arith, more.discard_below b);
-    done_below = λ b h. grind (arith, more.done_below b);
-    in_lock = λ b p n. grind (arith, more.in_lock b, more.forget_below b);
-    in_finish = λ b p n. grind (arith, more.in_finish b, ok.locked b, more.in_lock b);
-    in_prepare = λ b p n. grind (arith, more.in_prepare b, more.discard_below b, more.done_below b);
-    in_commit = λ b p n. grind (arith, more.in_commit b, more.in_prepare b);
-    in_discard = λ b p n. grind (arith, more.in_discard b, more.in_commit b);
-    lock_some = λ b h. grind (arith, more.lock_some b);
-  }
+  in_commit_next : (r : Record) → Next K node past r → (b : Batch) → (slot (r ∷ past) b.lane).phase ≡ InCommit → (slot (r ∷ past) b.lane).number ≡ b.number
+      → (has_discard (r ∷ past) b ≡ false) × (has_done (r ∷ past) b ≡ false)
+  in_commit_next (Genesis header hs) next b p n = absurd next
+  in_commit_next (Start header) next b p n = absurd next
+  in_commit_next (Commit stamp c os) next b p n = commit_in_commit stamp c os next b p n
+  in_commit_next another next b p n = grind (arith, more.in_commit b, more.in_prepare b)
 
   pub next_more : (r : Record) → Next K node past r → MoreOk (r ∷ past)
   next_more (Genesis header hs) next = absurd next
   next_more (Start header) next = absurd next
-  next_more (Lock stamp c es) next = lock_more stamp c es next
-  next_more (Finish stamp c ds) next = finish_more stamp c ds next
-  next_more (Forget stamp c) next = forget_more stamp c next
-  next_more (Prepare stamp c txs) next = prepare_more stamp c txs next
-  next_more (Commit stamp c os) next = commit_more stamp c os next
-  next_more (Discard stamp c) next = discard_more stamp c next
-  next_more (Done stamp c) next = done_more stamp c next
+  next_more another next = record {
+    forget_below = λ b h. grind (arith, more.forget_below b);
+    commit_below = λ b h. grind (arith, more.commit_below b);
+    discard_below = λ b h. grind (arith, more.discard_below b);
+    done_below = λ b h. grind (arith, more.done_below b);
+    in_lock = λ b p n. grind (arith, more.in_lock b, more.forget_below b);
+    in_finish = in_finish_next another next;
+    in_prepare = λ b p n. grind (arith, more.in_prepare b, more.discard_below b, more.done_below b);
+    in_commit = in_commit_next another next;
+    in_discard = λ b p n. grind (arith, more.in_discard b, more.in_commit b);
+    lock_some = λ b h. grind (arith, more.lock_some b);
+  }

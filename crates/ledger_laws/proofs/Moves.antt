@@ -1,5 +1,5 @@
 -- A caused record stays caused while other nodes' journals grow, and was caused before records of no smaller stamp came.
-use Rattle.std.proofs.Common.{◌≡◌, ◌⊎◌, inl, inr, ℕ, zero, suc, ◌<◌, ◌≤◌, ◌/◌, max, Bool, true, false, ◌&&◌, ◌==◌, List, [], ◌∷◌, ◌++◌, length, Option, Some, is_some, refl, sym, ap, ◌∙◌, subst, arith}
+use Rattle.std.proofs.Common.{◌≡◌, ◌⊎◌, inl, inr, ℕ, zero, suc, ◌<◌, ◌≤◌, ◌/◌, max, true, false, ◌&&◌, ◌==◌, List, [], ◌∷◌, ◌++◌, length, Option, Some, is_some, refl, sym, ap, ◌∙◌, subst, arith}
 use Rattle.cbdc_model.specs.Causes.{greatest, at_shards, AllHave, IsStamped, IsCaused}
 use Rattle.cbdc_model.specs.History.{first_rows, Minted}
 use Rattle.cbdc_model.specs.Outcomes.{outcomes, decisions}
@@ -10,21 +10,12 @@ use Rattle.cbdc_model.specs.Slots.{slot, Idle, InFinish}
 use Rattle.ledger_laws.proofs.Next.{Next, has_lock, Steady}
 use Rattle.ledger_laws.proofs.Slots.{JournalOk}
 use Rattle.ledger_laws.proofs.More.{MoreOk, next_more}
-use Rattle.ledger_laws.proofs.View.{same_batch_is}
+pub use Rattle.ledger_laws.proofs.ByKind.{split_test, test_step}
+use Rattle.ledger_laws.proofs.ByKind.{test_kind, test_batch, not_of_first}
 use Rattle.ledger_laws.proofs.Rows.{Structure, at, away, at_node, head_at, head_away}
 use Rattle.ledger_laws.proofs.Keeps.{keeps}
-use Rattle.ledger_laws.proofs.Lookups.{true_false}
+use Rattle.ledger_laws.proofs.Lookups.{true_false, not_true}
 use Rattle.ledger_laws.proofs.First.{nothing, first_structure, AllFirst, journal_first, all_first}
-
-pub split_test : (k kind : ℕ) (b c : Batch) → ((k == kind) && same_batch b c) ≡ true → (k ≡ kind) × (b ≡ c)
-split_test k kind b c h =
-    let l : (k == kind) ≡ true = grind arith in
-    let m : same_batch b c ≡ true = grind arith in
-    let n : k ≡ kind = grind arith in
-    (n, same_batch_is b c m)
-
-no_test : (k kind : ℕ) → ((k == kind) && false) ≡ true → ⊥
-no_test k kind h = grind arith
 
 -- each kind of record of a batch comes once in a journal
 module _ (K : Shape) (node : ℕ) (J : List Record) (ok : JournalOk J) (more : MoreOk J) where
@@ -49,35 +40,24 @@ module _ (K : Shape) (node : ℕ) (J : List Record) (ok : JournalOk J) (more : M
   locked_before r next kind c h which = of_record r next kind c h which
     where
       of_record : (r : Record) → Next K node J r → (kind : ℕ) (c : Batch) → ((kind_of r == kind) && is_of c r) ≡ true → (kind ≡ 3) ⊎ (kind ≡ 4) → has_lock J c ≡ true
-      of_record (Genesis header hs) next kind c h which = absurd next
-      of_record (Start header) next kind c h which = absurd next
-      of_record (Lock stamp b es) next kind c h which = let s : (2 ≡ kind) × (b ≡ c) = split_test 2 kind b c h in absurd (grind arith)
       of_record (Finish stamp b ds) next kind c h which = subst (λ d. has_lock J d ≡ true) (split_test 3 kind b c h).1 (ok.locked b next.2 next.3).0
       of_record (Forget stamp b) next kind c h which = subst (λ d. has_lock J d ≡ true) (split_test 4 kind b c h).1 (more.in_finish b next.2 next.3).0
-      of_record (Prepare stamp b txs) next kind c h which = let s : (6 ≡ kind) × (b ≡ c) = split_test 6 kind b c h in absurd (grind arith)
-      of_record (Commit stamp b os) next kind c h which = let s : (7 ≡ kind) × (b ≡ c) = split_test 7 kind b c h in absurd (grind arith)
-      of_record (Discard stamp b) next kind c h which = let s : (8 ≡ kind) × (b ≡ c) = split_test 8 kind b c h in absurd (grind arith)
-      of_record (Done stamp b) next kind c h which = let s : (9 ≡ kind) × (b ≡ c) = split_test 9 kind b c h in absurd (grind arith)
+      of_record other next kind c h which = absurd (let k : kind_of other ≡ kind = test_kind kind c other h in grind (arith, k, which))
 
 -- what of other journals a record's cause rule reads
 abbrev pub SameCauses : Shape → (ℕ → List Record) → (ℕ → List Record) → Record → Type 0
-SameCauses K I J (Genesis header hs) = Unit {0}
-SameCauses K I J (Start header) = Unit {0}
-SameCauses K I J (Prepare stamp b txs) = Unit {0}
 SameCauses K I J (Lock stamp b es) = record_of 6 (I (b.lane / K.lanes)) b ≡ record_of 6 (J (b.lane / K.lanes)) b
 SameCauses K I J (Finish stamp b ds) = record_of 7 (I (b.lane / K.lanes)) b ≡ record_of 7 (J (b.lane / K.lanes)) b
 SameCauses K I J (Forget stamp b) = record_of 8 (I (b.lane / K.lanes)) b ≡ record_of 8 (J (b.lane / K.lanes)) b
 SameCauses K I J (Commit stamp b os) = (I (b.lane / K.lanes) ≡ J (b.lane / K.lanes)) × ((s : ℕ) → at_shards K I 2 b s ≡ at_shards K J 2 b s)
 SameCauses K I J (Discard stamp b) = (I (b.lane / K.lanes) ≡ J (b.lane / K.lanes)) × ((s : ℕ) → at_shards K I 3 b s ≡ at_shards K J 3 b s)
 SameCauses K I J (Done stamp b) = (I (b.lane / K.lanes) ≡ J (b.lane / K.lanes)) × ((s : ℕ) → at_shards K I 4 b s ≡ at_shards K J 4 b s)
+SameCauses K I J other = Unit {0}
 
 all_have_same : (K : Shape) (I J : ℕ → List Record) (kind : ℕ) (b : Batch) → I (b.lane / K.lanes) ≡ J (b.lane / K.lanes) → ((s : ℕ) → at_shards K I kind b s ≡ at_shards K J kind b s)
     → AllHave K I kind b → AllHave K J kind b
 all_have_same K I J kind b lane shards h s c =
     subst (λ r. is_some r ≡ true) (shards s) (h s (subst (λ own. Concerned K (txs_of own b) s) (sym lane) c))
-
-greatest_same : (f g : ℕ → ℕ) → ((s : ℕ) → f s ≡ g s) → (n : ℕ) → greatest f n ≡ greatest g n
-greatest_same f g h n = ap (λ k. greatest k n) (λ i s. h s i)
 
 pub caused_same : (K : Shape) (I J : ℕ → List Record) (node : ℕ) (r : Record) → I node ≡ J node → SameCauses K I J r → IsCaused K I node r → IsCaused K J node r
 caused_same K I J node (Genesis header hs) own same c = tt
@@ -109,20 +89,11 @@ pub not_empty : (es : List Answered) (p : List Entry) → entries es ≡ p → 0
 not_empty [] p e n = absurd (omega arith)
 not_empty (a ∷ es) p e n = subst (λ q. is_no_part q ≡ false) e refl
 
-pub test_step : (kind : ℕ) (r : Record) (J : List Record) (c : Batch) → ((kind_of r == kind) && is_of c r) ≡ false → record_of kind (r ∷ J) c ≡ record_of kind J c
-test_step kind r J c h = rw h
-
 -- a row at a shard's node is at a shard of the shape
 pub in_range : (K : Shape) (node : ℕ) (J : List Record) (r : Record) → Next K node J r → (s : ℕ) → node ≡ shard_node K s → s < K.shards
 in_range K node J (Genesis header hs) next s e = absurd next
 in_range K node J (Start header) next s e = absurd next
-in_range K node J (Lock stamp b es) next s e = omega (arith, next.1)
-in_range K node J (Finish stamp b ds) next s e = omega (arith, next.1)
-in_range K node J (Forget stamp b) next s e = omega (arith, next.1)
-in_range K node J (Prepare stamp b txs) next s e = omega (arith, next.1)
-in_range K node J (Commit stamp b os) next s e = omega (arith, next.1)
-in_range K node J (Discard stamp b) next s e = omega (arith, next.1)
-in_range K node J (Done stamp b) next s e = omega (arith, next.1)
+in_range K node J other next s e = omega (arith, next.1)
 
 -- a record that stays caused while another node's journal has grown by one
 module _ (K : Shape) (P : Compact → Type 0) (past : List Row) (st : Structure K P past) (more : (n : ℕ) → MoreOk (journal n past)) (row : Row)
@@ -150,12 +121,7 @@ module _ (K : Shape) (P : Compact → Type 0) (past : List Row) (st : Structure 
       (not_empty es _ (caused.1 s e) next.5)
   concerned_new (Genesis header hs) node next caused s e c h = absurd next
   concerned_new (Start header) node next caused s e c h = absurd next
-  concerned_new (Finish stamp b ds) node next caused s e c h = absurd (let z : false ≡ true = h in cc)
-  concerned_new (Forget stamp b) node next caused s e c h = absurd (let z : false ≡ true = h in cc)
-  concerned_new (Prepare stamp b txs) node next caused s e c h = absurd (let z : false ≡ true = h in cc)
-  concerned_new (Commit stamp b os) node next caused s e c h = absurd (let z : false ≡ true = h in cc)
-  concerned_new (Discard stamp b) node next caused s e c h = absurd (let z : false ≡ true = h in cc)
-  concerned_new (Done stamp b) node next caused s e c h = absurd (let z : false ≡ true = h in cc)
+  concerned_new other node next caused s e c h = absurd (let z : false ≡ true = h in cc)
 
   abbrev pub IsShardKind : ℕ → Type 0
   IsShardKind kind = (kind ≡ 2) ⊎ (kind ≡ 3) ⊎ (kind ≡ 4)
@@ -190,15 +156,13 @@ module _ (K : Shape) (P : Compact → Type 0) (past : List Row) (st : Structure 
     own = sym (head_away row past m elsewhere)
 
     same_causes : (q : Record) → Next K m (journal m past) q → IsCaused K (λ n. journal n past) m q → SameCauses K (λ n. journal n past) (λ n. journal n (row ∷ past)) q
-    same_causes (Genesis header hs) at_q c = tt
-    same_causes (Start header) at_q c = tt
-    same_causes (Prepare stamp b txs) at_q c = tt
     same_causes (Lock stamp b es) at_q c = kept_lookup 6 (b.lane / K.lanes) b c.0
     same_causes (Finish stamp b ds) at_q c = kept_lookup 7 (b.lane / K.lanes) b c.0
     same_causes (Forget stamp b) at_q c = kept_lookup 8 (b.lane / K.lanes) b c.0
     same_causes (Commit stamp b os) at_q c = (subst (λ k. journal k past ≡ journal k (row ∷ past)) at_q.2 own, same_shards 2 (inl refl) b c.0)
     same_causes (Discard stamp b) at_q c = (subst (λ k. journal k past ≡ journal k (row ∷ past)) at_q.2 own, same_shards 3 (inr (inl refl)) b c.0)
     same_causes (Done stamp b) at_q c = (subst (λ k. journal k past ≡ journal k (row ∷ past)) at_q.2 own, same_shards 4 (inr (inr refl)) b c.0)
+    same_causes other at_q c = tt
 
     pub stays : (q : Record) → Next K m (journal m past) q → IsCaused K (λ n. journal n past) m q → IsCaused K (λ n. journal n (row ∷ past)) m q
     stays q at_q c = caused_same K (λ n. journal n past) (λ n. journal n (row ∷ past)) m q own (same_causes q at_q c) c
@@ -250,9 +214,6 @@ module _ (K : Shape) (past : List Row) (row : Row) (next : Next K row.node (jour
 
     causes_before : (q : Record) → stamp_of q ≤ stamp_of row.what → Next K m (journal m past) q → IsCaused K (λ n. journal n (row ∷ past)) m q
         → SameCauses K (λ n. journal n (row ∷ past)) (λ n. journal n past) q
-    causes_before (Genesis header hs) le at_q c = tt
-    causes_before (Start header) le at_q c = tt
-    causes_before (Prepare stamp b txs) le at_q c = tt
     causes_before (Lock stamp b es) le at_q c = older_lookup 6 (b.lane / K.lanes) b (omega (arith, c.2))
     causes_before (Finish stamp b ds) le at_q c = older_lookup 7 (b.lane / K.lanes) b (omega (arith, c.2))
     causes_before (Forget stamp b) le at_q c = older_lookup 8 (b.lane / K.lanes) b (omega (arith, c.1))
@@ -262,12 +223,10 @@ module _ (K : Shape) (past : List Row) (row : Row) (next : Next K row.node (jour
         (subst (λ k. journal k (row ∷ past) ≡ journal k past) at_q.2 own_before, older_shards 3 b stamp le (omega (arith, c.1)))
     causes_before (Done stamp b) le at_q c =
         (subst (λ k. journal k (row ∷ past) ≡ journal k past) at_q.2 own_before, older_shards 4 b stamp le (omega (arith, c.1)))
+    causes_before other le at_q c = tt
 
     pub was_caused : (q : Record) → stamp_of q ≤ stamp_of row.what → Next K m (journal m past) q → IsCaused K (λ n. journal n (row ∷ past)) m q → IsCaused K (λ n. journal n past) m q
     was_caused q le at_q c = caused_same K (λ n. journal n (row ∷ past)) (λ n. journal n past) m q own_before (causes_before q le at_q c) c
-
-and_false : (a : Bool) → (a && false) ≡ false
-and_false a = grind arith
 
 none_cons : (kind : ℕ) (r : Record) (J : List Record) (b : Batch) → ((kind_of r == kind) && is_of b r) ≡ false → is_some (record_of kind J b) ≡ false
     → is_some (record_of kind (r ∷ J) b) ≡ false
@@ -275,15 +234,7 @@ none_cons kind r J b t h = rw t h
 
 pub none_of : (kind : ℕ) (J : List Record) → AllFirst J → (b : Batch) → is_some (record_of kind J b) ≡ false
 none_of kind [] first b = refl
-none_of kind (Genesis header hs ∷ J) first b = none_cons kind (Genesis header hs) J b (and_false (1 == kind)) (none_of kind J first.1 b)
-none_of kind (Start header ∷ J) first b = none_cons kind (Start header) J b (and_false (5 == kind)) (none_of kind J first.1 b)
-none_of kind (Lock stamp c es ∷ J) first b = absurd first.0
-none_of kind (Finish stamp c es ∷ J) first b = absurd first.0
-none_of kind (Forget stamp c ∷ J) first b = absurd first.0
-none_of kind (Prepare stamp c es ∷ J) first b = absurd first.0
-none_of kind (Commit stamp c es ∷ J) first b = absurd first.0
-none_of kind (Discard stamp c ∷ J) first b = absurd first.0
-none_of kind (Done stamp c ∷ J) first b = absurd first.0
+none_of kind (r ∷ J) first b = none_cons kind r J b (not_true _ (λ t. not_of_first r b first.0 (test_batch kind b r t))) (none_of kind J first.1 b)
 
 pub idle : (J : List Record) → AllFirst J → (lane : ℕ) → (slot J lane).phase ≡ Idle
 idle J first lane = (nothing J first).phase lane

@@ -63,14 +63,7 @@ Each P (t ∷ ts) = P t × Each P ts
 
 abbrev pub AllProper : (Compact → Type 0) → Record → Type 0
 AllProper P (Prepare stamp b txs) = Each P txs
-AllProper P (Genesis header hs) = Unit {0}
-AllProper P (Lock stamp b es) = Unit {0}
-AllProper P (Finish stamp b ds) = Unit {0}
-AllProper P (Forget stamp b) = Unit {0}
-AllProper P (Start header) = Unit {0}
-AllProper P (Commit stamp b os) = Unit {0}
-AllProper P (Discard stamp b) = Unit {0}
-AllProper P (Done stamp b) = Unit {0}
+AllProper P other = Unit {0}
 
 -- each row behind the first ones is next at its node, caused, passes, and is in the grammar
 abbrev pub Steady : Shape → Minted → (Compact → Type 0) → List Row → Type 0

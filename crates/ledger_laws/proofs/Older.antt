@@ -1,6 +1,6 @@
 -- The Commit and the Finish that made a hash are older than a Lock that holds it.
-use Rattle.std.proofs.Common.{◌≡◌, ℕ, ◌<◌, ◌≤◌, Bool, true, false, ◌&&◌, ◌==◌, if◌then◌else◌, List, [], ◌∷◌, ◌++◌, Some, None, is_some, refl, sym, ap, ◌∙◌, subst, arith}
-use Rattle.cbdc_model.specs.Records.{Digest, Shape, Batch, Compact, Outcome, Answered, Record, Row, journal, same_batch, record_of, lock_of, txs_of, outcomes_of, decisions_in, entries_in, kind_of, is_of, stamp_in, last_stamp, Genesis, Lock, Finish, Forget, Start, Prepare, Commit, Discard, Done}
+use Rattle.std.proofs.Common.{◌≡◌, ℕ, ◌<◌, ◌≤◌, Bool, true, false, if◌then◌else◌, List, [], ◌∷◌, ◌++◌, Some, is_some, refl, sym, ap, ◌∙◌, subst, arith}
+use Rattle.cbdc_model.specs.Records.{Digest, Shape, Batch, Compact, Outcome, Answered, Record, Row, journal, same_batch, record_of, lock_of, txs_of, outcomes_of, decisions_in, entries_in, stamp_in, last_stamp, Genesis, Lock, Finish, Start}
 use Rattle.cbdc_model.specs.Status.{Status, status, has, held_inputs, made_outputs, returned_inputs, taken_inputs, finished_status, Unspent, Locked, Absent}
 use Rattle.cbdc_model.specs.Replies.{entries}
 use Rattle.cbdc_model.specs.Ranges.{shard_of, shard_node, journal_at, lane_journal}
@@ -15,10 +15,10 @@ use Rattle.ledger_laws.proofs.View.{same, other, same_or_not}
 use Rattle.ledger_laws.proofs.Rows.{at, away, at_node, head_at, head_away}
 use Rattle.ledger_laws.proofs.Lookups.{true_false}
 use Rattle.ledger_laws.proofs.First.{AllFirst, journal_first, all_first}
-use Rattle.ledger_laws.proofs.Moves.{split_test, all_structure}
+use Rattle.ledger_laws.proofs.Moves.{all_structure}
 use Rattle.ledger_laws.proofs.Order.{OrderOk}
-use Rattle.ledger_laws.proofs.Alikes.{found_passes}
-use Rattle.ledger_laws.proofs.Standing.{Facts, standing}
+use Rattle.ledger_laws.proofs.ByKind.{found_finish as finish_found}
+use Rattle.ledger_laws.proofs.Standing.{standing}
 use Rattle.ledger_laws.proofs.Repeats.{all_order}
 
 -- of one journal and one hash
@@ -136,11 +136,7 @@ next_older K node x J (Genesis header hs) ok order next was = absurd next
 next_older K node x J (Start header) ok order next was = absurd next
 next_older K node x J (Lock stamp d es) ok order next was = lock_older x J ok order was stamp d es next.0 next.3
 next_older K node x J (Finish stamp d ds) ok order next was = finish_older x J ok order was stamp d ds
-next_older K node x J (Forget stamp d) ok order next was = record { locked = was.locked; older = was.older }
-next_older K node x J (Prepare stamp d txs) ok order next was = record { locked = was.locked; older = was.older }
-next_older K node x J (Commit stamp d os) ok order next was = record { locked = was.locked; older = was.older }
-next_older K node x J (Discard stamp d) ok order next was = record { locked = was.locked; older = was.older }
-next_older K node x J (Done stamp d) ok order next was = record { locked = was.locked; older = was.older }
+next_older K node x J another ok order next was = record { locked = was.locked; older = was.older }
 
 never_locked : (x : Digest) (J : List Record) → AllFirst J → (c : Batch) → status J x ≡ Locked c → ⊥
 never_locked x [] first c e = not_there c e
@@ -149,15 +145,9 @@ never_locked x (Genesis header hs ∷ J) first c e = elim (has hs x) as (λ v. (
   | false ↦ λ e. never_locked x J first.1 c e
 ] e
 never_locked x (Start header ∷ J) first c e = never_locked x J first.1 c e
-never_locked x (Lock stamp d es ∷ J) first c e = absurd first.0
-never_locked x (Finish stamp d es ∷ J) first c e = absurd first.0
-never_locked x (Forget stamp d ∷ J) first c e = absurd first.0
-never_locked x (Prepare stamp d es ∷ J) first c e = absurd first.0
-never_locked x (Commit stamp d es ∷ J) first c e = absurd first.0
-never_locked x (Discard stamp d ∷ J) first c e = absurd first.0
-never_locked x (Done stamp d ∷ J) first c e = absurd first.0
+never_locked x (another ∷ J) first c e = absurd first.0
 
-decisions-decided : (os : List Outcome) (es : List Answered) → decisions os (entries es) ≡ decided (won_at os) es
+pub decisions-decided : (os : List Outcome) (es : List Answered) → decisions os (entries es) ≡ decided (won_at os) es
 decisions-decided os [] = refl
 decisions-decided os (a ∷ es) = ap (λ ds. won_at os a.entry.place ∷ ds) (decisions-decided os es)
 
@@ -191,27 +181,14 @@ module _ (K : Shape) (minting : Minted) (P : Compact → Type 0) (shards : 0 < K
       later_than : stamp_in (record_of 7 home b) < stamp_in (record_of 3 J b)
 
     finished : has_finish J b ≡ true → Finished
-    finished h = elim (record_of 3 J b) as (λ r. record_of 3 J b ≡ r → is_some r ≡ true → Finished) [
-      | None ↦ λ e t. absurd (let z : false ≡ true = t in cc)
-      | Some r ↦ λ e t. of_record r e (found_passes 3 J b r e) (standing K minting P shards later kept (shard_node K (shard_of K.shards x)) 3 b r e)
-    ] refl h
-      where
-        of_record : (r : Record) → record_of 3 J b ≡ Some r → ((kind_of r == 3) && is_of b r) ≡ true → Facts K (λ n. journal n (whole later)) (shard_node K (shard_of K.shards x)) r → Finished
-        of_record (Finish stamp c ds) e t f =
-            let s : c ≡ b = (split_test 3 3 c b t).1 in
-            record {
-              lock = subst (λ d. has_lock J d ≡ true) s f.1;
-              decided_by = ap decisions_in e ∙ subst (λ d. ds ≡ decisions (outcomes_of (lane_journal K (whole later) d) d) (entries (lock_of J d))) s f.2;
-              later_than = subst (λ r. stamp_in (record_of 7 home b) < stamp_in r) (sym e) (subst (λ d. stamp_in (record_of 7 (lane_journal K (whole later) d) d) < stamp) s f.3);
-            }
-        of_record (Genesis header hs) e t f = absurd (let z : false ≡ true = t in cc)
-        of_record (Start header) e t f = absurd (let z : false ≡ true = t in cc)
-        of_record (Lock stamp c es) e t f = absurd (let z : false ≡ true = t in cc)
-        of_record (Forget stamp c) e t f = absurd (let z : false ≡ true = t in cc)
-        of_record (Prepare stamp c txs) e t f = absurd (let z : false ≡ true = t in cc)
-        of_record (Commit stamp c os) e t f = absurd (let z : false ≡ true = t in cc)
-        of_record (Discard stamp c) e t f = absurd (let z : false ≡ true = t in cc)
-        of_record (Done stamp c) e t f = absurd (let z : false ≡ true = t in cc)
+    finished h =
+        let f = finish_found J b h in
+        let g = standing K minting P shards later kept (shard_node K (shard_of K.shards x)) 3 b (Finish f.0 b f.1) f.2 in
+        record {
+          lock = g.1;
+          decided_by = ap decisions_in f.2 ∙ g.2;
+          later_than = subst (λ r. stamp_in (record_of 7 home b) < stamp_in r) (sym f.2) g.3;
+        }
 
     pub made_earlier : (c : Batch) → 0 < count x (all_outputs (won_of K (whole later) b)) → has_finish J b ≡ true → status J x ≡ Locked c
         → (stamp_in (record_of 7 home b) < stamp_in (record_of 2 J c)) × (stamp_in (record_of 3 J b) < stamp_in (record_of 2 J c))

@@ -2,6 +2,7 @@
 use Rattle.std.proofs.Common.{◌≡◌, inl, inr, ℕ, true, false, ◌&&◌, ◌||◌, ◌==◌, nat_lt, List, [], ◌∷◌, refl, sym, ap, ◌∙◌, subst, arith}
 use Rattle.cbdc_model.specs.History.{goes_above, IsAbove, IsOrdered}
 use Rattle.cbdc_model.specs.Records.{Record, Row, journal, stamp_of}
+use Rattle.ledger_laws.proofs.Lookups.{other_way}
 use Rattle.ledger_laws.proofs.Rows.{at, away, at_node, head_at, head_away}
 use Rattle.ledger_laws.proofs.Members.{In}
 
@@ -27,7 +28,7 @@ cons_same a b J I e = (cc, cc)
 no_cons : (a : Record) (J : List Record) → [] ≡ a ∷ J → ⊥
 no_cons a J e = cc
 
-row_same : (a b : Row) → a.node ≡ b.node → a.what ≡ b.what → a ≡ b
+pub row_same : (a b : Row) → a.node ≡ b.node → a.what ≡ b.what → a ≡ b
 row_same a b n w = λ i. record { node = n i; what = w i }
 
 -- the newest record of a journal stands in the list
@@ -44,9 +45,6 @@ in_behind row rows a apart (inl e) = absurd (differ row a apart (ap (λ r. r.nod
   where
     differ : (row a : Row) → (row.node == a.node) ≡ false → a.node ≡ row.node → ⊥
     differ row a h e = grind arith
-
-other_way : (m n : ℕ) → (m == n) ≡ false → (n == m) ≡ false
-other_way m n e = grind arith
 
 tails_same : (a b : Row) (A B : List Row) → a ≡ b → ((n : ℕ) → journal n (a ∷ A) ≡ journal n (b ∷ B)) → (n : ℕ) → journal n A ≡ journal n B
 tails_same a b A B e h n = elim (at_node a.node n) [

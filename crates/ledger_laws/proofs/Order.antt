@@ -1,29 +1,15 @@
 -- Stamps in one journal: a Done of an earlier batch is older than a Prepare of a later one; and what a lane's last record is.
-use Rattle.std.proofs.Common.{◌≡◌, ℕ, ◌<◌, ◌≤◌, true, false, ◌&&◌, ◌==◌, List, ◌∷◌, Some, is_some, refl, sym, ap, ◌∙◌, subst, arith}
-use Rattle.cbdc_model.specs.Records.{Shape, Batch, Record, record_of, kind_of, is_of, stamp_of, stamp_in, last_stamp, Genesis, Lock, Finish, Forget, Start, Prepare, Commit, Discard, Done}
+use Rattle.std.proofs.Common.{◌≡◌, ℕ, ◌<◌, ◌≤◌, true, false, ◌&&◌, ◌==◌, List, ◌∷◌, is_some, refl, sym, ap, ◌∙◌, subst, arith}
+use Rattle.cbdc_model.specs.Records.{Shape, Batch, Record, record_of, kind_of, is_of, stamp_of, stamp_in, last_stamp, Genesis, Start, Done}
 use Rattle.cbdc_model.specs.Slots.{slot}
 use Rattle.ledger_laws.proofs.Next.{Next}
 use Rattle.ledger_laws.proofs.Slots.{JournalOk}
-use Rattle.ledger_laws.proofs.Moves.{test_step, split_test}
+use Rattle.ledger_laws.proofs.ByKind.{split_test, test_kind, test_step, found_new, after_stamp}
 
 pub record OrderOk (J : List Record) : Type 0 where
   pub stamps_le : (kind : ℕ) (b : Batch) → stamp_in (record_of kind J b) ≤ last_stamp J
   pub done_first : (c b : Batch) → c.lane ≡ b.lane → c.number < b.number → is_some (record_of 9 J c) ≡ true → is_some (record_of 6 J b) ≡ true
       → stamp_in (record_of 9 J c) < stamp_in (record_of 6 J b)
-
-after_stamp : (K : Shape) (node : ℕ) (J : List Record) (r : Record) → Next K node J r → last_stamp J < stamp_of r
-after_stamp K node J (Genesis header hs) next = absurd next
-after_stamp K node J (Start header) next = absurd next
-after_stamp K node J (Lock stamp b es) next = next.0
-after_stamp K node J (Finish stamp b ds) next = next.0
-after_stamp K node J (Forget stamp b) next = next.0
-after_stamp K node J (Prepare stamp b txs) next = next.0
-after_stamp K node J (Commit stamp b os) next = next.0
-after_stamp K node J (Discard stamp b) next = next.0
-after_stamp K node J (Done stamp b) next = next.0
-
-found_here : (kind : ℕ) (r : Record) (J : List Record) (b : Batch) → ((kind_of r == kind) && is_of b r) ≡ true → record_of kind (r ∷ J) b ≡ Some r
-found_here kind r J b t = rw t
 
 -- a record that comes is no Done of an earlier batch than one that is prepared
 done_number : (K : Shape) (node : ℕ) (J : List Record) (r : Record) → JournalOk J → Next K node J r → (c b : Batch) → c.lane ≡ b.lane → c.number < b.number
@@ -35,31 +21,18 @@ done_number K node J (Done stamp d) ok next c b lanes lt t prepared =
     omega (arith, ok.prepare_below b prepared)
 done_number K node J (Genesis header hs) ok next c b lanes lt t prepared = absurd next
 done_number K node J (Start header) ok next c b lanes lt t prepared = absurd next
-done_number K node J (Lock stamp d es) ok next c b lanes lt t prepared = absurd (let z : false ≡ true = t in cc)
-done_number K node J (Finish stamp d es) ok next c b lanes lt t prepared = absurd (let z : false ≡ true = t in cc)
-done_number K node J (Forget stamp d) ok next c b lanes lt t prepared = absurd (let z : false ≡ true = t in cc)
-done_number K node J (Prepare stamp d es) ok next c b lanes lt t prepared = absurd (let z : false ≡ true = t in cc)
-done_number K node J (Commit stamp d es) ok next c b lanes lt t prepared = absurd (let z : false ≡ true = t in cc)
-done_number K node J (Discard stamp d) ok next c b lanes lt t prepared = absurd (let z : false ≡ true = t in cc)
+done_number K node J other ok next c b lanes lt t prepared = absurd (let z : false ≡ true = t in cc)
 
 -- one record is no Done and no Prepare at once
 not_both : (r : Record) (c b : Batch) → ((kind_of r == 9) && is_of c r) ≡ true → ((kind_of r == 6) && is_of b r) ≡ true → ⊥
-not_both (Done stamp d) c b t u = let z : false ≡ true = u in cc
-not_both (Prepare stamp d txs) c b t u = let z : false ≡ true = t in cc
-not_both (Genesis header hs) c b t u = let z : false ≡ true = t in cc
-not_both (Start header) c b t u = let z : false ≡ true = t in cc
-not_both (Lock stamp d es) c b t u = let z : false ≡ true = t in cc
-not_both (Finish stamp d es) c b t u = let z : false ≡ true = t in cc
-not_both (Forget stamp d) c b t u = let z : false ≡ true = t in cc
-not_both (Commit stamp d es) c b t u = let z : false ≡ true = t in cc
-not_both (Discard stamp d) c b t u = let z : false ≡ true = t in cc
+not_both r c b t u = let k : kind_of r ≡ 9 = test_kind 9 c r t in let l : kind_of r ≡ 6 = test_kind 6 b r u in omega arith
 
 pub next_order : (K : Shape) (node : ℕ) (J : List Record) (r : Record) → JournalOk J → Next K node J r → OrderOk J → OrderOk (r ∷ J)
 next_order K node J r ok next order =
     let newer : last_stamp J < stamp_of r = after_stamp K node J r next in
     record {
       stamps_le = λ kind b. elim ((kind_of r == kind) && is_of b r) as (λ t. ((kind_of r == kind) && is_of b r) ≡ t → stamp_in (record_of kind (r ∷ J) b) ≤ stamp_of r) [
-        | true ↦ λ t. le_same (ap stamp_in (found_here kind r J b t))
+        | true ↦ λ t. le_same (ap stamp_in (found_new kind r J b t))
         | false ↦ λ t. le_old (ap stamp_in (test_step kind r J b t)) (order.stamps_le kind b) newer
       ] refl;
       done_first = λ c b lanes lt d p.
@@ -69,7 +42,7 @@ next_order K node J r ok next order =
               | false ↦ λ u. done_number K node J r ok next c b lanes lt t (sym (ap is_some (test_step 6 r J b u)) ∙ p)
             ] refl)
             | false ↦ λ t. elim ((kind_of r == 6) && is_of b r) as (λ u. ((kind_of r == 6) && is_of b r) ≡ u → stamp_in (record_of 9 (r ∷ J) c) < stamp_in (record_of 6 (r ∷ J) b)) [
-              | true ↦ λ u. lt_new (ap stamp_in (test_step 9 r J c t)) (order.stamps_le 9 c) newer (ap stamp_in (found_here 6 r J b u))
+              | true ↦ λ u. lt_new (ap stamp_in (test_step 9 r J c t)) (order.stamps_le 9 c) newer (ap stamp_in (found_new 6 r J b u))
               | false ↦ λ u. lt_old (ap stamp_in (test_step 9 r J c t)) (order.done_first c b lanes lt (sym (ap is_some (test_step 9 r J c t)) ∙ d) (sym (ap is_some (test_step 6 r J b u)) ∙ p)) (ap stamp_in (test_step 6 r J b u))
             ] refl
           ] refl;

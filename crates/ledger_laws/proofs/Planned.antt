@@ -12,12 +12,10 @@ use Rattle.cbdc_model.specs.Causes.{IsCaused}
 use Rattle.cbdc_model.specs.History.{header_of}
 use Rattle.cbdc_model.specs.World.{ShardCall, Lock_call, Finish_call, Forget_call, appends, record_for, CauseStands}
 use Rattle.ledger_laws.proofs.Next.{Next, AllProper}
+use Rattle.ledger_laws.proofs.ByKind.{some_is}
 
 none_some : {A : Type 0} (r : A) → None ≡ Some r → ⊥
 none_some r e = cc
-
-some_is : (q r : Record) → Some q ≡ Some r → q ≡ r
-some_is q r e = cc
 
 passed : {A : Type 0} (c : Bool) (first rest : Plan A) (q r : Record) → appends first q ≡ None → appends (if c then first else rest) q ≡ Some r
     → (c ≡ false) × (appends rest q ≡ Some r)

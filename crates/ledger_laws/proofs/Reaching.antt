@@ -3,9 +3,10 @@ use Rattle.std.proofs.Common.{◌≡◌, inl, inr, ℕ, ◌+◌, ◌<◌, true, 
 use Rattle.std.proofs.lemmas.List.FromFn.{length-map-range_with_len}
 use Rattle.cbdc_model.specs.Causes.{IsCaused}
 use Rattle.cbdc_model.specs.History.{header_of, first_rows, Minted}
-use Rattle.cbdc_model.specs.Records.{Shape, Compact, Record, Row, journal, Genesis, Lock, Finish, Forget, Start, Prepare, Commit, Discard, Done}
+use Rattle.cbdc_model.specs.Records.{Shape, Compact, Record, Row, journal}
 use Rattle.cbdc_model.specs.World.{World, Node, Event, Begin, End, node_at, journals, flushed, IsQuiet, effect, Run, init, first_node}
 use Rattle.ledger_laws.proofs.Next.{Next, Steady}
+use Rattle.ledger_laws.proofs.ByKind.{at_a_node}
 use Rattle.ledger_laws.specs.Reach.{events_of, Reached}
 use Rattle.cbdc_model.specs.Grammar.{IsInGrammar}
 use Rattle.cbdc_model.specs.After.{After}
@@ -17,18 +18,6 @@ use Rattle.ledger_laws.proofs.FirstWorld.{init_at, init_beyond, init_journals, i
 pub run-append : (K : Shape) (minting : Minted) (u v w : World) (es fs : List Event) → Run K minting u es v → Run K minting v fs w → Run K minting u (es ++ fs) w
 run-append K minting u v w [] fs same run = subst (λ a. Run K minting a fs w) same run
 run-append K minting u v w (e ∷ es) fs run more = (run.0, run.1, run-append K minting run.0 v w es fs run.2 more)
-
--- a row stands at a node of the shape
-at_a_node : (K : Shape) (node : ℕ) (J : List Record) (r : Record) → Next K node J r → node < K.coordinators + K.shards
-at_a_node K node J (Genesis header hs) next = absurd next
-at_a_node K node J (Start header) next = absurd next
-at_a_node K node J (Lock stamp b es) next = next.1.1
-at_a_node K node J (Finish stamp b ds) next = next.1.1
-at_a_node K node J (Forget stamp b) next = next.1.1
-at_a_node K node J (Prepare stamp b txs) next = omega (arith, next.1)
-at_a_node K node J (Commit stamp b os) next = omega (arith, next.1)
-at_a_node K node J (Discard stamp b) next = omega (arith, next.1)
-at_a_node K node J (Done stamp b) next = omega (arith, next.1)
 
 module _ (K : Shape) (minting : Minted) (P : Compact → Type 0) (shards : 0 < K.shards) where
   -- one record begins and ends

@@ -4,7 +4,7 @@ use Rattle.cbdc_model.specs.Causes.{at_shards, AllHave, IsCaused}
 use Rattle.cbdc_model.specs.History.{first_rows, won_of, all_outputs, Minted}
 use Rattle.cbdc_model.specs.Outcomes.{won_txs, won_at}
 use Rattle.cbdc_model.specs.Ranges.{shard_of, shard_node, journal_at, part, Concerned, is_no_part}
-use Rattle.cbdc_model.specs.Records.{Digest, Shape, Batch, Compact, Outcome, Entry, Record, Row, journal, record_of, kind_of, is_of, txs_in, Genesis, Lock, Finish, Forget, Start, Prepare, Commit, Discard, Done, lock_of, txs_of, outcomes_of}
+use Rattle.cbdc_model.specs.Records.{Digest, Shape, Batch, Compact, Outcome, Entry, Record, Row, journal, record_of, kind_of, is_of, txs_in, Genesis, Start, Done, lock_of, txs_of, outcomes_of}
 use Rattle.cbdc_model.specs.Replies.{entries}
 use Rattle.cbdc_model.specs.Slots.{slot, Idle, InFinish}
 use Rattle.cbdc_model.specs.Status.{status, held_inputs, Locked}
@@ -40,7 +40,7 @@ no_part [] h = refl
 no_part (e ∷ es) h = cc
 
 -- a shard of a made hash has a part
-part_of_made : (K : Shape) (x : Digest) (txs : List Compact) (os : List Outcome) → 0 < count x (all_outputs (won_txs txs os))
+pub part_of_made : (K : Shape) (x : Digest) (txs : List Compact) (os : List Outcome) → 0 < count x (all_outputs (won_txs txs os))
     → is_no_part (part K.shards (shard_of K.shards x) 0 txs) ≡ false
 part_of_made K x txs os n = not_true _ (λ t.
     let p : IsPart x 0 txs [] = is_part K.shards x 0 txs [] (sym (no_part (part K.shards (shard_of K.shards x) 0 txs) t)) in
@@ -48,6 +48,19 @@ part_of_made K x txs os n = not_true _ (λ t.
     let is : won_by (won_at os) 0 txs ≡ won_txs txs os = won_by-won_txs (won_at os) 0 txs os (λ i. ap (won_at os) (omega arith)) in
     let z : count x (all_outputs (won_by (won_at os) 0 txs)) ≡ count x (all_outputs (won_txs txs os)) = ap (λ ts. count x (all_outputs ts)) is in
     omega arith)
+
+-- a batch whose Lock holds a hash is locked, and one that committed something has its Prepare
+pub held_locked : (J : List Record) (x : Digest) (b : Batch) → 0 < count x (held_inputs (lock_of J b)) → has_lock J b ≡ true
+held_locked J x b n = elim (has_lock J b) as (λ c. has_lock J b ≡ c → c ≡ true) [
+  | true ↦ λ _. refl
+  | false ↦ λ f. absurd (let z : count x (held_inputs (lock_of J b)) ≡ 0 = ap (λ a. count x (held_inputs a)) (no_lock J b f) in omega arith)
+] refl
+
+pub won_prepared : (J : List Record) (x : Digest) (b : Batch) (os : List Outcome) → 0 < count x (all_outputs (won_txs (txs_of J b) os)) → has_prepare J b ≡ true
+won_prepared J x b os n = elim (has_prepare J b) as (λ c. has_prepare J b ≡ c → c ≡ true) [
+  | true ↦ λ _. refl
+  | false ↦ λ e. absurd (let z : count x (all_outputs (won_txs (txs_of J b) os)) ≡ 0 = ap (λ r. count x (all_outputs (won_txs (txs_in r) os))) (none_found (record_of 6 J b) e) in omega arith)
+] refl
 
 module _ (K : Shape) (minting : Minted) (P : Compact → Type 0) (shards : 0 < K.shards) where
   abbrev whole : List Row → List Row
@@ -81,12 +94,7 @@ module _ (K : Shape) (minting : Minted) (P : Compact → Type 0) (shards : 0 < K
       (caused.0, (phases.discard_here c next.3 next.4).0)
   done_caused past node (Genesis header hs) b phases next caused t = absurd next
   done_caused past node (Start header) b phases next caused t = absurd next
-  done_caused past node (Lock stamp c es) b phases next caused t = absurd (let z : false ≡ true = t in cc)
-  done_caused past node (Finish stamp c ds) b phases next caused t = absurd (let z : false ≡ true = t in cc)
-  done_caused past node (Forget stamp c) b phases next caused t = absurd (let z : false ≡ true = t in cc)
-  done_caused past node (Prepare stamp c txs) b phases next caused t = absurd (let z : false ≡ true = t in cc)
-  done_caused past node (Commit stamp c os) b phases next caused t = absurd (let z : false ≡ true = t in cc)
-  done_caused past node (Discard stamp c) b phases next caused t = absurd (let z : false ≡ true = t in cc)
+  done_caused past node other b phases next caused t = absurd (let z : false ≡ true = t in cc)
 
   -- what all concerned shards have they keep
   all_have_kept : (later : List Row) → Steady K minting P later → (row : Row) → Next K row.node (journal row.node (whole later)) row.what
@@ -150,23 +158,13 @@ module _ (K : Shape) (minting : Minted) (P : Compact → Type 0) (shards : 0 < K
             not_empty_part s b e n = not_empty (lock_of (journal (shard_node K s) (whole later)) b) _ e n
 
     pub none_locked : (x : Digest) (b : Batch) → Inv (λ x. count x minting.hashes) P (view K (whole later)) → status (journal_at K (whole later) x) x ≡ Locked b → ⊥
-    none_locked x b inv e = true_false _ (locked_is_finished x b (has_it x b (inv.locked x b e).3)) (inv.locked x b e).1
-      where
-        has_it : (x : Digest) (b : Batch) → 0 < count x (held_inputs (lock_of (journal_at K (whole later) x) b)) → has_lock (journal_at K (whole later) x) b ≡ true
-        has_it x b n = elim (has_lock (journal_at K (whole later) x) b) as (λ c. has_lock (journal_at K (whole later) x) b ≡ c → c ≡ true) [
-          | true ↦ λ _. refl
-          | false ↦ λ f. absurd (let z : count x (held_inputs (lock_of (journal_at K (whole later) x) b)) ≡ 0 = ap (λ a. count x (held_inputs a)) (no_lock (journal_at K (whole later) x) b f) in omega arith)
-        ] refl
+    none_locked x b inv e = true_false _ (locked_is_finished x b (held_locked (journal_at K (whole later) x) x b (inv.locked x b e).3)) (inv.locked x b e).1
 
     pub none_coming : (x : Digest) (b : Batch) → 0 < count x (all_outputs (won_of K (whole later) b)) → has_finish (journal_at K (whole later) x) b ≡ false → ⊥
     none_coming x b n f = true_false _ (finished_at b prepared (shard_of K.shards x) (shard_of-lt K.shards x shards, some_part)) f
       where
         prepared : has_prepare (journal (b.lane / K.lanes) (whole later)) b ≡ true
-        prepared = elim (has_prepare (journal (b.lane / K.lanes) (whole later)) b) as (λ c. has_prepare (journal (b.lane / K.lanes) (whole later)) b ≡ c → c ≡ true) [
-          | true ↦ λ _. refl
-          | false ↦ λ e. absurd (let z : count x (all_outputs (won_of K (whole later) b)) ≡ 0
-              = ap (λ r. count x (all_outputs (won_txs (txs_in r) (outcomes_of (journal (b.lane / K.lanes) (whole later)) b)))) (none_found (record_of 6 (journal (b.lane / K.lanes) (whole later)) b) e) in omega arith)
-        ] refl
+        prepared = won_prepared (journal (b.lane / K.lanes) (whole later)) x b (outcomes_of (journal (b.lane / K.lanes) (whole later)) b) n
 
         some_part : is_no_part (part K.shards (shard_of K.shards x) 0 (txs_of (journal (b.lane / K.lanes) (whole later)) b)) ≡ false
         some_part = part_of_made K x (txs_of (journal (b.lane / K.lanes) (whole later)) b) (outcomes_of (journal (b.lane / K.lanes) (whole later)) b) n

@@ -45,16 +45,29 @@ one_list txs (k ∷ ks) (t ∷ ts) (u ∷ us) h g =
     let b : ts ≡ us = one_list txs ks ts us h.1 g.1 in
     λ i. a i ∷ b i
 
+-- the hashes that transactions take
+hashes-append : (x : Digest) (cs ds : List Coin) → count x (hashes_of (cs ++ ds)) ≡ count x (hashes_of cs) + count x (hashes_of ds)
+hashes-append x [] ds = omega arith
+hashes-append x (c ∷ cs) ds = omega (arith, hashes-append x cs ds)
+
+pub hashes_all : (x : Digest) (ts : List FullTx) → count x (hashes_of (all_spent ts)) ≡ count x (all_inputs (map compact ts))
+hashes_all x [] = refl
+hashes_all x (t ∷ ts) = omega (arith, hashes-append x t.inputs (all_spent ts), hashes_all x ts, count-append x (hashes_of t.inputs) (all_inputs (map compact ts)))
+
+pub each-append : (Q : Coin → Type 0) (cs ds : List Coin) → EachCoin Q cs → EachCoin Q ds → EachCoin Q (cs ++ ds)
+each-append Q [] ds h k = k
+each-append Q (c ∷ cs) ds h k = (h.0, each-append Q cs ds h.1 k)
+
 module _ (mint : List Output) (txs : List FullTx) (clean : Clean mint txs) where
   abbrev made : Coin → Type 0
   made = Made mint txs clean
 
-  record MadeAt (x : Digest) : Type 0 where
-    coin : Coin
-    is_made : made coin
-    hash : coin_hash coin ≡ x
+  pub record MadeAt (x : Digest) : Type 0 where
+    pub coin : Coin
+    pub is_made : made coin
+    pub hash : coin_hash coin ≡ x
 
-  made_in : (t : FullTx) → IsMember mint txs t → (x : Digest) → 0 < count x (hashes_of (tx_coins t)) → MadeAt x
+  pub made_in : (t : FullTx) → IsMember mint txs t → (x : Digest) → 0 < count x (hashes_of (tx_coins t)) → MadeAt x
   made_in t m x h =
       let c : CoinAt (tx_coins t) x = coin_at (tx_coins t) x h in
       record { coin = c.coin; is_made = made_is mint txs clean t c.coin m c.inside; hash = c.hash }
@@ -85,7 +98,7 @@ module _ (mint : List Output) (txs : List FullTx) (clean : Clean mint txs) where
         | false ↦ λ _. refl
       ] refl
 
-  distinct_points : (cs : List Coin) → EachCoin made cs → ((x : Digest) → count x (hashes_of cs) ≤ 1) → IsDistinct (λ p q. bytes_eq p q) (map point_of cs)
+  pub distinct_points : (cs : List Coin) → EachCoin made cs → ((x : Digest) → count x (hashes_of cs) ≤ 1) → IsDistinct (λ p q. bytes_eq p q) (map point_of cs)
   unfolding IsDistinct
   distinct_points [] each once = tt
   distinct_points (c ∷ cs) each once = (
@@ -99,20 +112,8 @@ module _ (mint : List Output) (txs : List FullTx) (clean : Clean mint txs) where
       tail_once : (x y : Digest) (xs : List Digest) → count x (y ∷ xs) ≤ 1 → count x xs ≤ 1
       tail_once x y xs h = omega arith
 
-  hashes-append : (x : Digest) (cs ds : List Coin) → count x (hashes_of (cs ++ ds)) ≡ count x (hashes_of cs) + count x (hashes_of ds)
-  hashes-append x [] ds = omega arith
-  hashes-append x (c ∷ cs) ds = omega (arith, hashes-append x cs ds)
-
-  hashes_all : (x : Digest) (ts : List FullTx) → count x (hashes_of (all_spent ts)) ≡ count x (all_inputs (map compact ts))
-  hashes_all x [] = refl
-  hashes_all x (t ∷ ts) = omega (arith, hashes-append x t.inputs (all_spent ts), hashes_all x ts, count-append x (hashes_of t.inputs) (all_inputs (map compact ts)))
-
-  each-append : (Q : Coin → Type 0) (cs ds : List Coin) → EachCoin Q cs → EachCoin Q ds → EachCoin Q (cs ++ ds)
-  each-append Q [] ds h k = k
-  each-append Q (c ∷ cs) ds h k = (h.0, each-append Q cs ds h.1 k)
-
   -- each input of fair transactions is made, where each hash that is taken was made
-  each_is_made : (t : FullTx) → IsMember mint txs t → (cs : List Coin) → ((c : Coin) → In c cs → In c t.inputs)
+  pub each_is_made : (t : FullTx) → IsMember mint txs t → (cs : List Coin) → ((c : Coin) → In c cs → In c t.inputs)
       → ((x : Digest) → 0 < count x (hashes_of cs) → MadeAt x) → EachCoin made cs
   each_is_made t m [] all source = tt
   each_is_made t m (c ∷ cs) all source =

@@ -1,11 +1,11 @@
 -- A call whose cause stands is answered by a record, a stored answer or Stale.
-use Rattle.std.proofs.Common.{if◌then◌else◌, ◌≡◌, ◌⊎◌, inl, inr, ℕ, suc, ◌+◌, ◌<◌, ◌≤◌, ◌/◌, Bool, true, false, ◌&&◌, ◌==◌, List, [], ◌∷◌, ◌++◌, Some, None, is_some, refl, sym, ap, ◌∙◌, subst, arith}
+use Rattle.std.proofs.Common.{if◌then◌else◌, ◌≡◌, ◌⊎◌, inl, inr, ℕ, suc, ◌+◌, ◌<◌, ◌≤◌, ◌/◌, Bool, true, false, ◌&&◌, List, [], ◌∷◌, ◌++◌, Some, is_some, refl, sym, ap, ◌∙◌, subst, arith}
 use Rattle.cbdc_model.specs.After.{FitsReplies}
 use Rattle.cbdc_model.specs.Causes.{at_shards}
 use Rattle.cbdc_model.specs.History.{first_rows, Minted}
 use Rattle.cbdc_model.specs.Outcomes.{decisions, won_at, reply_at}
 use Rattle.cbdc_model.specs.Ranges.{shard_node, part, Concerned, on_shard, is_empty}
-use Rattle.cbdc_model.specs.Records.{Shape, Batch, Compact, Outcome, Reply, Answered, Entry, Record, Row, journal, record_of, kind_of, is_of, is_held, stamp_of, stamp_in, entries_in, txs_in, outcomes_in, decisions_in, Genesis, Lock, Finish, Forget, Start, Prepare, Commit, Discard, Done, lock_of, txs_of}
+use Rattle.cbdc_model.specs.Records.{Shape, Batch, Compact, Outcome, Reply, Answered, Entry, Record, Row, journal, record_of, kind_of, is_held, stamp_of, stamp_in, entries_in, txs_in, outcomes_in, decisions_in, Genesis, Finish, Forget, Start, Prepare, Commit, Discard, Done, lock_of, txs_of}
 use Rattle.cbdc_model.specs.Replies.{entries}
 use Rattle.cbdc_model.specs.Slots.{slot, slot_stamp, Idle, InLock, InFinish, InPrepare, InCommit, InDiscard}
 use Rattle.ledger_laws.proofs.Next.{has_lock, has_finish, has_prepare, has_forget, Steady}
@@ -15,12 +15,12 @@ use Rattle.ledger_laws.proofs.Rows.{Structure, at, away, at_node, head_at, head_
 use Rattle.ledger_laws.proofs.Lookups.{true_false, none_found}
 use Rattle.ledger_laws.proofs.Parts.{Agrees, part_entry, first_is, entries-cons, entries-nil, outcome_held, won_at-outcomes}
 use Rattle.ledger_laws.proofs.First.{AllFirst, journal_first, all_first}
-use Rattle.ledger_laws.proofs.Moves.{none_of, not_empty, split_test, all_structure, all_more}
+use Rattle.ledger_laws.proofs.Moves.{none_of, not_empty, all_structure, all_more}
 use Rattle.ledger_laws.proofs.Recovered.{all_dones, all_phases, done_forgot}
 use Rattle.ledger_laws.proofs.Standing.{Facts, standing}
-use Rattle.ledger_laws.proofs.Alikes.{found_passes}
+use Rattle.ledger_laws.proofs.ByKind.{found_finish, found_done}
 use Rattle.ledger_laws.proofs.Order.{OrderOk, next_order}
-use Rattle.ledger_laws.proofs.Last.{LastIs, nothing_yet, of_kind, last_is, slot_by}
+use Rattle.ledger_laws.proofs.Last.{LastIs, nothing_yet, of_kind, last_is, slot_by, phase_stamp}
 
 first_order : (J : List Record) → AllFirst J → OrderOk J
 first_order J first = record {
@@ -32,7 +32,7 @@ first_order J first = record {
     zero_le e = omega arith
 
 -- the places of a part rise
-abbrev Rising : ℕ → List Answered → Type 0
+abbrev pub Rising : ℕ → List Answered → Type 0
 Rising k [] = Unit {0}
 Rising k (a ∷ es) = (k ≤ a.entry.place) × Rising (suc a.entry.place) es
 
@@ -47,7 +47,7 @@ rising_first shards s k t rest (a ∷ es) next (same, more) =
     let p : k ≡ a.entry.place = sym (ap (λ e. e.place) same) in
     (omega arith, subst (λ n. Rising (suc n) es) p (next es more))
 
-rising_part : (shards s k : ℕ) (txs : List Compact) (es : List Answered) → entries es ≡ part shards s k txs → Rising k es
+pub rising_part : (shards s k : ℕ) (txs : List Compact) (es : List Answered) → entries es ≡ part shards s k txs → Rising k es
 rising_part shards s k [] es h = subst (λ a. Rising k a) (sym (entries-nil es h)) tt
 rising_part shards s k (t ∷ ts) es h =
     elim (is_empty (on_shard shards s t.inputs) && is_empty (on_shard shards s t.outputs))
@@ -56,7 +56,7 @@ rising_part shards s k (t ∷ ts) es h =
       | false ↦ λ h. rising_first shards s k t (part shards s (suc k) ts) es (λ es h. rising_part shards s (suc k) ts es h) (entries-cons _ _ es h)
     ] h
 
-agrees_rising : (f : ℕ → Bool) (k : ℕ) (es : List Answered) → Rising k es → ((j : ℕ) (r : Reply) → k ≤ j → reply_at es j ≡ Some r → f j ≡ true → is_held r ≡ true) → Agrees f es
+pub agrees_rising : (f : ℕ → Bool) (k : ℕ) (es : List Answered) → Rising k es → ((j : ℕ) (r : Reply) → k ≤ j → reply_at es j ≡ Some r → f j ≡ true → is_held r ≡ true) → Agrees f es
 agrees_rising f k [] h told = tt
 agrees_rising f k (a ∷ es) h told = (
   λ won. told a.entry.place a.reply h.0 (found a es) won,
@@ -69,7 +69,7 @@ agrees_rising f k (a ∷ es) h told = (
     passed : (a : Answered) (es : List Answered) (j : ℕ) (r : Reply) → suc a.entry.place ≤ j → reply_at es j ≡ Some r → reply_at (a ∷ es) j ≡ Some r
     passed a es j r le is = grind arith
 
-fits_decisions : (os : List Outcome) (es : List Answered) → Agrees (won_at os) es → FitsReplies es (decisions os (entries es))
+pub fits_decisions : (os : List Outcome) (es : List Answered) → Agrees (won_at os) es → FitsReplies es (decisions os (entries es))
 fits_decisions os [] h = tt
 fits_decisions os (a ∷ es) h = (h.0, fits_decisions os es h.1)
 
@@ -98,42 +98,15 @@ module _ (K : Shape) (minting : Minted) (P : Compact → Type 0) (shards : 0 < K
 
     -- a Finish has its Lock
     finish_lock : (n : ℕ) (b : Batch) → has_finish (J n) b ≡ true → has_lock (J n) b ≡ true
-    finish_lock n b h = elim (record_of 3 (J n) b) as (λ r. record_of 3 (J n) b ≡ r → is_some r ≡ true → has_lock (J n) b ≡ true) [
-      | None ↦ λ e t. absurd (let z : false ≡ true = t in cc)
-      | Some r ↦ λ e t. by_kind n b r (found_passes 3 (J n) b r e) (standing K minting P shards later kept n 3 b r e)
-    ] refl h
-      where
-        by_kind : (n : ℕ) (b : Batch) (r : Record) → ((kind_of r == 3) && is_of b r) ≡ true → Facts K (λ n. journal n (later ++ first_rows K minting)) n r → has_lock (J n) b ≡ true
-        by_kind n b (Finish stamp c ds) t f = subst (λ d. has_lock (J n) d ≡ true) (split_test 3 3 c b t).1 f.1
-        by_kind n b (Genesis header hs) t f = absurd (let z : false ≡ true = t in cc)
-        by_kind n b (Start header) t f = absurd (let z : false ≡ true = t in cc)
-        by_kind n b (Lock stamp c es) t f = absurd (let z : false ≡ true = t in cc)
-        by_kind n b (Forget stamp c) t f = absurd (let z : false ≡ true = t in cc)
-        by_kind n b (Prepare stamp c txs) t f = absurd (let z : false ≡ true = t in cc)
-        by_kind n b (Commit stamp c os) t f = absurd (let z : false ≡ true = t in cc)
-        by_kind n b (Discard stamp c) t f = absurd (let z : false ≡ true = t in cc)
-        by_kind n b (Done stamp c) t f = absurd (let z : false ≡ true = t in cc)
+    finish_lock n b h = let f = found_finish (J n) b h in (standing K minting P shards later kept n 3 b (Finish f.0 b f.1) f.2).1
 
     -- a Done is younger than each Forget
     done_younger : (b : Batch) → has_done (J (b.lane / K.lanes)) b ≡ true → (s : ℕ) → s < K.shards
         → stamp_in (record_of 4 (J (shard_node K s)) b) < stamp_in (record_of 9 (J (b.lane / K.lanes)) b)
-    done_younger b h s lt = elim (record_of 9 (J (b.lane / K.lanes)) b) as (λ r. record_of 9 (J (b.lane / K.lanes)) b ≡ r → is_some r ≡ true
-        → stamp_in (record_of 4 (J (shard_node K s)) b) < stamp_in r) [
-          | None ↦ λ e t. absurd (let z : false ≡ true = t in cc)
-          | Some r ↦ λ e t. by_kind b s lt r (found_passes 9 (J (b.lane / K.lanes)) b r e) (standing K minting P shards later kept (b.lane / K.lanes) 9 b r e)
-        ] refl h
-      where
-        by_kind : (b : Batch) (s : ℕ) → s < K.shards → (r : Record) → ((kind_of r == 9) && is_of b r) ≡ true → Facts K (λ n. journal n (later ++ first_rows K minting)) (b.lane / K.lanes) r
-            → stamp_in (record_of 4 (J (shard_node K s)) b) < stamp_of r
-        by_kind b s lt (Done stamp c) t f = subst (λ d. stamp_in (record_of 4 (J (shard_node K s)) d) < stamp) (split_test 9 9 c b t).1 (f.2 s lt)
-        by_kind b s lt (Genesis header hs) t f = absurd (let z : false ≡ true = t in cc)
-        by_kind b s lt (Start header) t f = absurd (let z : false ≡ true = t in cc)
-        by_kind b s lt (Lock stamp c es) t f = absurd (let z : false ≡ true = t in cc)
-        by_kind b s lt (Finish stamp c ds) t f = absurd (let z : false ≡ true = t in cc)
-        by_kind b s lt (Forget stamp c) t f = absurd (let z : false ≡ true = t in cc)
-        by_kind b s lt (Prepare stamp c txs) t f = absurd (let z : false ≡ true = t in cc)
-        by_kind b s lt (Commit stamp c os) t f = absurd (let z : false ≡ true = t in cc)
-        by_kind b s lt (Discard stamp c) t f = absurd (let z : false ≡ true = t in cc)
+    done_younger b h s lt =
+        let f = found_done (J (b.lane / K.lanes)) b h in
+        subst (λ r. stamp_in (record_of 4 (J (shard_node K s)) b) < stamp_in r) (sym f.1)
+        ((standing K minting P shards later kept (b.lane / K.lanes) 9 b (Done f.0 b) f.1).2 s lt)
 
     pure : (s : ℕ) (b : Batch) → has_prepare (J (shard_node K s)) b ≡ false
     pure s b = (all_dones K minting P shards later kept (shard_node K s)).pure b (omega arith)
@@ -201,11 +174,7 @@ module _ (K : Shape) (minting : Minted) (P : Compact → Type 0) (shards : 0 < K
         to_kind kind (Done stamp c) e k p = absurd (by_done (Done stamp c) (subst (λ n. record_of n (J (shard_node K s)) (batch_at b.lane (slot (J (shard_node K s)) b.lane).number) ≡ Some (Done stamp c)) (sym k) e))
         to_kind kind (Genesis header hs) e k p = positive
         to_kind kind (Start header) e k p = positive
-        to_kind kind (Lock stamp c es) e k p = absurd (let z : InLock ≡ Idle = p in cc)
-        to_kind kind (Finish stamp c ds) e k p = absurd (let z : InFinish ≡ Idle = p in cc)
-        to_kind kind (Prepare stamp c txs) e k p = absurd (let z : InPrepare ≡ Idle = p in cc)
-        to_kind kind (Commit stamp c os) e k p = absurd (let z : InCommit ≡ Idle = p in cc)
-        to_kind kind (Discard stamp c) e k p = absurd (let z : InDiscard ≡ Idle = p in cc)
+        to_kind kind other e k p = cc
 
         by_last : LastIs (J (shard_node K s)) (batch_at b.lane (slot (J (shard_node K s)) b.lane).number) → slot_stamp (J (shard_node K s)) b.lane < cause
         by_last (nothing_yet z p) = let q : 0 < cause = positive in omega arith
@@ -257,37 +226,8 @@ module _ (K : Shape) (minting : Minted) (P : Compact → Type 0) (shards : 0 < K
     stamp_at : (s : ℕ) (b : Batch) → (slot (J (shard_node K s)) b.lane).number ≡ b.number
         → ((slot (J (shard_node K s)) b.lane).phase ≡ InLock → slot_stamp (J (shard_node K s)) b.lane ≡ stamp_in (record_of 2 (J (shard_node K s)) b))
         × ((slot (J (shard_node K s)) b.lane).phase ≡ InFinish → slot_stamp (J (shard_node K s)) b.lane ≡ stamp_in (record_of 3 (J (shard_node K s)) b))
-    stamp_at s b n = by_last (last_is (J (shard_node K s)) b n)
-      where
-        is_lock : (kind : ℕ) (r : Record) → record_of kind (J (shard_node K s)) b ≡ Some r → kind_of r ≡ kind → (slot_by (Some r)).phase ≡ InLock → record_of 2 (J (shard_node K s)) b ≡ Some r
-        is_lock kind (Lock stamp c es) e k p = subst (λ n. record_of n (J (shard_node K s)) b ≡ Some (Lock stamp c es)) (sym k) e
-        is_lock kind (Genesis header hs) e k p = absurd (let z : Idle ≡ InLock = p in cc)
-        is_lock kind (Start header) e k p = absurd (let z : Idle ≡ InLock = p in cc)
-        is_lock kind (Finish stamp c ds) e k p = absurd (let z : InFinish ≡ InLock = p in cc)
-        is_lock kind (Forget stamp c) e k p = absurd (let z : Idle ≡ InLock = p in cc)
-        is_lock kind (Prepare stamp c txs) e k p = absurd (let z : InPrepare ≡ InLock = p in cc)
-        is_lock kind (Commit stamp c os) e k p = absurd (let z : InCommit ≡ InLock = p in cc)
-        is_lock kind (Discard stamp c) e k p = absurd (let z : InDiscard ≡ InLock = p in cc)
-        is_lock kind (Done stamp c) e k p = absurd (let z : Idle ≡ InLock = p in cc)
-
-        is_finish : (kind : ℕ) (r : Record) → record_of kind (J (shard_node K s)) b ≡ Some r → kind_of r ≡ kind → (slot_by (Some r)).phase ≡ InFinish → record_of 3 (J (shard_node K s)) b ≡ Some r
-        is_finish kind (Finish stamp c ds) e k p = subst (λ n. record_of n (J (shard_node K s)) b ≡ Some (Finish stamp c ds)) (sym k) e
-        is_finish kind (Genesis header hs) e k p = absurd (let z : Idle ≡ InFinish = p in cc)
-        is_finish kind (Start header) e k p = absurd (let z : Idle ≡ InFinish = p in cc)
-        is_finish kind (Lock stamp c es) e k p = absurd (let z : InLock ≡ InFinish = p in cc)
-        is_finish kind (Forget stamp c) e k p = absurd (let z : Idle ≡ InFinish = p in cc)
-        is_finish kind (Prepare stamp c txs) e k p = absurd (let z : InPrepare ≡ InFinish = p in cc)
-        is_finish kind (Commit stamp c os) e k p = absurd (let z : InCommit ≡ InFinish = p in cc)
-        is_finish kind (Discard stamp c) e k p = absurd (let z : InDiscard ≡ InFinish = p in cc)
-        is_finish kind (Done stamp c) e k p = absurd (let z : Idle ≡ InFinish = p in cc)
-
-        by_last : LastIs (J (shard_node K s)) b
-            → ((slot (J (shard_node K s)) b.lane).phase ≡ InLock → slot_stamp (J (shard_node K s)) b.lane ≡ stamp_in (record_of 2 (J (shard_node K s)) b))
-            × ((slot (J (shard_node K s)) b.lane).phase ≡ InFinish → slot_stamp (J (shard_node K s)) b.lane ≡ stamp_in (record_of 3 (J (shard_node K s)) b))
-        by_last (nothing_yet z p) =
-            (λ q. absurd (let w : Idle ≡ InLock = sym p ∙ q in cc), λ q. absurd (let w : Idle ≡ InFinish = sym p ∙ q in cc))
-        by_last (of_kind kind r e w k p) =
-            (λ q. w ∙ sym (ap stamp_in (is_lock kind r e k (sym p ∙ q))), λ q. w ∙ sym (ap stamp_in (is_finish kind r e k (sym p ∙ q))))
+    stamp_at s b n =
+        (λ p. phase_stamp (J (shard_node K s)) b n InLock p (λ i. let z : Idle ≡ InLock = sym i ∙ p in cc), λ p. phase_stamp (J (shard_node K s)) b n InFinish p (λ i. let z : Idle ≡ InFinish = sym i ∙ p in cc))
 
     -- a finish
     pub finish_answered : (b : Batch) (cause : ℕ) (os : List Outcome) → record_of 7 (J (b.lane / K.lanes)) b ≡ Some (Commit cause b os) → (s : ℕ) → Concerned K (txs_of (J (b.lane / K.lanes)) b) s
@@ -305,24 +245,10 @@ module _ (K : Shape) (minting : Minted) (P : Compact → Type 0) (shards : 0 < K
         ]
       where
         decided : has_finish (J (shard_node K s)) b ≡ true → decisions_in (record_of 3 (J (shard_node K s)) b) ≡ decisions os (entries (lock_of (J (shard_node K s)) b))
-        decided h = elim (record_of 3 (J (shard_node K s)) b) as (λ r. record_of 3 (J (shard_node K s)) b ≡ r → is_some r ≡ true → decisions_in r ≡ decisions os (entries (lock_of (J (shard_node K s)) b))) [
-          | None ↦ λ e t. absurd (let z : false ≡ true = t in cc)
-          | Some r ↦ λ e t. by_kind r (found_passes 3 (J (shard_node K s)) b r e) (standing K minting P shards later kept (shard_node K s) 3 b r e)
-        ] refl h
-          where
-            by_kind : (r : Record) → ((kind_of r == 3) && is_of b r) ≡ true → Facts K (λ n. journal n (later ++ first_rows K minting)) (shard_node K s) r
-                → decisions_in (Some r) ≡ decisions os (entries (lock_of (J (shard_node K s)) b))
-            by_kind (Finish stamp d ds) t f =
-                (subst (λ a. ds ≡ decisions (outcomes_in (record_of 7 (J (a.lane / K.lanes)) a)) (entries (lock_of (J (shard_node K s)) a))) (split_test 3 3 d b t).1 f.2)
-                ∙ ap (λ r. decisions (outcomes_in r) (entries (lock_of (J (shard_node K s)) b))) stands
-            by_kind (Genesis header hs) t f = absurd (let z : false ≡ true = t in cc)
-            by_kind (Start header) t f = absurd (let z : false ≡ true = t in cc)
-            by_kind (Lock stamp d es) t f = absurd (let z : false ≡ true = t in cc)
-            by_kind (Forget stamp d) t f = absurd (let z : false ≡ true = t in cc)
-            by_kind (Prepare stamp d txs) t f = absurd (let z : false ≡ true = t in cc)
-            by_kind (Commit stamp d os) t f = absurd (let z : false ≡ true = t in cc)
-            by_kind (Discard stamp d) t f = absurd (let z : false ≡ true = t in cc)
-            by_kind (Done stamp d) t f = absurd (let z : false ≡ true = t in cc)
+        decided h =
+            let f = found_finish (J (shard_node K s)) b h in
+            ap decisions_in f.2 ∙ (standing K minting P shards later kept (shard_node K s) 3 b (Finish f.0 b f.1) f.2).2
+            ∙ ap (λ r. decisions (outcomes_in r) (entries (lock_of (J (shard_node K s)) b))) stands
 
         fits : Facts K (λ n. journal n (later ++ first_rows K minting)) (b.lane / K.lanes) (Commit cause b os) → has_lock (J (shard_node K s)) b ≡ true
             → FitsReplies (lock_of (J (shard_node K s)) b) (decisions os (entries (lock_of (J (shard_node K s)) b)))

@@ -33,6 +33,12 @@ pub record Writes (K : Shape) (id : Digest) (P : Compact → Type 0) (J : ℕ �
   pub stamp : stamp_of r ≤ suc top
   pub begun : IsNoPrepare r
 
+-- a record that is next at a node and caused, and in the grammar
+pub record IsDue (K : Shape) (id : Digest) (J : ℕ → List Record) (n : ℕ) (r : Record) : Type 0 where
+  pub next : Next K n (J n) r
+  pub caused : IsCaused K J n r
+  pub grammar : IsInGrammar (header_of K id n) r
+
 some_entries : (p : List Entry) (es : List Answered) → entries es ≡ p → is_no_part p ≡ false → 0 < length es
 some_entries p [] e h = absurd (let z : true ≡ false = ap is_no_part e ∙ h in cc)
 some_entries p (a ∷ es) e h = omega arith
@@ -41,15 +47,12 @@ decisions_length : (os : List Outcome) (es : List Answered) → length (decision
 decisions_length os [] = refl
 decisions_length os (a ∷ es) = ap (λ n. suc n) (decisions_length os es)
 
-greatest_le : (f : ℕ → ℕ) (top n : ℕ) → ((s : ℕ) → f s ≤ top) → greatest f n ≤ top
+pub greatest_le : (f : ℕ → ℕ) (top n : ℕ) → ((s : ℕ) → f s ≤ top) → greatest f n ≤ top
 greatest_le f top zero h = omega arith
 greatest_le f top (suc n) h = omega (arith, greatest_le f top n h, h n)
 
 stamped : (own cause top : ℕ) → own ≤ top → cause ≤ top → suc (max own cause) ≤ suc top
 stamped own cause top h g = omega arith
-
-early : (own cause top : ℕ) → own ≤ top → cause ≤ top → suc top ≤ 2 ^ 62 → (1 ≤ suc (max own cause)) × (suc (max own cause) ≤ 2 ^ 62)
-early own cause top h g room = (omega arith, omega arith)
 
 late : (own cause top : ℕ) → own ≤ top → cause ≤ top → suc top ≤ 2 ^ 62 + 2 ^ 20 → (1 ≤ suc (max own cause)) × (suc (max own cause) ≤ 2 ^ 62 + 2 ^ 20)
 late own cause top h g room = (omega arith, omega arith)
@@ -58,13 +61,62 @@ module _ (K : Shape) (minting : Minted) (P : Compact → Type 0) (shards : 0 < K
   abbrev J : ℕ → List Record
   J n = journal n (later ++ first_rows K minting)
 
+  at_shard : (s : ℕ) → s < K.shards → IsShard K (shard_node K s)
+  at_shard s lt = (omega arith, omega arith)
+
+  -- a Lock that is still to come, of a batch whose Prepare stands, and whose number is the lane's
+  module _ (b : Batch) (cause : ℕ) (txs : List Compact) (stands : record_of 6 (J (b.lane / K.lanes)) b ≡ Some (Prepare cause b txs))
+      (number : (slot (J (b.lane / K.lanes)) b.lane).number ≡ b.number) where
+    its_grammar : IsInGrammar (header_of K minting.id (b.lane / K.lanes)) (Prepare cause b txs)
+    its_grammar = found_grammar K minting P shards later kept (b.lane / K.lanes) 6 b (Prepare cause b txs) stands
+
+    not_past : (s : ℕ) → b.number < (slot (J (shard_node K s)) b.lane).number → ⊥
+    not_past s lt = let le = shard_number K minting P shards later kept b.lane s in omega arith
+
+    abbrev pub due_lock : ℕ → Record
+    due_lock s = Lock (suc (max (last_stamp (J (shard_node K s))) cause)) b (answered (J (shard_node K s)) b [] (part K.shards s 0 txs))
+
+    pub lock_next : (s : ℕ) → Concerned K txs s → has_lock (J (shard_node K s)) b ≡ false → suc (max (last_stamp (J (shard_node K s))) cause) ≤ 2 ^ 62
+        → IsDue K minting.id J (shard_node K s) (due_lock s)
+    lock_next s c missing in_time = by_answer (lock_answered K minting P shards later kept b cause txs stands s c.0)
+      where
+        same : entries (answered (J (shard_node K s)) b [] (part K.shards s 0 txs)) ≡ part K.shards s 0 txs
+        same = entries_answered (J (shard_node K s)) b (part K.shards s 0 txs) []
+
+        fits : Fits K s (J (shard_node K s)) b its_grammar.1 (holders K minting P shards later kept (shard_node K s)) 0 K.batch (length txs) (answered (J (shard_node K s)) b [] (part K.shards s 0 txs))
+        fits = part_fits K s (J (shard_node K s)) b its_grammar.1 (holders K minting P shards later kept (shard_node K s)) [] 0 K.batch txs (recursion_from_All IsCompact txs its_grammar.4) (omega (arith, its_grammar.3))
+
+        some : 0 < length (answered (J (shard_node K s)) b [] (part K.shards s 0 txs))
+        some = some_entries (part K.shards s 0 txs) (answered (J (shard_node K s)) b [] (part K.shards s 0 txs)) same c.1
+
+        locked : entries (lock_of (J (shard_node K s)) b) ≡ part K.shards s 0 txs → ⊥
+        locked e = let n = some_entries (part K.shards s 0 txs) (lock_of (J (shard_node K s)) b) e c.1 in let z = ap (λ fs. length fs) (no_lock (J (shard_node K s)) b missing) in omega arith
+
+        by_answer : LockAnswered (J (shard_node K s)) b (part K.shards s 0 txs) cause → IsDue K minting.id J (shard_node K s) (due_lock s)
+        by_answer (lock_stale (inl lt)) = absurd (not_past s lt)
+        by_answer (lock_stale (inr (e, i))) = absurd (true_false _ (locked_here K minting P shards later kept s b (finished_here K minting P shards later kept s b (forgot_here K minting P shards later kept s b its_grammar.1.1 e i))) missing)
+        by_answer (lock_stored n e) = absurd (locked e)
+        by_answer (lock_appends lt i after) = record {
+          next = (newer (last_stamp (J (shard_node K s))) cause, at_shard s c.0, i, lt, ap (λ p. answered (J (shard_node K s)) b [] p) (sym same), some);
+          caused = (
+            ap is_some stands,
+            (λ k e. same ∙ (let m : s ≡ k = omega arith in subst (λ m. part K.shards s 0 txs ≡ part K.shards m 0 txs) m refl) ∙ ap (λ r. part K.shards k 0 (txs_in r)) (sym stands)),
+            ap (λ r. suc (max (last_stamp (J (shard_node K s))) (stamp_in r))) (sym stands),
+          );
+          grammar = (
+            (omega arith, in_time),
+            its_grammar.1,
+            at_shard s c.0,
+            (some, omega (arith, fits.size, its_grammar.3)),
+            fits.rises,
+            All-from_recursion (IsEntry K (shard_node K s)) (answered (J (shard_node K s)) b [] (part K.shards s 0 txs)) fits.all,
+          );
+        }
+
   -- all last stamps are at most this, and there is one more
   module _ (top : ℕ) (low : (n : ℕ) → last_stamp (J n) ≤ top) (room : suc top ≤ 2 ^ 62 + 2 ^ 20) where
     low_at : (kind n : ℕ) (b : Batch) → stamp_in (record_of kind (J n) b) ≤ top
     low_at kind n b = omega (arith, (all_order K minting P shards later kept n).stamps_le kind b, low n)
-
-    at_shard : (s : ℕ) → s < K.shards → IsShard K (shard_node K s)
-    at_shard s lt = (omega arith, omega arith)
 
     -- of a batch whose Prepare stands, and whose number is the lane's
     module _ (b : Batch) (cause : ℕ) (txs : List Compact) (stands : record_of 6 (J (b.lane / K.lanes)) b ≡ Some (Prepare cause b txs))
@@ -72,55 +124,25 @@ module _ (K : Shape) (minting : Minted) (P : Compact → Type 0) (shards : 0 < K
       prepared : IsInGrammar (header_of K minting.id (b.lane / K.lanes)) (Prepare cause b txs)
       prepared = found_grammar K minting P shards later kept (b.lane / K.lanes) 6 b (Prepare cause b txs) stands
 
-      not_past : (s : ℕ) → b.number < (slot (J (shard_node K s)) b.lane).number → ⊥
-      not_past s lt = let le = shard_number K minting P shards later kept b.lane s in omega arith
-
       same_txs : txs_of (J (b.lane / K.lanes)) b ≡ txs
       same_txs = ap txs_in stands
 
       pub lock_writes : suc top ≤ 2 ^ 62 → (s : ℕ) → Concerned K txs s → has_lock (J (shard_node K s)) b ≡ false → Writes K minting.id P J (shard_node K s) b 2 top
-      lock_writes in_time s c missing = by_answer (lock_answered K minting P shards later kept b cause txs stands s c.0)
-        where
-          same : entries (answered (J (shard_node K s)) b [] (part K.shards s 0 txs)) ≡ part K.shards s 0 txs
-          same = entries_answered (J (shard_node K s)) b (part K.shards s 0 txs) []
-
-          low_cause : cause ≤ top
-          low_cause = let l : stamp_in (record_of 6 (J (b.lane / K.lanes)) b) ≤ top = low_at 6 (b.lane / K.lanes) b in subst (λ r. stamp_in r ≤ top) stands l
-
-          fits : Fits K s (J (shard_node K s)) b prepared.1 (holders K minting P shards later kept (shard_node K s)) 0 K.batch (length txs) (answered (J (shard_node K s)) b [] (part K.shards s 0 txs))
-          fits = part_fits K s (J (shard_node K s)) b prepared.1 (holders K minting P shards later kept (shard_node K s)) [] 0 K.batch txs (recursion_from_All IsCompact txs prepared.4) (omega (arith, prepared.3))
-
-          some : 0 < length (answered (J (shard_node K s)) b [] (part K.shards s 0 txs))
-          some = some_entries (part K.shards s 0 txs) (answered (J (shard_node K s)) b [] (part K.shards s 0 txs)) same c.1
-
-          locked : entries (lock_of (J (shard_node K s)) b) ≡ part K.shards s 0 txs → ⊥
-          locked e = let n = some_entries (part K.shards s 0 txs) (lock_of (J (shard_node K s)) b) e c.1 in let z = ap (λ fs. length fs) (no_lock (J (shard_node K s)) b missing) in omega arith
-
-          by_answer : LockAnswered (J (shard_node K s)) b (part K.shards s 0 txs) cause → Writes K minting.id P J (shard_node K s) b 2 top
-          by_answer (lock_stale (inl lt)) = absurd (not_past s lt)
-          by_answer (lock_stale (inr (e, i))) = absurd (true_false _ (locked_here K minting P shards later kept s b (finished_here K minting P shards later kept s b (forgot_here K minting P shards later kept s b prepared.1.1 e i))) missing)
-          by_answer (lock_stored n e) = absurd (locked e)
-          by_answer (lock_appends lt i after) = record {
-            r = Lock (suc (max (last_stamp (J (shard_node K s))) cause)) b (answered (J (shard_node K s)) b [] (part K.shards s 0 txs));
-            next = (newer (last_stamp (J (shard_node K s))) cause, at_shard s c.0, i, lt, ap (λ p. answered (J (shard_node K s)) b [] p) (sym same), some);
-            caused = (
-              ap is_some stands,
-              (λ k e. same ∙ (let m : s ≡ k = omega arith in subst (λ m. part K.shards s 0 txs ≡ part K.shards m 0 txs) m refl) ∙ ap (λ r. part K.shards k 0 (txs_in r)) (sym stands)),
-              ap (λ r. suc (max (last_stamp (J (shard_node K s))) (stamp_in r))) (sym stands),
-            );
+      lock_writes in_time s c missing =
+          let due = lock_next b cause txs stands number s c missing (omega (arith, stamped (last_stamp (J (shard_node K s))) cause top (low (shard_node K s)) low_cause, in_time)) in
+          record {
+            r = due_lock b cause txs stands number s;
+            next = due.next;
+            caused = due.caused;
             passes = tt;
-            grammar = (
-              early (last_stamp (J (shard_node K s))) cause top (low (shard_node K s)) low_cause in_time,
-              prepared.1,
-              at_shard s c.0,
-              (some, omega (arith, fits.size, prepared.3)),
-              fits.rises,
-              All-from_recursion (IsEntry K (shard_node K s)) (answered (J (shard_node K s)) b [] (part K.shards s 0 txs)) fits.all,
-            );
+            grammar = due.grammar;
             of_kind = same_batch_self b;
             stamp = stamped (last_stamp (J (shard_node K s))) cause top (low (shard_node K s)) low_cause;
             begun = tt;
           }
+        where
+          low_cause : cause ≤ top
+          low_cause = let l : stamp_in (record_of 6 (J (b.lane / K.lanes)) b) ≤ top = low_at 6 (b.lane / K.lanes) b in subst (λ r. stamp_in r ≤ top) stands l
 
       pub commit_writes : (slot (J (b.lane / K.lanes)) b.lane).phase ≡ InPrepare → AllHave K J 2 b → Writes K minting.id P J (b.lane / K.lanes) b 7 top
       commit_writes phase have = record {
@@ -202,7 +224,7 @@ module _ (K : Shape) (minting : Minted) (P : Compact → Type 0) (shards : 0 < K
           sized = let f = (lock_fits K minting P shards later kept (shard_node K s) b locked).size in let l = decisions_length os (lock_of (J (shard_node K s)) b) in (omega arith, omega arith)
 
           by_answer : FinishAnswered (J (shard_node K s)) b (decisions os (entries (lock_of (J (shard_node K s)) b))) stamp → Writes K minting.id P J (shard_node K s) b 3 top
-          by_answer (finish_stale (inl lt)) = absurd (not_past s lt)
+          by_answer (finish_stale (inl lt)) = absurd (not_past b cause txs stands number s lt)
           by_answer (finish_stale (inr (e, i))) = absurd (true_false _ (finished_here K minting P shards later kept s b (forgot_here K minting P shards later kept s b prepared.1.1 e i)) missing)
           by_answer (finish_stored n p e) = absurd (true_false _ ((all_dones K minting P shards later kept (shard_node K s)).finish_here b p n) missing)
           by_answer (finish_appends n p fit after) = record {
@@ -229,7 +251,7 @@ module _ (K : Shape) (minting : Minted) (P : Compact → Type 0) (shards : 0 < K
           low_discard = let l : stamp_in (record_of 8 (J (b.lane / K.lanes)) b) ≤ top = low_at 8 (b.lane / K.lanes) b in subst (λ r. stamp_in r ≤ top) discarded l
 
           by_answer : ForgetAnswered (J (shard_node K s)) b stamp → Writes K minting.id P J (shard_node K s) b 4 top
-          by_answer (forget_stale lt) = absurd (not_past s lt)
+          by_answer (forget_stale lt) = absurd (not_past b cause txs stands number s lt)
           by_answer (forget_stored n p) = absurd (true_false _ (forgot_here K minting P shards later kept s b prepared.1.1 n p) missing)
           by_answer (forget_appends n p after) = record {
             r = Forget (suc (max (last_stamp (J (shard_node K s))) stamp)) b;

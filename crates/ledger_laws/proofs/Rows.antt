@@ -1,8 +1,9 @@
 -- A history as a view, and how its journals change by a row.
-use Rattle.std.proofs.Common.{◌≡◌, ℕ, ◌+◌, true, false, ◌==◌, if◌then◌else◌, List, [], ◌∷◌, ◌++◌, refl, ap, ◌∙◌, subst, arith, append-nil}
+use Rattle.std.proofs.Common.{◌≡◌, ℕ, ◌+◌, ◌/◌, true, false, ◌==◌, if◌then◌else◌, List, [], ◌∷◌, ◌++◌, refl, ap, ◌∙◌, subst, arith, append-nil}
 use Rattle.cbdc_model.specs.History.{won_of, committed, newly_won, all_inputs, all_outputs}
+use Rattle.cbdc_model.specs.Outcomes.{won_txs}
 use Rattle.cbdc_model.specs.Ranges.{shard_of, shard_node, journal_at, lane_journal, part}
-use Rattle.cbdc_model.specs.Records.{Digest, Shape, Batch, Compact, Record, Row, journal, Genesis, Lock, Finish, Forget, Start, Prepare, Commit, Discard, Done, lock_of, txs_of}
+use Rattle.cbdc_model.specs.Records.{Digest, Shape, Batch, Compact, Record, Row, journal, Genesis, Finish, lock_of, txs_of, outcomes_of}
 use Rattle.cbdc_model.specs.Replies.{entries}
 use Rattle.cbdc_model.specs.Status.{status, held_inputs, made_outputs}
 use Rattle.ledger_laws.proofs.Next.{Next, has_lock, has_finish, has_prepare, has_commit, Each}
@@ -15,13 +16,7 @@ abbrev pub arrived : List Record → Digest → ℕ
 arrived [] x = 0
 arrived (Genesis header hs ∷ past) x = count x hs + arrived past x
 arrived (Finish stamp b ds ∷ past) x = count x (made_outputs (lock_of past b) ds) + arrived past x
-arrived (Lock stamp b es ∷ past) x = arrived past x
-arrived (Forget stamp b ∷ past) x = arrived past x
-arrived (Start header ∷ past) x = arrived past x
-arrived (Prepare stamp b txs ∷ past) x = arrived past x
-arrived (Commit stamp b os ∷ past) x = arrived past x
-arrived (Discard stamp b ∷ past) x = arrived past x
-arrived (Done stamp b ∷ past) x = arrived past x
+arrived (other ∷ past) x = arrived past x
 
 pub takes_of : Shape → List Row → Batch → Digest → ℕ
 takes_of K past b x = count x (all_inputs (won_of K past b))
@@ -89,6 +84,16 @@ module _ (K : Shape) (past : List Row) (row : Row)
       holds = λ b x. count x (held_inputs (unchanged (λ J. lock_of J b) (shard_node K (shard_of K.shards x)) row past (same_lock (journal (shard_node K (shard_of K.shards x)) past) b) i));
     }
 
+-- and so do those that no question about a journal looks at
+pub quiet_view : (K : Shape) (past : List Row) (row : Row) → ((J : List Record) (b : Batch) → lock_of (row.what ∷ J) b ≡ lock_of J b)
+    → ((J : List Record) (b : Batch) → has_finish (row.what ∷ J) b ≡ has_finish J b) → ((J : List Record) (x : Digest) → status (row.what ∷ J) x ≡ status J x)
+    → ((J : List Record) (x : Digest) → arrived (row.what ∷ J) x ≡ arrived J x) → ((J : List Record) (b : Batch) → txs_of (row.what ∷ J) b ≡ txs_of J b)
+    → ((J : List Record) (b : Batch) → outcomes_of (row.what ∷ J) b ≡ outcomes_of J b) → newly_won row.what (journal row.node past) ≡ []
+    → view K (row ∷ past) ≡ view K past
+quiet_view K past row locks finishes statuses arrivals txs outs none = same_view K past row locks finishes statuses arrivals
+    (λ b i. won_txs (unchanged (λ J. txs_of J b) (b.lane / K.lanes) row past (txs (lane_journal K past b) b) i)
+    (unchanged (λ J. outcomes_of J b) (b.lane / K.lanes) row past (outs (lane_journal K past b) b) i)) none
+
 -- whether a row stands in a node's journal
 pub data AtNode (m n : ℕ) : Type 0 where
   at : m ≡ n → AtNode m n
@@ -105,3 +110,12 @@ head_at row past n e = grind arith
 
 pub head_away : (row : Row) (past : List Row) (n : ℕ) → (row.node == n) ≡ false → journal n (row ∷ past) ≡ journal n past
 head_away row past n e = rw e
+
+pub journal-append : (n : ℕ) (xs ys : List Row) → journal n (xs ++ ys) ≡ journal n xs ++ journal n ys
+journal-append n [] ys = refl
+journal-append n (row ∷ xs) ys =
+    let ih : journal n (xs ++ ys) ≡ journal n xs ++ journal n ys = journal-append n xs ys in
+    elim (row.node == n) as (λ c. (if c then row.what ∷ journal n (xs ++ ys) else journal n (xs ++ ys)) ≡ (if c then row.what ∷ journal n xs else journal n xs) ++ journal n ys) [
+      | true ↦ ap (λ J. row.what ∷ J) ih
+      | false ↦ ih
+    ]

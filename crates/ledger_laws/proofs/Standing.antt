@@ -7,6 +7,7 @@ use Rattle.cbdc_model.specs.Ranges.{shard_node, part, Concerned}
 use Rattle.cbdc_model.specs.Records.{Shape, Batch, Compact, Record, Row, journal, record_of, kind_of, is_of, stamp_in, entries_in, txs_in, outcomes_in, Genesis, Lock, Finish, Forget, Start, Prepare, Commit, Discard, Done}
 use Rattle.cbdc_model.specs.Replies.{entries}
 use Rattle.ledger_laws.proofs.Next.{Next, Steady}
+use Rattle.ledger_laws.proofs.ByKind.{some_is, found_new}
 use Rattle.ledger_laws.proofs.Slots.{JournalOk}
 use Rattle.ledger_laws.proofs.More.{MoreOk}
 use Rattle.ledger_laws.proofs.Dones.{PhaseOk}
@@ -114,12 +115,6 @@ module _ (K : Shape) (P : Compact → Type 0) (past : List Row) (st : Structure 
       let e = keep 6 (b.lane / K.lanes) b f.0 in
       let s = shards_same 4 (inr (inr refl)) b f.1 in
       (subst (λ r. is_some r ≡ true) e f.0, all_have_same K (λ n. journal n past) (λ n. journal n (row ∷ past)) 4 b e s f.1, all_older_same K (λ n. journal n past) (λ n. journal n (row ∷ past)) 4 b stamp s f.2)
-
-some_is : (q r : Record) → Some q ≡ Some r → q ≡ r
-some_is q r e = cc
-
-found_new : (kind : ℕ) (q : Record) (J : List Record) (b : Batch) → ((kind_of q == kind) && is_of b q) ≡ true → record_of kind (q ∷ J) b ≡ Some q
-found_new kind q J b t = rw t
 
 -- of every record that stands in a kept history
 module _ (K : Shape) (minting : Minted) (P : Compact → Type 0) (shards : 0 < K.shards) where

@@ -5,18 +5,18 @@ use Rattle.cbdc_model.specs.Causes.{IsCaused}
 use Rattle.cbdc_model.specs.History.{won_of, committed, all_inputs, all_outputs}
 use Rattle.cbdc_model.specs.Outcomes.{won_txs, won_at, decisions, reply_at}
 use Rattle.cbdc_model.specs.Ranges.{shard_of, shard_node, journal_at, lane_journal, part, is_no_part, on_shard, is_empty}
-use Rattle.cbdc_model.specs.Records.{Digest, Shape, Batch, same_batch, Compact, Outcome, Answered, Entry, Reply, Record, Row, journal, is_held, is_won, Genesis, Lock, Finish, Forget, Start, Prepare, Commit, Discard, Done, lock_of, txs_of, outcomes_of}
+use Rattle.cbdc_model.specs.Records.{Digest, Shape, Batch, same_batch, Compact, Outcome, Answered, Entry, Reply, Record, Row, journal, is_held, is_won, Genesis, Lock, Finish, Start, Prepare, Commit, lock_of, txs_of, outcomes_of}
 use Rattle.cbdc_model.specs.Replies.{entries}
 use Rattle.cbdc_model.specs.Status.{Status, status, has, held_inputs, made_outputs, taken_inputs, returned_inputs, finished_status, Unspent, Locked, Absent}
 use Rattle.ledger_laws.proofs.Next.{Next, has_lock, has_finish, has_commit, Each}
 use Rattle.ledger_laws.proofs.Counts.{count, count-append, has-count, count-has}
 use Rattle.ledger_laws.proofs.Parts.{IsPart, is_part, won_by, won_by-won_txs, decided, count-made, count-taken, count-held, agrees, won-le-held, outcome_held, won_at-outcomes}
 use Rattle.ledger_laws.proofs.Replies.{answered_held, answered_once, EachOnce}
-use Rattle.ledger_laws.proofs.View.{Inv, same, other, same_or_not}
+use Rattle.ledger_laws.proofs.View.{View, measured, Inv, same, other, same_or_not}
 use Rattle.ledger_laws.proofs.LockStep.{Locks, lock_kept}
 use Rattle.ledger_laws.proofs.CommitStep.{Commits, Apart, commit_kept}
 use Rattle.ledger_laws.proofs.FinishStep.{Finishes, FinishesAt, here, elsewhere, finish_kept}
-use Rattle.ledger_laws.proofs.Rows.{Structure, unchanged, view, same_view, arrived, at, away, at_node, head_at, head_away}
+use Rattle.ledger_laws.proofs.Rows.{Structure, unchanged, view, same_view, quiet_view, arrived, at, away, at_node, head_at, head_away}
 use Rattle.ledger_laws.proofs.Lookups.{no_lock, no_commit, not_true, true_false, won_txs-nil, shard_of-lt}
 
 abbrev locks_at : Shape → List Row → Batch → ℕ → List Answered
@@ -26,22 +26,6 @@ module _ (K : Shape) (P : Compact → Type 0) (past : List Row) (st : Structure 
   -- a batch that is prepared and has no Commit yet
   no_finish : (b : Batch) → has_commit (lane_journal K past b) b ≡ false → (n : ℕ) → has_finish (journal n past) b ≡ false
   no_finish b h n = not_true _ (λ f. true_false _ (st.finish_committed n b f) h)
-
-  -- Forget, Discard, Done
-  pub forget_view : (node stamp : ℕ) (b : Batch) → view K (record { node = node; what = Forget stamp b } ∷ past) ≡ view K past
-  forget_view node stamp b = same_view K past (record { node = node; what = Forget stamp b }) (λ J c. refl) (λ J c. refl) (λ J x. refl) (λ J x. refl)
-      (λ c i. won_txs (unchanged (λ J. txs_of J c) (c.lane / K.lanes) (record { node = node; what = Forget stamp b }) past refl i)
-      (unchanged (λ J. outcomes_of J c) (c.lane / K.lanes) (record { node = node; what = Forget stamp b }) past refl i)) refl
-
-  pub discard_view : (node stamp : ℕ) (b : Batch) → view K (record { node = node; what = Discard stamp b } ∷ past) ≡ view K past
-  discard_view node stamp b = same_view K past (record { node = node; what = Discard stamp b }) (λ J c. refl) (λ J c. refl) (λ J x. refl) (λ J x. refl)
-      (λ c i. won_txs (unchanged (λ J. txs_of J c) (c.lane / K.lanes) (record { node = node; what = Discard stamp b }) past refl i)
-      (unchanged (λ J. outcomes_of J c) (c.lane / K.lanes) (record { node = node; what = Discard stamp b }) past refl i)) refl
-
-  pub done_view : (node stamp : ℕ) (b : Batch) → view K (record { node = node; what = Done stamp b } ∷ past) ≡ view K past
-  done_view node stamp b = same_view K past (record { node = node; what = Done stamp b }) (λ J c. refl) (λ J c. refl) (λ J x. refl) (λ J x. refl)
-      (λ c i. won_txs (unchanged (λ J. txs_of J c) (c.lane / K.lanes) (record { node = node; what = Done stamp b }) past refl i)
-      (unchanged (λ J. outcomes_of J c) (c.lane / K.lanes) (record { node = node; what = Done stamp b }) past refl i)) refl
 
   -- Prepare: the batch is new, so it has no Commit
   module _ (node stamp : ℕ) (b : Batch) (txs : List Compact) (next : Next K node (journal node past) (Prepare stamp b txs)) where
@@ -68,20 +52,116 @@ module _ (K : Shape) (P : Compact → Type 0) (past : List Row) (st : Structure 
     pub prepare_view : view K (record { node = node; what = Prepare stamp b txs } ∷ past) ≡ view K past
     prepare_view = same_view K past (record { node = node; what = Prepare stamp b txs }) (λ J c. refl) (λ J c. refl) (λ J x. refl) (λ J x. refl) prepare_won refl
 
-  -- Lock
+  -- Lock, by a measure of how often it holds a hash: the count itself, or whether it does at all
+  module _ (f : ℕ → ℕ) (f_none : f 0 ≡ 0) (f_some : (n : ℕ) → 0 < f n → 0 < n) (f_zero : (n : ℕ) → f n ≡ 0 → n ≡ 0) (node stamp : ℕ) (b : Batch) (es : List Answered)
+      (next : Next K node (journal node past) (Lock stamp b es)) (once : (x : Digest) → node ≡ shard_node K (shard_of K.shards x) → f (count x (held_inputs es)) ≤ 1) where
+    pub held_now : Digest → ℕ
+    held_now x = if node == shard_node K (shard_of K.shards x) then f (count x (held_inputs es)) else 0
+
+    now_at : (x : Digest) → node ≡ shard_node K (shard_of K.shards x) → held_now x ≡ f (count x (held_inputs es))
+    unfolding held_now
+    now_at x e = let t : (node == shard_node K (shard_of K.shards x)) ≡ true = grind arith in rw t
+
+    now_away : (x : Digest) → (node == shard_node K (shard_of K.shards x)) ≡ false → held_now x ≡ 0
+    unfolding held_now
+    now_away x e = rw e
+
+    es_held : (x : Digest) → 0 < count x (held_inputs es) → status (journal node past) x ≡ Unspent
+    es_held x h = (answered_held (journal node past) b [] (entries es) x (subst (λ a. 0 < count x (held_inputs a)) next.4 h)).0
+
+    unlocked : has_lock (journal node past) b ≡ false
+    unlocked = not_true _ (λ h. omega (arith, (st.journals node).lock_below b h, next.3))
+
+    unfinished : has_finish (journal node past) b ≡ false
+    unfinished = not_true _ (λ h. omega (arith, (st.journals node).finish_below b h, next.3))
+
+    same_itself : same_batch b b ≡ true
+    same_itself = grind arith
+
+    lock_of_head : (J : List Record) → lock_of (Lock stamp b es ∷ J) b ≡ es
+    lock_of_head J = rw same_itself
+
+    lock_of_behind : (c : Batch) (J : List Record) → same_batch b c ≡ false → lock_of (Lock stamp b es ∷ J) c ≡ lock_of J c
+    lock_of_behind c J e = rw e
+
+    -- the hash's journal, with the Lock or as it was
+    module _ (x : Digest) where
+      lock_was : 0 < held_now x → status (journal_at K past x) x ≡ Unspent
+      lock_was h = elim (at_node node (shard_node K (shard_of K.shards x))) [
+        | at e ↦ subst (λ n. status (journal n past) x ≡ Unspent) e (es_held x (f_some _ (omega (arith, now_at x e))))
+        | away e ↦ absurd (omega (arith, now_away x e))
+      ]
+
+      lock_once : held_now x ≤ 1
+      lock_once = elim (at_node node (shard_node K (shard_of K.shards x))) [
+        | at e ↦ omega (arith, now_at x e, once x e)
+        | away e ↦ omega (arith, now_away x e)
+      ]
+
+      none_before : node ≡ shard_node K (shard_of K.shards x) → f (count x (held_inputs (lock_of (journal_at K past x) b))) ≡ 0
+      none_before e = ap (λ a. f (count x (held_inputs a))) (no_lock (journal_at K past x) b (subst (λ n. has_lock (journal n past) b ≡ false) e unlocked)) ∙ f_none
+
+      lock_fresh : 0 < held_now x → (has_finish (journal_at K past x) b ≡ false) × (f (count x (held_inputs (lock_of (journal_at K past x) b))) ≡ 0)
+      lock_fresh h = elim (at_node node (shard_node K (shard_of K.shards x))) [
+        | at e ↦ (subst (λ n. has_finish (journal n past) b ≡ false) e unfinished, none_before e)
+        | away e ↦ absurd (omega (arith, now_away x e))
+      ]
+
+      lock_status : 0 < count x (held_inputs es) → status (Lock stamp b es ∷ journal_at K past x) x ≡ Locked b
+      lock_status h = rw (count-has x (held_inputs es) h)
+
+      lock_locked : 0 < held_now x → status (journal_at K (record { node = node; what = Lock stamp b es } ∷ past) x) x ≡ Locked b
+      lock_locked h = elim (at_node node (shard_node K (shard_of K.shards x))) [
+        | at e ↦ ap (λ J. status J x) (head_at (record { node = node; what = Lock stamp b es }) past _ e) ∙ lock_status (f_some _ (omega (arith, now_at x e)))
+        | away e ↦ absurd (omega (arith, now_away x e))
+      ]
+
+      lock_not_named : count x (held_inputs es) ≡ 0 → status (Lock stamp b es ∷ journal_at K past x) x ≡ status (journal_at K past x) x
+      lock_not_named z = grind (arith, has-count x (held_inputs es))
+
+      lock_others : held_now x ≡ 0 → status (journal_at K (record { node = node; what = Lock stamp b es } ∷ past) x) x ≡ status (journal_at K past x) x
+      lock_others z = elim (at_node node (shard_node K (shard_of K.shards x))) [
+        | at e ↦ ap (λ J. status J x) (head_at (record { node = node; what = Lock stamp b es }) past _ e) ∙ lock_not_named (f_zero _ (sym (now_at x e) ∙ z))
+        | away e ↦ ap (λ J. status J x) (head_away (record { node = node; what = Lock stamp b es }) past _ e)
+      ]
+
+      lock_holds : f (count x (held_inputs (lock_of (journal_at K (record { node = node; what = Lock stamp b es } ∷ past) x) b)))
+          ≡ f (count x (held_inputs (lock_of (journal_at K past x) b))) + held_now x
+      lock_holds = elim (at_node node (shard_node K (shard_of K.shards x))) [
+        | at e ↦
+            let now : f (count x (held_inputs (lock_of (journal_at K (record { node = node; what = Lock stamp b es } ∷ past) x) b))) ≡ f (count x (held_inputs es))
+            = ap (λ J. f (count x (held_inputs (lock_of J b)))) (head_at (record { node = node; what = Lock stamp b es }) past _ e)
+            ∙ ap (λ a. f (count x (held_inputs a))) (lock_of_head (journal_at K past x)) in
+            omega (arith, now, none_before e, now_at x e)
+        | away e ↦ omega (arith, now_away x e, ap (λ J. f (count x (held_inputs (lock_of J b)))) (head_away (record { node = node; what = Lock stamp b es }) past _ e))
+      ]
+
+      lock_other_batches : (c : Batch) → same_batch b c ≡ false
+          → f (count x (held_inputs (lock_of (journal_at K (record { node = node; what = Lock stamp b es } ∷ past) x) c))) ≡ f (count x (held_inputs (lock_of (journal_at K past x) c)))
+      lock_other_batches c o = ap (λ a. f (count x (held_inputs a))) (unchanged (λ J. lock_of J c) (shard_node K (shard_of K.shards x)) (record { node = node; what = Lock stamp b es }) past (lock_of_behind c (journal_at K past x) o))
+
+    pub lock_measured : Locks (measured f (view K past)) (measured f (view K (record { node = node; what = Lock stamp b es } ∷ past))) b held_now
+    lock_measured = record {
+      was = lock_was;
+      once = lock_once;
+      fresh = lock_fresh;
+      locked = lock_locked;
+      others = lock_others;
+      holds = lock_holds;
+      other_batches = λ c x o. lock_other_batches x c o;
+      arrived = λ x. unchanged (λ J. arrived J x) (shard_node K (shard_of K.shards x)) (record { node = node; what = Lock stamp b es }) past refl;
+      spent = λ x. ap (λ ts. count x (all_inputs ts)) (append-nil (committed past));
+      made = λ x. ap (λ ts. count x (all_outputs ts)) (append-nil (committed past));
+      takes = λ c x i. count x (all_inputs (won_txs (unchanged (λ J. txs_of J c) (c.lane / K.lanes) (record { node = node; what = Lock stamp b es }) past refl i)
+          (unchanged (λ J. outcomes_of J c) (c.lane / K.lanes) (record { node = node; what = Lock stamp b es }) past refl i)));
+      makes = λ c x i. count x (all_outputs (won_txs (unchanged (λ J. txs_of J c) (c.lane / K.lanes) (record { node = node; what = Lock stamp b es }) past refl i)
+          (unchanged (λ J. outcomes_of J c) (c.lane / K.lanes) (record { node = node; what = Lock stamp b es }) past refl i)));
+      finished = λ c x. unchanged (λ J. has_finish J c) (shard_node K (shard_of K.shards x)) (record { node = node; what = Lock stamp b es }) past refl;
+    }
+
+  -- the count itself, where each entry's inputs are apart
   module _ {hashes : Digest → ℕ} (apart : Apart hashes P) (node stamp : ℕ) (b : Batch) (es : List Answered)
       (next : Next K node (journal node past) (Lock stamp b es)) (caused : IsCaused K (λ n. journal n past) node (Lock stamp b es)) where
-    pub newly_held : Digest → ℕ
-    newly_held x = if node == shard_node K (shard_of K.shards x) then count x (held_inputs es) else 0
-
-    newly_at : (x : Digest) → node ≡ shard_node K (shard_of K.shards x) → newly_held x ≡ count x (held_inputs es)
-    unfolding newly_held
-    newly_at x e = grind arith
-
-    newly_away : (x : Digest) → (node == shard_node K (shard_of K.shards x)) ≡ false → newly_held x ≡ 0
-    unfolding newly_held
-    newly_away x e = rw e
-
     count-on_shard-le : (shards s : ℕ) (x : Digest) (xs : List Digest) → count x (on_shard shards s xs) ≤ count x xs
     count-on_shard-le shards s x [] = omega arith
     count-on_shard-le shards s x (y ∷ ys) = on_more shards s x y ys (count-on_shard-le shards s x ys)
@@ -99,107 +179,15 @@ module _ (K : Shape) (P : Compact → Type 0) (past : List Row) (st : Structure 
           | false ↦ (omega (arith, count-on_shard-le shards s x t.inputs, apart.inputs_once t x each.0), each_once shards s (suc k) x ts each.1)
         ]
 
-    es_held : (x : Digest) → 0 < count x (held_inputs es) → status (journal node past) x ≡ Unspent
-    es_held x h = (answered_held (journal node past) b [] (entries es) x (subst (λ a. 0 < count x (held_inputs a)) next.4 h)).0
-
     es_once : (x : Digest) (s : ℕ) → node ≡ shard_node K s → count x (held_inputs es) ≤ 1
     es_once x s is = subst (λ a. count x (held_inputs a) ≤ 1) (sym next.4) (answered_once (journal node past) b [] (entries es) x
         (subst (λ p. EachOnce x p) (sym (caused.1 s is)) (each_once K.shards s 0 x (txs_of (lane_journal K past b) b) (st.proper b))))
 
-    unlocked : has_lock (journal node past) b ≡ false
-    unlocked = not_true _ (λ h. omega (arith, (st.journals node).lock_below b h, next.3))
-
-    unfinished : has_finish (journal node past) b ≡ false
-    unfinished = not_true _ (λ h. omega (arith, (st.journals node).finish_below b h, next.3))
-
-    after : List Row
-    after = record { node = node; what = Lock stamp b es } ∷ past
-
-    -- the hash's journal, with the Lock or as it was
-    module _ (x : Digest) where
-      lock_was : 0 < newly_held x → status (journal_at K past x) x ≡ Unspent
-      lock_was h = elim (at_node node (shard_node K (shard_of K.shards x))) [
-        | at e ↦ subst (λ n. status (journal n past) x ≡ Unspent) e (es_held x (omega (arith, newly_at x e)))
-        | away e ↦ absurd (omega (arith, newly_away x e))
-      ]
-
-      lock_once : newly_held x ≤ 1
-      lock_once = elim (at_node node (shard_node K (shard_of K.shards x))) [
-        | at e ↦ omega (arith, newly_at x e, es_once x (shard_of K.shards x) e)
-        | away e ↦ omega (arith, newly_away x e)
-      ]
-
-      lock_fresh : 0 < newly_held x → (has_finish (journal_at K past x) b ≡ false) × (count x (held_inputs (lock_of (journal_at K past x) b)) ≡ 0)
-      lock_fresh h = elim (at_node node (shard_node K (shard_of K.shards x))) [
-        | at e ↦ (
-          subst (λ n. has_finish (journal n past) b ≡ false) e unfinished,
-          ap (λ a. count x (held_inputs a)) (no_lock (journal_at K past x) b (subst (λ n. has_lock (journal n past) b ≡ false) e unlocked)),
-        )
-        | away e ↦ absurd (omega (arith, newly_away x e))
-      ]
-
-      lock_status : (n : ℕ) → 0 < n → count x (held_inputs es) ≡ n → status (Lock stamp b es ∷ journal_at K past x) x ≡ Locked b
-      lock_status n h e = rw (count-has x (held_inputs es) (omega arith))
-
-      lock_locked : 0 < newly_held x → status (journal_at K (record { node = node; what = Lock stamp b es } ∷ past) x) x ≡ Locked b
-      lock_locked h = elim (at_node node (shard_node K (shard_of K.shards x))) [
-        | at e ↦ ap (λ J. status J x) (head_at (record { node = node; what = Lock stamp b es }) past _ e) ∙ lock_status (newly_held x) h (sym (newly_at x e))
-        | away e ↦ absurd (omega (arith, newly_away x e))
-      ]
-
-      lock_not_named : count x (held_inputs es) ≡ 0 → status (Lock stamp b es ∷ journal_at K past x) x ≡ status (journal_at K past x) x
-      lock_not_named z = grind (arith, has-count x (held_inputs es))
-
-      lock_others : newly_held x ≡ 0 → status (journal_at K (record { node = node; what = Lock stamp b es } ∷ past) x) x ≡ status (journal_at K past x) x
-      lock_others z = elim (at_node node (shard_node K (shard_of K.shards x))) [
-        | at e ↦ ap (λ J. status J x) (head_at (record { node = node; what = Lock stamp b es }) past _ e) ∙ lock_not_named (sym (newly_at x e) ∙ z)
-        | away e ↦ ap (λ J. status J x) (head_away (record { node = node; what = Lock stamp b es }) past _ e)
-      ]
-
-      lock_of_head : (c : Batch) (J : List Record) → same_batch b c ≡ true → lock_of (Lock stamp b es ∷ J) c ≡ es
-      lock_of_head c J e = rw e
-
-      lock_of_behind : (c : Batch) (J : List Record) → same_batch b c ≡ false → lock_of (Lock stamp b es ∷ J) c ≡ lock_of J c
-      lock_of_behind c J e = rw e
-
-      self : same_batch b b ≡ true
-      self = grind arith
-
-      lock_holds : count x (held_inputs (lock_of (journal_at K (record { node = node; what = Lock stamp b es } ∷ past) x) b))
-          ≡ count x (held_inputs (lock_of (journal_at K past x) b)) + newly_held x
-      lock_holds = elim (at_node node (shard_node K (shard_of K.shards x))) [
-        | at e ↦
-            let now : count x (held_inputs (lock_of (journal_at K (record { node = node; what = Lock stamp b es } ∷ past) x) b)) ≡ count x (held_inputs es)
-            = ap (λ J. count x (held_inputs (lock_of J b))) (head_at (record { node = node; what = Lock stamp b es }) past _ e)
-            ∙ ap (λ a. count x (held_inputs a)) (lock_of_head b (journal_at K past x) self) in
-            let before : count x (held_inputs (lock_of (journal_at K past x) b)) ≡ 0
-            = ap (λ a. count x (held_inputs a)) (no_lock (journal_at K past x) b (subst (λ n. has_lock (journal n past) b ≡ false) e unlocked)) in
-            omega (arith, now, before, newly_at x e)
-        | away e ↦ omega (arith, newly_away x e, ap (λ J. count x (held_inputs (lock_of J b))) (head_away (record { node = node; what = Lock stamp b es }) past _ e))
-      ]
-
-      lock_other_batches : (c : Batch) → same_batch b c ≡ false
-          → count x (held_inputs (lock_of (journal_at K (record { node = node; what = Lock stamp b es } ∷ past) x) c)) ≡ count x (held_inputs (lock_of (journal_at K past x) c))
-      lock_other_batches c o = ap (λ a. count x (held_inputs a)) (unchanged (λ J. lock_of J c) (shard_node K (shard_of K.shards x)) (record { node = node; what = Lock stamp b es }) past (lock_of_behind c (journal_at K past x) o))
-
-    pub lock_changes : Locks (view K past) (view K (record { node = node; what = Lock stamp b es } ∷ past)) b newly_held
-    lock_changes = record {
-      was = lock_was;
-      once = lock_once;
-      fresh = lock_fresh;
-      locked = lock_locked;
-      others = lock_others;
-      holds = lock_holds;
-      other_batches = λ c x o. lock_other_batches x c o;
-      arrived = λ x. unchanged (λ J. arrived J x) (shard_node K (shard_of K.shards x)) (record { node = node; what = Lock stamp b es }) past refl;
-      spent = λ x. ap (λ ts. count x (all_inputs ts)) (append-nil (committed past));
-      made = λ x. ap (λ ts. count x (all_outputs ts)) (append-nil (committed past));
-      takes = λ c x i. count x (all_inputs (won_txs (unchanged (λ J. txs_of J c) (c.lane / K.lanes) (record { node = node; what = Lock stamp b es }) past refl i)
-          (unchanged (λ J. outcomes_of J c) (c.lane / K.lanes) (record { node = node; what = Lock stamp b es }) past refl i)));
-      makes = λ c x i. count x (all_outputs (won_txs (unchanged (λ J. txs_of J c) (c.lane / K.lanes) (record { node = node; what = Lock stamp b es }) past refl i)
-          (unchanged (λ J. outcomes_of J c) (c.lane / K.lanes) (record { node = node; what = Lock stamp b es }) past refl i)));
-      finished = λ c x. unchanged (λ J. has_finish J c) (shard_node K (shard_of K.shards x)) (record { node = node; what = Lock stamp b es }) past refl;
-    }
+    pub lock_changes : (held : Digest → ℕ) × Locks (view K past) (view K (record { node = node; what = Lock stamp b es } ∷ past)) b held
+    lock_changes = (
+      held_now (λ n. n) refl (λ n h. h) (λ n e. e) node stamp b es next (λ x e. es_once x (shard_of K.shards x) e),
+      lock_measured (λ n. n) refl (λ n h. h) (λ n e. e) node stamp b es next (λ x e. es_once x (shard_of K.shards x) e),
+    )
 
   -- Commit
   module _ (node stamp : ℕ) (b : Batch) (os : List Outcome) (shards : 0 < K.shards)
@@ -413,22 +401,32 @@ module _ (K : Shape) (P : Compact → Type 0) (past : List Row) (st : Structure 
       holds = λ c x. ap (λ a. count x (held_inputs a)) (unchanged (λ J. lock_of J c) (shard_node K (shard_of K.shards x)) (record { node = node; what = Finish stamp b ds }) past refl);
     }
 
+-- what a row that is next and caused does to the view: nothing, or what its Lock, its Commit or its Finish does
+pub data ViewStep (P : Compact → Type 0) (v w : View) : Type 0 where
+  no_change : w ≡ v → ViewStep P v w
+  by_lock : (b : Batch) (held : Digest → ℕ) → Locks v w b held → ViewStep P v w
+  by_commit : (b : Batch) (ts : List Compact) → Commits P v w b ts → ViewStep P v w
+  by_finish : (b : Batch) → Finishes v w b → ViewStep P v w
+
+pub view_step : (K : Shape) (P : Compact → Type 0) {genesis : Digest → ℕ} (past : List Row) → 0 < K.shards → Apart genesis P → Structure K P past
+    → (node : ℕ) (r : Record) → Next K node (journal node past) r → IsCaused K (λ n. journal n past) node r → ViewStep P (view K past) (view K (record { node = node; what = r } ∷ past))
+view_step K P past shards apart st node (Genesis header hs) next caused = absurd next
+view_step K P past shards apart st node (Start header) next caused = absurd next
+view_step K P past shards apart st node (Lock stamp b es) next caused =
+    let step = lock_changes K P past st apart node stamp b es next caused in by_lock b step.0 step.1
+view_step K P past shards apart st node (Finish stamp b ds) next caused = by_finish b (finish_changes K P past st node stamp b ds next caused)
+view_step K P past shards apart st node (Prepare stamp b txs) next caused = no_change (prepare_view K P past st node stamp b txs next)
+view_step K P past shards apart st node (Commit stamp b os) next caused =
+    by_commit b (newly K P past st node stamp b os shards next caused) (commit_changes K P past st node stamp b os shards next caused)
+view_step K P past shards apart st node another next caused =
+    no_change (quiet_view K past (record { node = node; what = another }) (λ J c. refl) (λ J c. refl) (λ J x. refl) (λ J x. refl) (λ J c. refl) (λ J c. refl) refl)
+
 -- any row that is next and caused keeps the invariant
 pub inv_next : (K : Shape) (P : Compact → Type 0) (genesis : Digest → ℕ) (past : List Row) → 0 < K.shards → Apart genesis P → Structure K P past → Inv genesis P (view K past)
     → (node : ℕ) (r : Record) → Next K node (journal node past) r → IsCaused K (λ n. journal n past) node r → Inv genesis P (view K (record { node = node; what = r } ∷ past))
-inv_next K P genesis past shards apart st inv node (Genesis header hs) next caused = absurd next
-inv_next K P genesis past shards apart st inv node (Start header) next caused = absurd next
-inv_next K P genesis past shards apart st inv node (Lock stamp b es) next caused =
-    lock_kept inv b (newly_held K P past st apart node stamp b es next caused) (lock_changes K P past st apart node stamp b es next caused)
-inv_next K P genesis past shards apart st inv node (Finish stamp b ds) next caused =
-    finish_kept inv b (finish_changes K P past st node stamp b ds next caused)
-inv_next K P genesis past shards apart st inv node (Forget stamp b) next caused =
-    subst (λ v. Inv genesis P v) (sym (forget_view K P past st node stamp b)) inv
-inv_next K P genesis past shards apart st inv node (Prepare stamp b txs) next caused =
-    subst (λ v. Inv genesis P v) (sym (prepare_view K P past st node stamp b txs next)) inv
-inv_next K P genesis past shards apart st inv node (Commit stamp b os) next caused =
-    commit_kept apart inv b (newly K P past st node stamp b os shards next caused) (commit_changes K P past st node stamp b os shards next caused)
-inv_next K P genesis past shards apart st inv node (Discard stamp b) next caused =
-    subst (λ v. Inv genesis P v) (sym (discard_view K P past st node stamp b)) inv
-inv_next K P genesis past shards apart st inv node (Done stamp b) next caused =
-    subst (λ v. Inv genesis P v) (sym (done_view K P past st node stamp b)) inv
+inv_next K P genesis past shards apart st inv node r next caused = elim (view_step K P past shards apart st node r next caused) [
+  | no_change e ↦ subst (λ v. Inv genesis P v) (sym e) inv
+  | by_lock b held step ↦ lock_kept inv b held step
+  | by_commit b ts step ↦ commit_kept apart inv b ts step
+  | by_finish b step ↦ finish_kept inv b step
+]

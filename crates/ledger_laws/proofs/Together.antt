@@ -1,35 +1,26 @@
 -- What all lanes of a wave made keeps the world.
-use Rattle.std.proofs.Common.{◌≡◌, ◌⊎◌, inl, inr, ℕ, suc, ◌+◌, ◌<◌, ◌≤◌, true, false, ◌==◌, nat_lt, List, [], ◌∷◌, ◌++◌, Some, length, length-append, refl, sym, ap, ◌∙◌, subst, arith, append_assoc}
+use Rattle.std.proofs.Common.{◌≡◌, ◌⊎◌, inl, inr, ℕ, suc, ◌+◌, ◌<◌, ◌≤◌, true, false, nat_lt, List, [], ◌∷◌, ◌++◌, Some, length, length-append, refl, sym, ap, ◌∙◌, subst, arith, append_assoc}
 use Rattle.cbdc_model.specs.Causes.{IsCaused}
 use Rattle.cbdc_model.specs.History.{header_of, first_rows, Minted}
 use Rattle.cbdc_model.specs.Lanes.{IsEnd, Seen, Holds, may_come, first_of, AllPass, Wave}
-use Rattle.cbdc_model.specs.Records.{Shape, Compact, Record, Row, journal, stamp_of, last_stamp, is_in_lane, Genesis, Lock, Finish, Forget, Start, Prepare, Commit, Discard, Done}
+use Rattle.cbdc_model.specs.Records.{Shape, Compact, Record, Row, journal, stamp_of, last_stamp, is_in_lane, Prepare}
 use Rattle.cbdc_model.specs.World.{replaced, World, node_at, journals}
 use Rattle.cbdc_model.specs.Grammar.{IsInGrammar}
 use Rattle.cbdc_model.specs.After.{After}
 use Rattle.ledger_laws.proofs.Ledger.{next_behind, each_is, SteadyJournals, SteadyLists, EachSteady, SteadyWorld}
 use Rattle.ledger_laws.proofs.Next.{Next, Steady, AllProper}
-use Rattle.ledger_laws.proofs.Rows.{at, away, at_node, head_at, head_away}
+use Rattle.ledger_laws.proofs.ByKind.{lane_in, in_own_lane, next_not_first, after_stamp, at_a_node}
+use Rattle.ledger_laws.proofs.Rows.{at, away, at_node, head_at, head_away, journal-append}
 use Rattle.ledger_laws.proofs.Locals.{local_kept}
-use Rattle.ledger_laws.proofs.Cuts.{cut, end_self, end_trans, seen_grows}
+use Rattle.ledger_laws.proofs.Cuts.{cut, end_self, end_trans, seen_grows, cons_same}
 use Rattle.ledger_laws.proofs.Finds.{replaced_at, replaced_away, now_caused}
 use Rattle.ledger_laws.proofs.Merge.{AllBelow, Rising, below_more, merged, Merged, merge}
-
-journal-append : (n : ℕ) (A B : List Row) → journal n (A ++ B) ≡ journal n A ++ journal n B
-journal-append n [] B = refl
-journal-append n (a ∷ A) B = elim (at_node a.node n) [
-  | at e ↦ head_at a (A ++ B) n e ∙ ap (λ J. a.what ∷ J) (journal-append n A B) ∙ ap (λ J. J ++ journal n B) (sym (head_at a A n e))
-  | away e ↦ head_away a (A ++ B) n e ∙ journal-append n A B ∙ ap (λ J. J ++ journal n B) (sym (head_away a A n e))
-]
 
 pub no_room : (J newer rest : List Record) (r : Record) (more : List Record) → rest ≡ more ++ J → J ≡ newer ++ r ∷ rest → ⊥
 no_room J newer rest r more h e =
     let l : length J ≡ length newer + suc (length rest) = ap length e ∙ simp length-append in
     let m : length rest ≡ length more + length J = ap length h ∙ simp length-append in
     omega arith
-
-cons_same : (a b : Record) (A B : List Record) → a ∷ A ≡ b ∷ B → (a ≡ b) × (A ≡ B)
-cons_same a b A B e = (cc, cc)
 
 -- with its own journal put back, a list of journals is as before
 itself : (J : ℕ → List Record) (n : ℕ) (own : List Record) → own ≡ J n → (m : ℕ) → replaced J n own m ≡ J m
@@ -89,29 +80,6 @@ module _ (K : Shape) (minting : Minted) (P : Compact → Type 0) (shards : 0 < K
   pub world_lists : (w : World) → SteadyWorld K minting P w → SteadyLists K minting P (journals w)
   world_lists w kept = subst (λ J. SteadyLists K minting P J) (λ i n. kept.history n i) (lists_of kept.later kept.kept)
 
-  -- stamps rise in each journal
-  after_stamp : (n : ℕ) (J : List Record) (r : Record) → Next K n J r → last_stamp J < stamp_of r
-  after_stamp n J (Genesis header hs) next = absurd next
-  after_stamp n J (Start header) next = absurd next
-  after_stamp n J (Lock stamp b es) next = next.0
-  after_stamp n J (Finish stamp b ds) next = next.0
-  after_stamp n J (Forget stamp b) next = next.0
-  after_stamp n J (Prepare stamp b txs) next = next.0
-  after_stamp n J (Commit stamp b os) next = next.0
-  after_stamp n J (Discard stamp b) next = next.0
-  after_stamp n J (Done stamp b) next = next.0
-
-  after_node : (n : ℕ) (J : List Record) (r : Record) → Next K n J r → n < K.coordinators + K.shards
-  after_node n J (Genesis header hs) next = absurd next
-  after_node n J (Start header) next = absurd next
-  after_node n J (Lock stamp b es) next = next.1.1
-  after_node n J (Finish stamp b ds) next = next.1.1
-  after_node n J (Forget stamp b) next = next.1.1
-  after_node n J (Prepare stamp b txs) next = omega (arith, next.1)
-  after_node n J (Commit stamp b os) next = omega (arith, next.1)
-  after_node n J (Discard stamp b) next = omega (arith, next.1)
-  after_node n J (Done stamp b) next = omega (arith, next.1)
-
   module _ (X : ℕ → List Record) (kept : SteadyLists K minting P X) where
     abbrev later_of : ℕ → List Record
     later_of n = (kept.begins n).0
@@ -121,7 +89,7 @@ module _ (K : Shape) (minting : Minted) (P : Compact → Type 0) (shards : 0 < K
     rising_of n newer (r ∷ more) e =
         let rest : Rising more = rising_of n (newer ++ r ∷ []) more (e ∙ sym (append_assoc newer (r ∷ []) more)) in
         let place : X n ≡ newer ++ r ∷ (more ++ first_of K minting n) = (kept.begins n).1 ∙ ap (λ L. L ++ first_of K minting n) e ∙ append_assoc newer (r ∷ more) (first_of K minting n) in
-        let lt : last_stamp (more ++ first_of K minting n) < stamp_of r = after_stamp n (more ++ first_of K minting n) r (kept.each n newer (more ++ first_of K minting n) r place (more, refl)).0 in
+        let lt : last_stamp (more ++ first_of K minting n) < stamp_of r = after_stamp K n (more ++ first_of K minting n) r (kept.each n newer (more ++ first_of K minting n) r place (more, refl)).0 in
         (all_below more (first_of K minting n) (stamp_of r) lt rest, rest)
       where
         all_below : (more F : List Record) (s : ℕ) → last_stamp (more ++ F) < s → Rising more → AllBelow more s
@@ -135,7 +103,7 @@ module _ (K : Shape) (minting : Minted) (P : Compact → Type 0) (shards : 0 < K
         go [] e = e
         go (r ∷ more) e = absurd (
             let place : X n ≡ [] ++ r ∷ (more ++ first_of K minting n) = (kept.begins n).1 ∙ ap (λ L. L ++ first_of K minting n) e in
-            let lt : n < K.coordinators + K.shards = after_node n (more ++ first_of K minting n) r (kept.each n [] (more ++ first_of K minting n) r place (more, refl)).0 in
+            let lt : n < K.coordinators + K.shards = at_a_node K n (more ++ first_of K minting n) r (kept.each n [] (more ++ first_of K minting n) r place (more, refl)).0 in
             omega arith)
 
     rows : List Row
@@ -202,14 +170,7 @@ module _ (K : Shape) (minting : Minted) (P : Compact → Type 0) (shards : 0 < K
 
   proper_of : (pieces : List (List Compact)) → AllPass P pieces → (r : Record) → Holds pieces r → AllProper P r
   proper_of pieces pass (Prepare stamp b txs) h = each_is P txs (pass txs h)
-  proper_of pieces pass (Genesis header hs) h = tt
-  proper_of pieces pass (Lock stamp b es) h = tt
-  proper_of pieces pass (Finish stamp b ds) h = tt
-  proper_of pieces pass (Forget stamp b) h = tt
-  proper_of pieces pass (Start header) h = tt
-  proper_of pieces pass (Commit stamp b os) h = tt
-  proper_of pieces pass (Discard stamp b) h = tt
-  proper_of pieces pass (Done stamp b) h = tt
+  proper_of pieces pass other h = tt
 
   -- THE lemma of a wave: kept journals, and what each lane made as it saw it, give kept journals
   pub wave_keeps : (pieces : ℕ → List (List Compact)) → ((lane : ℕ) → AllPass P (pieces lane)) → (E X : ℕ → List Record) → SteadyLists K minting P E → Wave K minting pieces E X → SteadyLists K minting P X
@@ -240,16 +201,8 @@ module _ (K : Shape) (minting : Minted) (P : Compact → Type 0) (shards : 0 < K
         ]
       ]
 
-      same : (n : ℕ) → (n == n) ≡ true
-      same n = grind arith
-
       fresh : (n : ℕ) (newer rest : List Record) (r : Record) → X n ≡ newer ++ r ∷ rest → IsEnd (E n) rest → Next K n rest r × Seen K X n rest r × AllProper P r × IsInGrammar (header_of K minting.id n) r
-      fresh n newer rest (Genesis header hs) e h = absurd (next_here n rest (Genesis header hs) h (wave.next n newer rest (Genesis header hs) e h))
-      fresh n newer rest (Start header) e h = absurd (next_here n rest (Start header) h (wave.next n newer rest (Start header) e h))
-      fresh n newer rest (Lock stamp b es) e h = of_lane b.lane n newer rest (Lock stamp b es) e h (same b.lane) (wave.next n newer rest (Lock stamp b es) e h)
-      fresh n newer rest (Finish stamp b ds) e h = of_lane b.lane n newer rest (Finish stamp b ds) e h (same b.lane) (wave.next n newer rest (Finish stamp b ds) e h)
-      fresh n newer rest (Forget stamp b) e h = of_lane b.lane n newer rest (Forget stamp b) e h (same b.lane) (wave.next n newer rest (Forget stamp b) e h)
-      fresh n newer rest (Prepare stamp b txs) e h = of_lane b.lane n newer rest (Prepare stamp b txs) e h (same b.lane) (wave.next n newer rest (Prepare stamp b txs) e h)
-      fresh n newer rest (Commit stamp b os) e h = of_lane b.lane n newer rest (Commit stamp b os) e h (same b.lane) (wave.next n newer rest (Commit stamp b os) e h)
-      fresh n newer rest (Discard stamp b) e h = of_lane b.lane n newer rest (Discard stamp b) e h (same b.lane) (wave.next n newer rest (Discard stamp b) e h)
-      fresh n newer rest (Done stamp b) e h = of_lane b.lane n newer rest (Done stamp b) e h (same b.lane) (wave.next n newer rest (Done stamp b) e h)
+      fresh n newer rest r e h = elim (in_own_lane r) [
+        | inl first ↦ absurd (next_not_first K n rest r (next_here n rest r h (wave.next n newer rest r e h)) first)
+        | inr own ↦ of_lane (lane_in r) n newer rest r e h own (wave.next n newer rest r e h)
+      ]

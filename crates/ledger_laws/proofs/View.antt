@@ -3,6 +3,7 @@ use Rattle.std.proofs.Common.{◌≡◌, ℕ, zero, suc, ◌+◌, ◌<◌, ◌�
 use Rattle.cbdc_model.specs.Records.{Digest, Batch, Compact, same_batch}
 use Rattle.cbdc_model.specs.Status.{Status, Unspent, Locked, Absent}
 use Rattle.ledger_laws.proofs.Counts.{count}
+pub use Rattle.ledger_laws.proofs.ByKind.{same_batch_is}
 
 pub record View : Type 0 where
   pub status : Digest → Status
@@ -17,6 +18,10 @@ pub record View : Type 0 where
   -- whether the batch's Finish stands at the hash's shard, and how often its Lock there holds the hash
   pub finished : Batch → Digest → Bool
   pub holds : Batch → Digest → ℕ
+
+-- a view with a measure of how often a Lock holds a hash in place of the count
+abbrev pub measured : (ℕ → ℕ) → View → View
+measured f v = record v { holds = λ b x. f (v.holds b x) }
 
 -- a made hash whose Finish at its shard does not stand
 pub record Awaited (v : View) (x : Digest) : Type 0 where
@@ -40,12 +45,6 @@ pub record Inv (genesis : Digest → ℕ) (P : Compact → Type 0) (v : View) : 
   pub pending : (x : Digest) (b : Batch) → 0 < v.makes b x → v.finished b x ≡ false → v.arrived x ≡ 0
   pub awaited : (x : Digest) → v.arrived x ≡ 0 → 0 < genesis x + v.made x → Awaited v x
   pub respent : (t : Compact) (x y : Digest) → P t → 0 < count x t.outputs → 0 < v.made x → 0 < count y t.inputs → 0 < v.spent y
-
-pub same_batch_is : (a b : Batch) → same_batch a b ≡ true → a ≡ b
-same_batch_is a b h =
-    let l : a.lane ≡ b.lane = grind arith in
-    let n : a.number ≡ b.number = grind arith in
-    λ i. record { lane = l i; number = n i }
 
 no_self : (b : Batch) → same_batch b b ≡ false → ⊥
 no_self b h = grind arith

@@ -1,8 +1,7 @@
 -- A hash that is locked for no committed transaction is one of an entry that isn't committed.
 use Rattle.std.proofs.Common.{◌≡◌, ◌⊎◌, inl, inr, ℕ, zero, suc, ◌+◌, ◌<◌, ◌≤◌, ◌/◌, Bool, true, false, if◌then◌else◌, List, [], ◌∷◌, ◌++◌, Option, Some, None, is_some, Contains, refl, sym, ap, ◌∙◌, subst, arith}
-use Rattle.cbdc_model.specs.Records.{Digest, Shape, Batch, Compact, Record, Row, Answered, is_held, journal, record_of, lock_of, txs_of, outcomes_of, entries_in, outcomes_in, Genesis, Lock, Finish, Forget, Start, Prepare, Commit, Discard, Done}
+use Rattle.cbdc_model.specs.Records.{Digest, Shape, Batch, Compact, Record, Row, Answered, is_held, journal, record_of, lock_of, txs_of, outcomes_of, entries_in, outcomes_in, Commit}
 use Rattle.cbdc_model.specs.Status.{status, Locked, held_inputs, taken_inputs}
-use Rattle.cbdc_model.specs.Replies.{entries}
 use Rattle.cbdc_model.specs.Ranges.{shard_of, journal_at, lane_journal}
 use Rattle.cbdc_model.specs.Outcomes.{reply_at, won_at}
 use Rattle.cbdc_model.specs.Causes.{at_shards}
@@ -130,14 +129,7 @@ module _ (K : Shape) (minting : Minted) (P : Compact → Type 0) (shards : 0 < K
       (omega arith) (let l : shard_of K.shards x < K.shards = shard_of-lt K.shards x shards in omega arith)
       (subst (λ i. reply_at (entries_in (at_shards K J 2 c (shard_of K.shards x))) i ≡ Some r) (omega arith)
       (subst (λ d. reply_at (entries_in (at_shards K J 2 d (shard_of K.shards x))) j ≡ Some r) (sym same) (subst (λ v. reply_at v j ≡ Some r) is_lock found))))
-  commit_agrees (Genesis header hs) es is facts of is_lock = agrees_none es
-  commit_agrees (Lock stamp c entries) es is facts of is_lock = agrees_none es
-  commit_agrees (Finish stamp c ds) es is facts of is_lock = agrees_none es
-  commit_agrees (Forget stamp c) es is facts of is_lock = agrees_none es
-  commit_agrees (Start header) es is facts of is_lock = agrees_none es
-  commit_agrees (Prepare stamp c txs) es is facts of is_lock = agrees_none es
-  commit_agrees (Discard stamp c) es is facts of is_lock = agrees_none es
-  commit_agrees (Done stamp c) es is facts of is_lock = agrees_none es
+  commit_agrees other es is facts of is_lock = agrees_none es
 
   pub all_agree : has_lock (journal_at K past x) b ≡ true → Agrees won locks
   all_agree locked = by_commit (record_of 7 home b) refl

@@ -2,35 +2,23 @@
 use Rattle.std.proofs.Common.{◌≡◌, inl, inr, ℕ, ◌<◌, ◌≤◌, true, false, ◌==◌, if◌then◌else◌, List, [], ◌∷◌, ◌++◌, length, Option, Some, None, set, get_or-set_same, get_or-set_other, refl, sym, ap, ◌∙◌, subst, arith}
 use Rattle.cbdc_model.specs.Causes.{IsCaused}
 use Rattle.cbdc_model.specs.History.{header_of, first_rows, goes_above, IsAbove, IsOrdered, Minted}
-use Rattle.cbdc_model.specs.Records.{Shape, Compact, Record, Row, journal, stamp_of, last_stamp, Genesis, Lock, Finish, Forget, Start, Prepare, Commit, Discard, Done}
+use Rattle.cbdc_model.specs.Records.{Shape, Compact, Record, Row, journal, stamp_of, last_stamp}
 use Rattle.cbdc_model.specs.Grammar.{IsInGrammar}
 use Rattle.cbdc_model.specs.After.{After}
 use Rattle.cbdc_model.specs.World.{EventPasses, EventsPass, Node, World, no_node, node_at, journals, record_for, Event, Begin, End, Crash, Reopen, Repeat, flushed, Allowed, effect, Step, Run}
+use Rattle.ledger_laws.proofs.Lookups.{other_way}
 use Rattle.ledger_laws.proofs.Ledger.{SteadyWorld, next_at, proper_of}
 use Rattle.ledger_laws.proofs.Planned.{Planned, planned}
 use Rattle.ledger_laws.proofs.Next.{Next, Steady, AllProper}
+use Rattle.ledger_laws.proofs.ByKind.{after_stamp}
 use Rattle.ledger_laws.proofs.Rows.{at, away, at_node, head_at, head_away}
 use Rattle.ledger_laws.proofs.Moves.{stays, was_caused, all_structure, all_more}
-
-after_stamp : (K : Shape) (node : ℕ) (J : List Record) (r : Record) → Next K node J r → last_stamp J < stamp_of r
-after_stamp K node J (Genesis header hs) next = absurd next
-after_stamp K node J (Start header) next = absurd next
-after_stamp K node J (Lock stamp b es) next = next.0
-after_stamp K node J (Finish stamp b ds) next = next.0
-after_stamp K node J (Forget stamp b) next = next.0
-after_stamp K node J (Prepare stamp b txs) next = next.0
-after_stamp K node J (Commit stamp b os) next = next.0
-after_stamp K node J (Discard stamp b) next = next.0
-after_stamp K node J (Done stamp b) next = next.0
 
 not_above : (row head : Row) → goes_above row head ≡ false → stamp_of row.what ≤ stamp_of head.what
 not_above row head h = grind arith
 
 journal_swap : (row head : Row) (X Y : List Row) (n : ℕ) → (head.node == row.node) ≡ false → journal n X ≡ journal n (row ∷ Y) → journal n (head ∷ X) ≡ journal n (row ∷ head ∷ Y)
 journal_swap row head X Y n apart e = grind arith
-
-other_way : (m n : ℕ) → (m == n) ≡ false → (n == m) ≡ false
-other_way m n e = grind arith
 
 goes_below : (row head : Row) → goes_above row head ≡ false → (head.node == row.node) ≡ false → goes_above head row ≡ true
 goes_below row head h apart = grind arith
@@ -39,7 +27,7 @@ abbrev pub insert_row : Row → List Row → List Row
 insert_row row [] = row ∷ []
 insert_row row (head ∷ later) = if goes_above row head then row ∷ head ∷ later else head ∷ insert_row row later
 
-above_inserted : (head row : Row) (later : List Row) → goes_above head row ≡ true → IsAbove head later → IsAbove head (insert_row row later)
+pub above_inserted : (head row : Row) (later : List Row) → goes_above head row ≡ true → IsAbove head later → IsAbove head (insert_row row later)
 above_inserted head row [] h k = h
 above_inserted head row (next ∷ later) h k = elim (goes_above row next) as (λ c. IsAbove head (if c then row ∷ next ∷ later else next ∷ insert_row row later)) [
   | true ↦ h

@@ -1,6 +1,6 @@
 -- One record is written in a world that is up, and writings in turn.
 use Rattle.std.proofs.Common.{◌≡◌, ℕ, suc, ◌+◌, ◌<◌, ◌≤◌, ◌/◌, true, false, ◌&&◌, ◌==◌, cond, List, [], ◌∷◌, ◌++◌, length, Some, None, is_some, refl, sym, ap, ◌∙◌, subst, arith}
-use Rattle.cbdc_model.specs.Records.{Shape, Batch, Compact, Record, record_of, txs_of, kind_of, is_of, last_stamp, Genesis, Lock, Finish, Forget, Start, Prepare, Commit, Discard, Done}
+use Rattle.cbdc_model.specs.Records.{Shape, Batch, Compact, Record, record_of, txs_of, kind_of, is_of, last_stamp, Prepare}
 use Rattle.cbdc_model.specs.Slots.{slot}
 use Rattle.cbdc_model.specs.Ranges.{shard_node, Concerned}
 use Rattle.cbdc_model.specs.Causes.{AllHave}
@@ -8,6 +8,8 @@ use Rattle.cbdc_model.specs.History.{Minted}
 use Rattle.cbdc_model.specs.World.{World, Event, Begin, End, node_at, journals, Run}
 use Rattle.ledger_laws.specs.Resumed.{IsNoPrepare, BeginNoPrepare}
 use Rattle.ledger_laws.proofs.Rows.{at, away, at_node}
+use Rattle.ledger_laws.proofs.ByKind.{test_batch, of_in_lane, lanes_apart}
+use Rattle.ledger_laws.proofs.Last.{slot_stays}
 use Rattle.ledger_laws.proofs.Ledger.{SteadyWorld, after_of, passes_of}
 use Rattle.ledger_laws.proofs.Worlds.{run_keeps}
 use Rattle.ledger_laws.proofs.Reaching.{run-append, ended, ended_at, ended_away, ended_length, written}
@@ -19,18 +21,7 @@ begin-append (e ∷ es) fs h g = (h.0, begin-append es fs h.1 g)
 
 -- a record of a lane leaves the slots of the others
 other_slots : (r : Record) (b : Batch) (J : List Record) (lane : ℕ) → is_of b r ≡ true → (b.lane == lane) ≡ false → slot (r ∷ J) lane ≡ slot J lane
-other_slots (Genesis header hs) b J lane h apart = refl
-other_slots (Start header) b J lane h apart = refl
-other_slots (Lock stamp c es) b J lane h apart = let e : (c.lane == lane) ≡ false = grind (arith, h, apart) in rw e
-other_slots (Finish stamp c ds) b J lane h apart = let e : (c.lane == lane) ≡ false = grind (arith, h, apart) in rw e
-other_slots (Forget stamp c) b J lane h apart = let e : (c.lane == lane) ≡ false = grind (arith, h, apart) in rw e
-other_slots (Prepare stamp c txs) b J lane h apart = let e : (c.lane == lane) ≡ false = grind (arith, h, apart) in rw e
-other_slots (Commit stamp c os) b J lane h apart = let e : (c.lane == lane) ≡ false = grind (arith, h, apart) in rw e
-other_slots (Discard stamp c) b J lane h apart = let e : (c.lane == lane) ≡ false = grind (arith, h, apart) in rw e
-other_slots (Done stamp c) b J lane h apart = let e : (c.lane == lane) ≡ false = grind (arith, h, apart) in rw e
-
-of_batch : (kind : ℕ) (r : Record) (b : Batch) → ((kind_of r == kind) && is_of b r) ≡ true → is_of b r ≡ true
-of_batch kind r b t = grind arith
+other_slots r b J lane h apart = slot_stays r J lane (lanes_apart b.lane lane r (of_in_lane b r h) apart)
 
 -- a journal that stays or grows by a record that is no Prepare
 pub data Grows (J I : List Record) : Type 0 where
@@ -38,15 +29,8 @@ pub data Grows (J I : List Record) : Type 0 where
   by_one : (r : Record) → IsNoPrepare r → I ≡ r ∷ J → Grows J I
 
 same_txs : (r : Record) (J : List Record) (c : Batch) → IsNoPrepare r → txs_of (r ∷ J) c ≡ txs_of J c
-same_txs (Genesis header hs) J c h = refl
-same_txs (Start header) J c h = refl
-same_txs (Lock stamp d es) J c h = refl
-same_txs (Finish stamp d ds) J c h = refl
-same_txs (Forget stamp d) J c h = refl
 same_txs (Prepare stamp d txs) J c h = absurd h
-same_txs (Commit stamp d os) J c h = refl
-same_txs (Discard stamp d) J c h = refl
-same_txs (Done stamp d) J c h = refl
+same_txs other J c h = refl
 
 more_locks : (r : Record) (J : List Record) (c : Batch) → is_some (record_of 2 J c) ≡ true → is_some (record_of 2 (r ∷ J) c) ≡ true
 more_locks r J c h = elim ((kind_of r == 2) && is_of c r) as (λ t. is_some (cond t (Some r) (record_of 2 J c)) ≡ true) [ true ↦ refl | false ↦ h ]
@@ -153,7 +137,7 @@ module _ (K : Shape) (minting : Minted) (P : Compact → Type 0) (shards : 0 < K
     };
     others = λ m other apart. elim (at_node n m) [
       | at e ↦ subst (λ k. slot (journals (ended K minting P shards w n q.r lt) k) other ≡ slot (journals w k) other) e
-          (ap (λ J. slot J other) own ∙ other_slots q.r b (journals w n) other (of_batch kind q.r b q.of_kind) apart)
+          (ap (λ J. slot J other) own ∙ other_slots q.r b (journals w n) other (test_batch kind b q.r q.of_kind) apart)
       | away e ↦ ap (λ J. slot J other) (rest m e)
     ];
     locks = locks_stay K w (ended K minting P shards w n q.r lt) (λ m. elim (at_node n m) [

@@ -1,7 +1,7 @@
 -- Every unspent hash is among those that journals name.
 use Rattle.std.proofs.Common.{◌≡◌, ◌↔◌, ℕ, zero, suc, ◌<◌, ◌+◌, ◌-◌, ◌*◌, ◌/◌, ◌%◌, Bool, true, false, ◌&&◌, not, List, [], ◌∷◌, ◌++◌, if◌then◌else◌, refl, sym, ap, subst, arith, slice_index, mul-lt-mul_of_pos_right, div-lt_iff_lt-mul, mod-lt, lit<}
 use Rattle.std.proofs.lemmas.Grind.{common_steps}
-use Rattle.cbdc_model.specs.Records.{Digest, same_digest, Shape, Answered, Record, lock_of, Genesis, Lock, Finish, Forget, Start, Prepare, Commit, Discard, Done}
+use Rattle.cbdc_model.specs.Records.{Digest, same_digest, Shape, Answered, Record, lock_of, Genesis, Lock, Finish}
 use Rattle.cbdc_model.specs.Status.{Status, status, has, made_outputs, returned_inputs, finished_status, Unspent, Locked, Absent}
 use Rattle.cbdc_model.specs.Ranges.{shard_of, shard_node, first_byte}
 use Rattle.cbdc_model.specs.World.{IsUnspent}
@@ -29,12 +29,7 @@ unspent_named [] x h = cc
 unspent_named (Genesis header hs ∷ past) x h = grind (arith, common_steps, has_append hs (named past) x, unspent_named past x)
 unspent_named (Lock stamp b es ∷ past) x h = grind (arith, common_steps, unspent_named past x)
 unspent_named (Finish stamp b ds ∷ past) x h = finished_in (lock_of past b) ds x (status past x) (named past) h (unspent_named past x)
-unspent_named (Forget stamp b ∷ past) x h = unspent_named past x h
-unspent_named (Start header ∷ past) x h = unspent_named past x h
-unspent_named (Prepare stamp b txs ∷ past) x h = unspent_named past x h
-unspent_named (Commit stamp b os ∷ past) x h = unspent_named past x h
-unspent_named (Discard stamp b ∷ past) x h = unspent_named past x h
-unspent_named (Done stamp b ∷ past) x h = unspent_named past x h
+unspent_named (other ∷ past) x h = unspent_named past x h
 
 named_there : (K : Shape) (J : ℕ → List Record) (x : Digest) (s n : ℕ) → s ≡ n → has (named (J (shard_node K s))) x ≡ true → has (named_below K J (suc n)) x ≡ true
 named_there K J x s n e h =

@@ -1,7 +1,7 @@
 -- First rows, node by node, and that rows stand on the nodes of their ledger.
 use Rattle.std.proofs.Common.{◌≡◌, ◌↔◌, Bool, sym, ap, ◌∙◌, subst, ℕ, zero, suc, ◌+◌, ◌-◌, ◌<◌, ◌≤◌, List, [], ◌∷◌, ◌++◌, refl, arith}
 use Rattle.std.proofs.lemmas.Grind.{common_steps}
-use Rattle.cbdc_model.specs.Records.{Shape, Compact, Record, Row, journal, Genesis, Lock, Finish, Forget, Start, Prepare, Commit, Discard, Done}
+use Rattle.cbdc_model.specs.Records.{Shape, Compact, Record, Row, journal, Genesis, Lock, Finish, Forget, Start}
 use Rattle.std.specs.Prelude.{IsTrue}
 use Rattle.cbdc_model.specs.After.{After}
 use Rattle.cbdc_model.specs.Causes.{IsCaused}
@@ -42,11 +42,7 @@ on_node K m n past (Genesis header hs) h = h.0.2.1
 on_node K m n past (Lock stamp b es) h = h.0.2.1
 on_node K m n past (Finish stamp b ds) h = h.0.2.1
 on_node K m n past (Forget stamp b) h = h.0.2.1
-on_node K m n past (Start header) h = omega (arith, h.0.2)
-on_node K m n past (Prepare stamp b txs) h = omega (arith, h.0.2)
-on_node K m n past (Commit stamp b os) h = omega (arith, h.0.2)
-on_node K m n past (Discard stamp b) h = omega (arith, h.0.2)
-on_node K m n past (Done stamp b) h = omega (arith, h.0.2)
+on_node K m n past other h = omega (arith, h.0.2)
 
 -- no row of a steady history is of a node past the last one
 pub steady_none : (K : Shape) (m : Minted) (P : Compact → Type 0) (later : List Row) (n : ℕ) → IsSteady K m P later → K.coordinators + K.shards ≤ n

@@ -8,7 +8,7 @@ use Rattle.std.specs.FinMap.Entries.{find, where_key, find-where_key}
 use Rattle.cbdc_model.specs.Book.{Book, key, value}
 use Rattle.cbdc_model.specs.Coins.{Coin, Output}
 use Rattle.plain_check.specs.Coins.{entry_of, book_of}
-use Rattle.same_records.proofs.Keys.{key_cmp, same_key, other_key, keys, get-insert_same, get-insert_other, get-remove_same, get-remove_other, entries_value, value-insert}
+use Rattle.ledger_laws.proofs.Books.{key_cmp, same_key, other_key, keys, get-insert_same, get-insert_other, get-remove_same, get-remove_other, entries_value, value-insert}
 
 pub get_is : (coins : List Coin) (k : List ℕ) → book.get (book_of coins) k ≡ find key_cmp k (map entry_of coins)
 get_is coins k = book.get-from_entries nat_list_cmp_total (map entry_of coins) k

@@ -1,7 +1,7 @@
 -- Journals between those of a run are kept.
-use Rattle.std.proofs.Common.{◌≡◌, ◌⊎◌, inl, inr, ℕ, zero, suc, ◌<◌, Bool, true, false, ◌&&◌, ◌==◌, List, [], ◌∷◌, ◌++◌, take, drop, Some, None, is_some, refl, sym, ap, ◌∙◌, subst, arith, append_assoc}
+use Rattle.std.proofs.Common.{◌≡◌, ◌⊎◌, inl, inr, ℕ, zero, suc, ◌<◌, Bool, true, false, ◌&&◌, ◌==◌, List, [], ◌∷◌, ◌++◌, take, drop, Some, None, refl, sym, ap, ◌∙◌, subst, append_assoc}
 use Rattle.std.specs.Prelude.{slice_get}
-use Rattle.cbdc_model.specs.Records.{Shape, Batch, same_batch, Record, record_of, kind_of, is_of, Genesis, Lock, Finish, Forget, Start, Prepare, Commit, Discard, Done}
+use Rattle.cbdc_model.specs.Records.{Shape, Batch, Record, record_of, kind_of, is_of, Lock, Finish, Forget, Commit, Discard, Done}
 use Rattle.cbdc_model.specs.Ranges.{home_of, shard_node}
 use Rattle.cbdc_model.specs.Coins.{Output, FullTx}
 use Rattle.cbdc_model.specs.Clean.{IsProperCompact}
@@ -10,6 +10,7 @@ use Rattle.cbdc_model.specs.After.{Follows}
 use Rattle.cbdc_model.specs.World.{KeptJournals, replaced}
 use Rattle.cbdc_model.specs.Lanes.{IsEnd, Seen, KeptLists, first_of}
 use Rattle.cbdc_model.specs.Waves.{Adds, has_prepare, has_done, sent_to, IsFileRun, AreFilesRun}
+use Rattle.ledger_laws.proofs.ByKind.{same_batch_self}
 use Rattle.ledger_laws.proofs.Lookups.{true_false, not_true}
 use Rattle.ledger_laws.proofs.Cuts.{cut, end_self, end_trans, seen_grows}
 use Rattle.ledger_laws.proofs.Rows.{at, away, at_node}
@@ -17,8 +18,7 @@ use Rattle.ledger_laws.proofs.Finds.{replaced_at, replaced_away}
 use Rattle.ledger_laws.proofs.Moves.{SameCauses, caused_same, test_step}
 use Rattle.ledger_laws.proofs.Together.{no_room}
 use Rattle.ledger_laws.proofs.LaneLaws.{local_law}
-use Rattle.run_laws.proofs.NewRecords.{still_found}
-use Rattle.run_laws.proofs.WaveTurns.{one_batch}
+use Rattle.run_laws.proofs.WaveTurns.{one_batch, adds_on, grown, not_before, second}
 use Rattle.run_laws.specs.Between.{BeginsWave, BeginLaw, BetweenLaw}
 
 -- ---- what is added, and what is found
@@ -28,28 +28,6 @@ adds_same P I J same = record {
   grows = λ n. ([], same n);
   each = λ n newer rest r e h. absurd (no_room (I n) newer rest r h.0 h.1 (sym (same n) ∙ e));
 }
-
-adds_on : (P Q R : Batch → Type 0) (I J X : ℕ → List Record) → ((b : Batch) → P b → R b) → ((b : Batch) → Q b → R b) → Adds P I J → Adds Q J X → Adds R I X
-adds_on P Q R I J X p q a b = record {
-  grows = λ n. end_trans (I n) (J n) (X n) (a.grows n) (b.grows n);
-  each = λ n newer rest r e h. elim (cut (b.grows n).0 (J n) newer rest r (sym (b.grows n).1 ∙ e)) [
-    | inr f ↦ let k = b.each n newer rest r e (f.back, f.rest_is) in (k.0, k.1, q k.0 k.2)
-    | inl f ↦ let k = a.each n f.0 rest r f.1 h in (k.0, k.1, p k.0 k.2)
-  ];
-}
-
--- what was found is still found
-pub grown : (kind : ℕ) (c : Batch) (I J : List Record) → IsEnd I J → is_some (record_of kind I c) ≡ true → is_some (record_of kind J c) ≡ true
-grown kind c I J h f = subst (λ L. is_some (record_of kind L c) ≡ true) (sym h.1) (still_found h.0 I kind c f)
-
-pub not_before : (kind : ℕ) (c : Batch) (I J : List Record) → IsEnd I J → is_some (record_of kind J c) ≡ false → is_some (record_of kind I c) ≡ false
-not_before kind c I J h f = not_true _ (λ t. true_false _ (grown kind c I J h t) f)
-
-second : (a c : Bool) → (a && c) ≡ true → c ≡ true
-second a c h = grind (arith, h)
-
-itself : (c : Batch) → same_batch c c ≡ true
-itself c = grind arith
 
 -- ---- two beginnings of a journal
 
@@ -104,15 +82,13 @@ module _ (K : Shape) (n : ℕ) (rest : List Record) (L S : ℕ → List Record) 
   at_home m e = replaced_at L n rest m e ∙ sym (replaced_at S n rest m e)
 
   same_causes : (genesis : List ℕ) (r : Record) → Follows (header_of K genesis n) rest r → ((c : Batch) → is_of c r ≡ true → Alike c) → SameCauses K (replaced L n rest) (replaced S n rest) r
-  same_causes genesis (Genesis header hs) follows alike = tt
-  same_causes genesis (Start header) follows alike = tt
-  same_causes genesis (Prepare stamp b txs) follows alike = tt
-  same_causes genesis (Lock stamp b es) follows alike = found_alike b (alike b (itself b)) (home_of K b.lane) 6
-  same_causes genesis (Finish stamp b ds) follows alike = found_alike b (alike b (itself b)) (home_of K b.lane) 7
-  same_causes genesis (Forget stamp b) follows alike = found_alike b (alike b (itself b)) (home_of K b.lane) 8
-  same_causes genesis (Commit stamp b os) follows alike = (at_home (home_of K b.lane) follows.1, λ s. found_alike b (alike b (itself b)) (shard_node K s) 2)
-  same_causes genesis (Discard stamp b) follows alike = (at_home (home_of K b.lane) follows.1, λ s. found_alike b (alike b (itself b)) (shard_node K s) 3)
-  same_causes genesis (Done stamp b) follows alike = (at_home (home_of K b.lane) follows.1, λ s. found_alike b (alike b (itself b)) (shard_node K s) 4)
+  same_causes genesis (Lock stamp b es) follows alike = found_alike b (alike b (same_batch_self b)) (home_of K b.lane) 6
+  same_causes genesis (Finish stamp b ds) follows alike = found_alike b (alike b (same_batch_self b)) (home_of K b.lane) 7
+  same_causes genesis (Forget stamp b) follows alike = found_alike b (alike b (same_batch_self b)) (home_of K b.lane) 8
+  same_causes genesis (Commit stamp b os) follows alike = (at_home (home_of K b.lane) follows.1, λ s. found_alike b (alike b (same_batch_self b)) (shard_node K s) 2)
+  same_causes genesis (Discard stamp b) follows alike = (at_home (home_of K b.lane) follows.1, λ s. found_alike b (alike b (same_batch_self b)) (shard_node K s) 3)
+  same_causes genesis (Done stamp b) follows alike = (at_home (home_of K b.lane) follows.1, λ s. found_alike b (alike b (same_batch_self b)) (shard_node K s) 4)
+  same_causes genesis other follows alike = tt
 
 module _ (K : Shape) (mint : List Output) (submissions : List FullTx) (some : 0 < K.shards) (E M X : ℕ → List Record) (kept : KeptJournals K mint submissions E) (kept' : KeptJournals K mint submissions X)
     (new : Adds (λ b. has_prepare K M b ≡ true) E M) (later : Adds (λ b. has_prepare K M b ≡ false) M X) where

@@ -1,11 +1,11 @@
 -- Checked journals, and the lists of their records.
 use Rattle.std.proofs.Common.{ℕ, ◌<◌, List, [], ◌∷◌, subst}
 use Rattle.std.specs.List.{All}
-use Rattle.cbdc_model.specs.Records.{Shape, Compact, Record, Row, Genesis, Lock, Finish, Forget, Start, Prepare, Commit, Discard, Done}
+use Rattle.cbdc_model.specs.Records.{Shape, Compact, Record, Row}
 use Rattle.cbdc_model.specs.Clean.{IsProperCompact}
-use Rattle.cbdc_model.specs.History.{Minted, minted, TxsPass, IsSteady}
+use Rattle.cbdc_model.specs.History.{Minted, minted, IsSteady}
 use Rattle.ledger_laws.proofs.Next.{Steady}
-use Rattle.ledger_laws.proofs.Ledger.{SteadyJournals, SteadyLists, steady, is_steady}
+use Rattle.ledger_laws.proofs.Ledger.{each_passes, SteadyJournals, SteadyLists, steady, is_steady}
 use Rattle.ledger_laws.proofs.Together.{lists_of, steady_journals}
 use Rattle.run_laws.specs.Checked.{CheckedJournals, KeptIsCheckedLaw}
 
@@ -16,20 +16,9 @@ Any k = Unit {0}
 pub any_txs : (txs : List Compact) → All Any txs
 any_txs txs k d lt = tt
 
-any_record : (r : Record) → TxsPass Any r
-any_record (Genesis header hs) = tt
-any_record (Lock stamp b es) = tt
-any_record (Finish stamp b ds) = tt
-any_record (Forget stamp b) = tt
-any_record (Start header) = tt
-any_record (Prepare stamp b txs) = any_txs txs
-any_record (Commit stamp b os) = tt
-any_record (Discard stamp b) = tt
-any_record (Done stamp b) = tt
-
 any_rows : (K : Shape) (m : Minted) (P : Compact → Type 0) (later : List Row) → IsSteady K m P later → IsSteady K m Any later
 any_rows K m P [] h = tt
-any_rows K m P (row ∷ later) h = (h.0, h.1, any_record row.what, any_rows K m P later h.3)
+any_rows K m P (row ∷ later) h = (h.0, h.1, each_passes Any (λ t. tt) row.what, any_rows K m P later h.3)
 
 pub kept_is_checked_law : KeptIsCheckedLaw
 kept_is_checked_law K mint submissions J kept = record {

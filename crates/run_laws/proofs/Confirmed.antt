@@ -3,7 +3,7 @@ use Rattle.std.proofs.Common.{◌≡◌, inl, inr, ℕ, suc, ◌+◌, ◌*◌, �
 use Rattle.std.specs.List.{filter, AllByRecursion}
 use Rattle.std.proofs.lemmas.List.{reverse-reverse, append_cancel_right, length-append, length-map}
 use Rattle.std.proofs.lemmas.List.Elements.{recursion_from_All}
-use Rattle.cbdc_model.specs.Records.{Digest, Shape, Batch, same_batch, Compact, Record, Row, journal, record_of, kind_of, is_of, entries_in, txs_in, txs_of, outcomes_of, lock_of, Won, Genesis, Lock, Finish, Forget, Start, Prepare, Commit, Discard, Done}
+use Rattle.cbdc_model.specs.Records.{Digest, Shape, Batch, Compact, Record, Row, journal, record_of, kind_of, is_of, entries_in, txs_in, txs_of, outcomes_of, lock_of, Won, Lock, Prepare, Commit}
 use Rattle.cbdc_model.specs.Status.{status, has, Unspent}
 use Rattle.cbdc_model.specs.Slots.{slot, Idle}
 use Rattle.cbdc_model.specs.Replies.{answered, entries}
@@ -16,8 +16,9 @@ use Rattle.cbdc_model.specs.World.{IsUnspent}
 use Rattle.cbdc_model.specs.Lanes.{IsEnd}
 use Rattle.cbdc_model.specs.Waves.{share, sent_to, prepared, has_prepare, IsFileRun}
 use Rattle.cbdc_model.specs.Places.{sized_onto, place_of, outcome_at, outcome_in}
+use Rattle.ledger_laws.proofs.ByKind.{test_itself, some_is}
 use Rattle.ledger_laws.proofs.Next.{Steady, has_lock}
-use Rattle.ledger_laws.proofs.Lookups.{true_false, no_lock}
+use Rattle.ledger_laws.proofs.Lookups.{true_false, no_lock, number_is, number_self}
 use Rattle.ledger_laws.proofs.Cuts.{cut}
 use Rattle.ledger_laws.proofs.Rows.{at, away, at_node}
 use Rattle.ledger_laws.proofs.Moves.{split_test, all_structure}
@@ -33,18 +34,6 @@ use Rattle.run_laws.proofs.Sharing.{AllLack, lack_both, lack_append, got, got-ap
 use Rattle.run_laws.proofs.Told.{AllTold, told_append, told_middle, told_reversed, told_turned, all_told, told_at, told_lack, txs_reversed}
 use Rattle.run_laws.proofs.FreeReplies.{IsGood, good_reply, all_good, outcome_of_place, on_has}
 use Rattle.run_laws.proofs.WaveRecords.{next_in, never_twice, found_at, IsNew, never_locked, of_new, unspent_until}
-
-itself : (kind : ℕ) (c : Batch) → ((kind == kind) && same_batch c c) ≡ true
-itself kind c = grind arith
-
-lane_self : (l : ℕ) → (l == l) ≡ true
-lane_self l = grind arith
-
-lane_is : (l m : ℕ) → (l == m) ≡ true → l ≡ m
-lane_is l m h = grind (arith, h)
-
-some_is : (q r : Record) → Some q ≡ Some r → q ≡ r
-some_is q r e = cc
 
 -- the others lack each input of the submission
 each_lacks : (sound : FullTx → Bool) (t : FullTx) (x : Digest) (us : List FullTx) → has (compact t).inputs x ≡ true
@@ -84,7 +73,7 @@ module _ (K : Shape) (minting : Minted) (P : Compact → Type 0) (some : 0 < K.s
 
   sent_here : sent L ≡ A L ++ compact t ∷ B L
   sent_here = got-append sound lanes L 0 before (t ∷ behind)
-      ∙ ap (λ l. A L ++ l) (got_here sound lanes L (0 + length before) t behind is_sound (ap (λ k. k % lanes == L) from_none ∙ lane_self L))
+      ∙ ap (λ l. A L ++ l) (got_here sound lanes L (0 + length before) t behind is_sound (ap (λ k. k % lanes == L) from_none ∙ number_self L))
 
   sent_elsewhere : (lane : ℕ) → (L == lane) ≡ false → sent lane ≡ A lane ++ B lane
   sent_elsewhere lane apart = got-append sound lanes lane 0 before (t ∷ behind)
@@ -126,13 +115,13 @@ module _ (K : Shape) (minting : Minted) (P : Compact → Type 0) (some : 0 < K.s
 
     each_told : (newer back : List Record) (stamp : ℕ) (c : Batch) (txs : List Compact) → [] ++ more_at L ≡ newer ++ Prepare stamp c txs ∷ back → (c.lane == L) ≡ true → Q c txs
     each_told newer back stamp c txs e l =
-        let at_lane : c.lane ≡ L = lane_is c.lane L l in
+        let at_lane : c.lane ≡ L = number_is c.lane L l in
         let is : J (home_of K L) ≡ newer ++ Prepare stamp c txs ∷ (back ++ I (home_of K L))
         = (run.adds.grows (home_of K L)).1 ∙ ap (λ m. m ++ I (home_of K L)) e ∙ append_assoc newer (Prepare stamp c txs ∷ back) (I (home_of K L)) in
         let found : record_of 6 (J (home_of K L)) c ≡ Some (Prepare stamp c txs)
-        = found_at K minting P some old new kept kept' (home_of K L) 6 c newer (back ++ I (home_of K L)) (Prepare stamp c txs) is (back, refl) (itself 6 c) in (
+        = found_at K minting P some old new kept kept' (home_of K L) 6 c newer (back ++ I (home_of K L)) (Prepare stamp c txs) is (back, refl) (test_itself 6 c) in (
           at_lane,
-          of_new K minting P some old new kept kept' run.adds (home_of K L) newer (back ++ I (home_of K L)) (Prepare stamp c txs) c is (back, refl) (itself 6 c),
+          of_new K minting P some old new kept kept' run.adds (home_of K L) newer (back ++ I (home_of K L)) (Prepare stamp c txs) c is (back, refl) (test_itself 6 c),
           ap (λ m. txs_of (J (home_of K m)) c) at_lane ∙ ap txs_in found,
         )
 
@@ -171,7 +160,7 @@ module _ (K : Shape) (minting : Minted) (P : Compact → Type 0) (some : 0 < K.s
             | inl f ↦ absurd (true_false (has_prepare K I c) (subst (λ M. is_some (record_of 6 M c) ≡ true) (sym f.1) (in_journal f.0 q.2 q.1 6 c q.4)) is_new.0)
             | inr f ↦
                 let is : more_at c.lane ≡ q.0 ++ Prepare p.0 c (txs_of (J (home_of K c.lane)) c) ∷ f.back = f.more_is ∙ ap (λ r. q.0 ++ r ∷ f.back) same in
-                told_at G c.lane q.0 f.back p.0 c (txs_of (J (home_of K c.lane)) c) (lane_self c.lane)
+                told_at G c.lane q.0 f.back p.0 c (txs_of (J (home_of K c.lane)) c) (number_self c.lane)
                 (subst (λ m. AllTold G (told_in c.lane m)) is (told_turned G (told_in c.lane (more_at c.lane)) (good_at c.lane lt))) apart
           ]
 
@@ -179,14 +168,6 @@ module _ (K : Shape) (minting : Minted) (P : Compact → Type 0) (some : 0 < K.s
     module _ (unspent : (x : Digest) → has (compact t).inputs x ≡ true → IsUnspent K I x) (s : ℕ) where
       locked_good : (q : Record) (newer rest : List Record) → J (shard_node K s) ≡ newer ++ q ∷ rest → ((kind_of q == 2) && is_of b q) ≡ true → record_of 2 (J (shard_node K s)) b ≡ Some q → IsEnd (I (shard_node K s)) rest
           → IsGood (reply_at (lock_of (J (shard_node K s)) b) (length lies.first))
-      locked_good (Genesis header hs) newer rest e u found h = absurd (let z : false ≡ true = u in cc)
-      locked_good (Start header) newer rest e u found h = absurd (let z : false ≡ true = u in cc)
-      locked_good (Finish stamp c ds) newer rest e u found h = absurd (let z : false ≡ true = u in cc)
-      locked_good (Forget stamp c) newer rest e u found h = absurd (let z : false ≡ true = u in cc)
-      locked_good (Prepare stamp c txs) newer rest e u found h = absurd (let z : false ≡ true = u in cc)
-      locked_good (Commit stamp c os) newer rest e u found h = absurd (let z : false ≡ true = u in cc)
-      locked_good (Discard stamp c) newer rest e u found h = absurd (let z : false ≡ true = u in cc)
-      locked_good (Done stamp c) newer rest e u found h = absurd (let z : false ≡ true = u in cc)
       locked_good (Lock stamp c es) newer rest e u found h =
           let same : c ≡ b = (split_test 2 2 c b u).1 in
           let next = next_in K minting P some old new kept kept' (shard_node K s) newer rest (Lock stamp c es) e h in
@@ -207,6 +188,7 @@ module _ (K : Shape) (minting : Minted) (P : Compact → Type 0) (some : 0 < K.s
           still x on e h free =
               unspent_until K minting P some old new kept kept' run.adds s b x (lacks x on.0) (newer ++ Lock stamp c es ∷ []) rest (e ∙ sym (append_assoc newer (Lock stamp c es ∷ []) rest)) h free
               (subst (λ m. status (I (shard_node K m)) x ≡ Unspent) on.1 (unspent x on.0))
+      locked_good other newer rest e u found h = absurd (let z : false ≡ true = u in cc)
 
       good : IsGood (reply_at (lock_of (J (shard_node K s)) b) (length lies.first))
       good = elim (has_lock (J (shard_node K s)) b) as (λ c. has_lock (J (shard_node K s)) b ≡ c → IsGood (reply_at (lock_of (J (shard_node K s)) b) (length lies.first))) [

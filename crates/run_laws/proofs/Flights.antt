@@ -1,12 +1,13 @@
 -- What a stopped turn left in flight is caused, and journals stay kept with it or without.
 use Rattle.std.proofs.Common.{◌≡◌, ◌≢◌, ◌⊎◌, inl, inr, ℕ, ◌+◌, ◌-◌, ◌<◌, ◌≤◌, true, false, ◌||◌, not, ◌==◌, nat_lt, if◌then◌else◌, List, [], ◌∷◌, ◌++◌, Option, Some, refl, sym, ap, ◌∙◌, subst, arith, append-nil}
-use Rattle.cbdc_model.specs.Records.{Shape, Compact, Record, Genesis, Lock, Finish, Forget, Start, Prepare, Commit, Discard, Done}
+use Rattle.cbdc_model.specs.Records.{Shape, Compact, Record, Prepare}
 use Rattle.cbdc_model.specs.Ranges.{home_of, shard_node}
 use Rattle.cbdc_model.specs.Clean.{IsProperCompact}
 use Rattle.cbdc_model.specs.After.{After}
 use Rattle.cbdc_model.specs.History.{minted, header_of, TxsPass}
 use Rattle.cbdc_model.specs.Lanes.{IsEnd, AllPass, Holds, Seen, KeptLists, first_of}
 use Rattle.cbdc_model.specs.Sights.{Sight}
+use Rattle.ledger_laws.proofs.ByKind.{some_is}
 use Rattle.lane_laws.specs.Batches.{view, IsFlown, Flown}
 use Rattle.ledger_laws.proofs.Cuts.{seen_grows, end_trans}
 use Rattle.ledger_laws.proofs.LaneLaws.{local_law}
@@ -17,17 +18,7 @@ use Rattle.run_laws.proofs.TurnStep.{sees, seen_view}
 
 pub passes : (P : Compact → Type 0) (pieces : List (List Compact)) (r : Record) → AllPass P pieces → Holds pieces r → TxsPass P r
 passes P pieces (Prepare stamp b txs) all h = all txs h
-passes P pieces (Genesis header hs) all h = tt
-passes P pieces (Start header) all h = tt
-passes P pieces (Lock stamp b es) all h = tt
-passes P pieces (Finish stamp b ds) all h = tt
-passes P pieces (Forget stamp b) all h = tt
-passes P pieces (Commit stamp b os) all h = tt
-passes P pieces (Discard stamp b) all h = tt
-passes P pieces (Done stamp b) all h = tt
-
-same_record : (q r : Record) → Some q ≡ Some r → q ≡ r
-same_record q r e = cc
+passes P pieces other all h = tt
 
 module _ (K : Shape) (lane : ℕ) (logs shards : ℕ → Sight) (home : home_of K lane < K.coordinators) where
   unseen : (n : ℕ) → sees K lane n ≡ false → view K lane (logs (home_of K lane)) shards n ≡ []
@@ -79,7 +70,7 @@ module _ (K : Shape) (P : Compact → Type 0) (pieces : List (List Compact)) (la
   comes m before after at s was is f = elim f [
     | inl same ↦ inl (was ∙ sym same ∙ sym is ∙ e)
     | inr new ↦
-        let it : new.0 ≡ r = same_record new.0 r (sym new.1 ∙ sym is ∙ e) in
+        let it : new.0 ≡ r = some_is new.0 r (sym new.1 ∙ sym is ∙ e) in
         inr (
           subst (λ k. Seen K (seen_by K logs' shards') k (seen_by K logs' shards' k) r) at
               (subst (λ q. Seen K (seen_by K logs' shards') m (seen_by K logs' shards' m) q) it (seen_lift K lane logs' shards' home m new.0 s new.3)),

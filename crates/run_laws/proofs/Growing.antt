@@ -16,7 +16,7 @@ use Rattle.ledger_laws.proofs.LaneLaws.{local_law}
 use Rattle.run_laws.specs.Laws.{LongerLaw, CountedLaw}
 use Rattle.run_laws.specs.LocksDue.{opened}
 use Rattle.run_laws.specs.Worlds.{counted}
-use Rattle.run_laws.proofs.Opening.{Opened, open_all}
+use Rattle.ledger_laws.proofs.Openings.{Opened, open_all}
 
 pub longer_law : LongerLaw
 longer_law K mint subs J X shards kept grows fresh =

@@ -1,8 +1,10 @@
 -- What a record changes of the lanes' slots, and of what is kept for them.
-use Rattle.std.proofs.Common.{◌≡◌, ℕ, Bool, List, ◌∷◌, length, refl, sym, ◌∙◌, ap, ap₂}
-use Rattle.cbdc_model.specs.Records.{Batch, Compact, Answered, Outcome, Record, lock_of, txs_of, Genesis, Lock, Finish, Forget, Start, Prepare, Commit, Discard, Done}
+use Rattle.std.proofs.Common.{◌≡◌, ℕ, Bool, true, false, List, ◌∷◌, length, refl, ◌∙◌, ap, ap₂, arith}
+use Rattle.cbdc_model.specs.Records.{Batch, Compact, Answered, Outcome, Record, is_in_lane, entries_in, txs_in, lock_of, txs_of, Genesis, Lock, Finish, Forget, Start, Prepare, Commit, Discard, Done}
 use Rattle.cbdc_model.specs.Slots.{Phase, Slot, slot, Idle, InLock, InFinish, InPrepare, InCommit, InDiscard}
 use Rattle.cbdc_model.specs.Due.{open_batch}
+use Rattle.ledger_laws.proofs.ByKind.{lanes_apart, found_apart}
+use Rattle.ledger_laws.proofs.Last.{slot_stays}
 use Rattle.run_laws.proofs.Scales.{Scale, Fair}
 use Rattle.run_laws.proofs.Numbers.{same_number, other_number}
 
@@ -24,17 +26,16 @@ IsOfLane lane (Commit stamp b os) = b.lane ≡ lane
 IsOfLane lane (Discard stamp b) = b.lane ≡ lane
 IsOfLane lane (Done stamp b) = b.lane ≡ lane
 
+of_lane : (lane : ℕ) (r : Record) → IsOfLane lane r → is_in_lane lane r ≡ true
+of_lane lane (Genesis header hs) of = absurd of
+of_lane lane (Start header) of = absurd of
+of_lane lane other of = grind (arith, of)
+
 -- the others stay
 pub others_stay : (J : List Record) (r : Record) (lane other : ℕ) → IsOfLane lane r → (lane ≡ other → ⊥) → IsSameLane J (r ∷ J) other
-others_stay J (Genesis header hs) lane other of apart = absurd of
-others_stay J (Start header) lane other of apart = absurd of
-others_stay J (Lock stamp b es) lane other of apart = let e = other_number b.lane other (λ (q : b.lane ≡ other). apart (sym of ∙ q)) in record { slots = rw e refl; locks = λ n. rw e refl; txs = λ n. refl }
-others_stay J (Finish stamp b ds) lane other of apart = let e = other_number b.lane other (λ (q : b.lane ≡ other). apart (sym of ∙ q)) in record { slots = rw e refl; locks = λ n. refl; txs = λ n. refl }
-others_stay J (Forget stamp b) lane other of apart = let e = other_number b.lane other (λ (q : b.lane ≡ other). apart (sym of ∙ q)) in record { slots = rw e refl; locks = λ n. refl; txs = λ n. refl }
-others_stay J (Prepare stamp b txs) lane other of apart = let e = other_number b.lane other (λ (q : b.lane ≡ other). apart (sym of ∙ q)) in record { slots = rw e refl; locks = λ n. refl; txs = λ n. rw e refl }
-others_stay J (Commit stamp b os) lane other of apart = let e = other_number b.lane other (λ (q : b.lane ≡ other). apart (sym of ∙ q)) in record { slots = rw e refl; locks = λ n. refl; txs = λ n. refl }
-others_stay J (Discard stamp b) lane other of apart = let e = other_number b.lane other (λ (q : b.lane ≡ other). apart (sym of ∙ q)) in record { slots = rw e refl; locks = λ n. refl; txs = λ n. refl }
-others_stay J (Done stamp b) lane other of apart = let e = other_number b.lane other (λ (q : b.lane ≡ other). apart (sym of ∙ q)) in record { slots = rw e refl; locks = λ n. refl; txs = λ n. refl }
+others_stay J r lane other of apart =
+    let h : is_in_lane other r ≡ false = lanes_apart lane other r (of_lane lane r of) (other_number lane other apart) in
+    record { slots = slot_stays r J other h; locks = λ n. ap entries_in (found_apart 2 r J _ h); txs = λ n. ap txs_in (found_apart 6 r J _ h) }
 
 -- the slot that each record leaves
 pub locked_slot : (J : List Record) (stamp : ℕ) (b : Batch) (es : List Answered) → slot (Lock stamp b es ∷ J) b.lane ≡ record { number = b.number; phase = InLock }

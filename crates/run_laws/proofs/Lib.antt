@@ -2,7 +2,6 @@ pub mod Sets
 pub mod Codes
 pub mod WorldStamps
 pub mod Few
-pub mod Opening
 pub mod Growing
 pub mod LockWrites
 pub mod OneLock

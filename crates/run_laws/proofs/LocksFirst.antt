@@ -8,7 +8,7 @@ use Rattle.ledger_laws.proofs.Rows.{at, away, at_node}
 use Rattle.ledger_laws.proofs.Lookups.{not_true, true_false}
 use Rattle.ledger_laws.proofs.Reaching.{run-append}
 use Rattle.run_laws.specs.LocksDue.{lacks_lock, before_lock, IsStuck, BeginLocks}
-use Rattle.run_laws.proofs.Opening.{IsQuiet}
+use Rattle.ledger_laws.proofs.Openings.{IsQuiet}
 use Rattle.run_laws.proofs.OneLock.{LockStep, write_lock, fewer, one_less}
 
 locks-append : (es fs : List Event) → BeginLocks es → BeginLocks fs → BeginLocks (es ++ fs)

@@ -1,7 +1,7 @@
 -- What kept journals add to kept journals is of batches that are prepared in the new ones and were not done in the old ones.
 use Rattle.std.proofs.Common.{◌≡◌, ℕ, suc, ◌+◌, ◌-◌, ◌/◌, ◌*◌, ◌<◌, ◌≤◌, true, false, ◌&&◌, ◌==◌, List, [], ◌∷◌, ◌++◌, length, is_some, refl, sym, ap, ◌∙◌, subst, arith}
 use Rattle.std.proofs.Math.Nat.{div-lt_iff_lt-mul}
-use Rattle.cbdc_model.specs.Records.{Shape, Batch, same_batch, Compact, Record, Row, journal, record_of, kind_of, is_of, txs_in, txs_of, lock_of, Genesis, Lock, Finish, Forget, Start, Prepare, Commit, Discard, Done}
+use Rattle.cbdc_model.specs.Records.{Shape, Batch, Compact, Record, Row, journal, record_of, kind_of, is_of, txs_in, txs_of, lock_of, Genesis, Lock, Finish, Forget, Start, Prepare, Commit, Discard, Done}
 use Rattle.cbdc_model.specs.Slots.{slot}
 use Rattle.cbdc_model.specs.Grammar.{IsShard}
 use Rattle.cbdc_model.specs.Ranges.{home_of, shard_node, Concerned}
@@ -11,6 +11,7 @@ use Rattle.cbdc_model.specs.History.{Minted, minted, first_rows}
 use Rattle.cbdc_model.specs.World.{KeptJournals, AreIdle}
 use Rattle.cbdc_model.specs.Lanes.{IsEnd}
 use Rattle.cbdc_model.specs.Waves.{Adds, prepared, has_prepare, has_done}
+use Rattle.ledger_laws.proofs.ByKind.{test_itself}
 use Rattle.ledger_laws.proofs.Next.{Next, Steady, has_lock, has_forget, has_prepare as is_prepared}
 use Rattle.ledger_laws.proofs.Slots.{JournalOk, next_ok, same_batch_self}
 use Rattle.ledger_laws.proofs.More.{MoreOk, next_more, has_done as is_done}
@@ -22,10 +23,6 @@ use Rattle.ledger_laws.proofs.Recovered.{all_phases, done_forgot, done_if_prepar
 use Rattle.ledger_laws.proofs.Together.{lists_of}
 use Rattle.ledger_laws.proofs.Ledger.{steady}
 use Rattle.run_laws.proofs.NewRecords.{still_found, shifted}
-
--- the record is of that kind and batch
-tested : (kind : ℕ) (c : Batch) → ((kind == kind) && same_batch c c) ≡ true
-tested kind c = grind arith
 
 module _ (K : Shape) (minting : Minted) (P Q : Compact → Type 0) (some : 0 < K.shards) (before after : List Row) (kept : Steady K minting P before) (kept' : Steady K minting Q after) where
   abbrev I : ℕ → List Record
@@ -81,12 +78,7 @@ module _ (K : Shape) (minting : Minted) (P Q : Compact → Type 0) (some : 0 < K
           omega (arith, below, above)
       not_again (Genesis header hs) next t = absurd next
       not_again (Start header) next t = absurd next
-      not_again (Lock stamp b es) next t = absurd (let z : false ≡ true = t in cc)
-      not_again (Finish stamp b ds) next t = absurd (let z : false ≡ true = t in cc)
-      not_again (Forget stamp b) next t = absurd (let z : false ≡ true = t in cc)
-      not_again (Commit stamp b os) next t = absurd (let z : false ≡ true = t in cc)
-      not_again (Discard stamp b) next t = absurd (let z : false ≡ true = t in cc)
-      not_again (Done stamp b) next t = absurd (let z : false ≡ true = t in cc)
+      not_again other next t = absurd (let z : false ≡ true = t in cc)
 
   module _ (grows : (n : ℕ) → IsEnd (I n) (J n)) where
     same_prepare : (n : ℕ) (c : Batch) → is_prepared (I n) c ≡ true → record_of 6 (J n) c ≡ record_of 6 (I n) c
@@ -126,10 +118,10 @@ module _ (K : Shape) (minting : Minted) (P Q : Compact → Type 0) (some : 0 < K
         locked = subst (λ L. has_lock L c ≡ true) (sym e) (still_found newer (r ∷ rest) 2 c lock)
 
     prepared_here : (stamp : ℕ) (c : Batch) (txs : List Compact) (rest : List Record) → is_prepared (Prepare stamp c txs ∷ rest) c ≡ true
-    prepared_here stamp c txs rest = rw (tested 6 c)
+    prepared_here stamp c txs rest = rw (test_itself 6 c)
 
     locked_here : (stamp : ℕ) (c : Batch) (es : _) (rest : List Record) → has_lock (Lock stamp c es ∷ rest) c ≡ true
-    locked_here stamp c es rest = rw (tested 2 c)
+    locked_here stamp c es rest = rw (test_itself 2 c)
 
     new_of : (n : ℕ) (newer rest : List Record) (r : Record) → J n ≡ newer ++ r ∷ rest → IsEnd (I n) rest → (b : Batch) × (is_of b r ≡ true) × IsNewOf b
     new_of n newer rest r e h = by_kind r e (new_next n newer rest r e h) (oks_at n newer rest r e h)
@@ -162,14 +154,7 @@ longer lane (Prepare stamp b txs) L = elim (b.lane == lane) as (λ t. (b.lane ==
   | true ↦ λ t. rw t (omega arith)
   | false ↦ λ t. rw t (omega arith)
 ] refl
-longer lane (Genesis header hs) L = omega arith
-longer lane (Start header) L = omega arith
-longer lane (Lock stamp b es) L = omega arith
-longer lane (Finish stamp b ds) L = omega arith
-longer lane (Forget stamp b) L = omega arith
-longer lane (Commit stamp b os) L = omega arith
-longer lane (Discard stamp b) L = omega arith
-longer lane (Done stamp b) L = omega arith
+longer lane other L = omega arith
 
 longest : (lane : ℕ) (more L : List Record) → length (prepared lane L) ≤ length (prepared lane (more ++ L))
 longest lane [] L = omega arith
@@ -184,14 +169,7 @@ no_prepare b (Prepare stamp c txs) L le = not_true _ (λ t.
     let e : c ≡ b = (split_test 6 6 c b t).1 in
     let z : (c.lane == b.lane) ≡ true = grind (arith, ap (λ d. d.lane) e) in
     omega (arith, le, one_more b c stamp txs L z))
-no_prepare b (Genesis header hs) L le = refl
-no_prepare b (Start header) L le = refl
-no_prepare b (Lock stamp c es) L le = refl
-no_prepare b (Finish stamp c ds) L le = refl
-no_prepare b (Forget stamp c) L le = refl
-no_prepare b (Commit stamp c os) L le = refl
-no_prepare b (Discard stamp c) L le = refl
-no_prepare b (Done stamp c) L le = refl
+no_prepare b other L le = refl
 
 unprepared : (b : Batch) (more L : List Record) → length (prepared b.lane (more ++ L)) ≤ length (prepared b.lane L) → record_of 6 (more ++ L) b ≡ record_of 6 L b
 unprepared b [] L le = refl

@@ -6,12 +6,14 @@ use Rattle.cbdc_model.specs.Grammar.{IsShard}
 use Rattle.cbdc_model.specs.Ranges.{home_of, shard_node, Concerned}
 use Rattle.cbdc_model.specs.Due.{open_batch}
 use Rattle.cbdc_model.specs.History.{Minted, first_rows}
-use Rattle.cbdc_model.specs.Lanes.{IsEnd, Seen, Holds, may_come, Made, first_of}
+use Rattle.cbdc_model.specs.Lanes.{IsEnd, Seen, Holds, Made, first_of}
 use Rattle.cbdc_model.specs.Waves.{Adds, prepared}
+use Rattle.ledger_laws.proofs.Turns.{not_alone}
+use Rattle.ledger_laws.proofs.ByKind.{test_itself}
 use Rattle.ledger_laws.proofs.Next.{Next, Steady, has_lock, has_forget, has_prepare}
 use Rattle.ledger_laws.proofs.Slots.{JournalOk, next_ok}
 use Rattle.ledger_laws.proofs.More.{MoreOk, next_more}
-use Rattle.ledger_laws.proofs.Lookups.{true_false}
+use Rattle.ledger_laws.proofs.Lookups.{true_false, number_is}
 use Rattle.ledger_laws.proofs.Cuts.{end_trans}
 use Rattle.ledger_laws.proofs.Moves.{not_empty, test_step, all_structure, all_more}
 use Rattle.ledger_laws.proofs.Recovered.{all_dones, done_forgot}
@@ -40,40 +42,17 @@ still_found (q ∷ newer) L kind c h = elim ((kind_of q == kind) && is_of c q) a
 pub shifted : (newer more : List Record) (r : Record) (old : List Record) → newer ++ r ∷ (more ++ old) ≡ (newer ++ r ∷ []) ++ (more ++ old)
 shifted newer more r old = sym (append_assoc newer (r ∷ []) (more ++ old))
 
-itself : (kind : ℕ) (c : Batch) → ((kind == kind) && same_batch c c) ≡ true
-itself kind c = grind arith
-
-lane_is : (l lane : ℕ) → (l == lane) ≡ true → l ≡ lane
-lane_is l lane h = grind (arith, h)
-
 same_of : (lane number : ℕ) (c : Batch) → (c.lane == lane) ≡ true → c.number ≡ number → same_batch c (record { lane = lane; number = number }) ≡ true
 same_of lane number c l n = grind arith
 
 -- what holds of a Prepare alone holds of no record that is none
 no_prepare_found : (r : Record) (L : List Record) (c : Batch) → Holds [] r → record_of 6 (r ∷ L) c ≡ record_of 6 L c
 no_prepare_found (Prepare stamp b txs) L c h = absurd (held_none txs h)
-no_prepare_found (Genesis header hs) L c h = refl
-no_prepare_found (Start header) L c h = refl
-no_prepare_found (Lock stamp b es) L c h = refl
-no_prepare_found (Finish stamp b ds) L c h = refl
-no_prepare_found (Forget stamp b) L c h = refl
-no_prepare_found (Commit stamp b os) L c h = refl
-no_prepare_found (Discard stamp b) L c h = refl
-no_prepare_found (Done stamp b) L c h = refl
+no_prepare_found other L c h = refl
 
 none_prepared : (lane : ℕ) (r : Record) (L : List Record) → Holds [] r → prepared lane (r ∷ L) ≡ prepared lane L
 none_prepared lane (Prepare stamp b txs) L h = absurd (held_none txs h)
-none_prepared lane (Genesis header hs) L h = refl
-none_prepared lane (Start header) L h = refl
-none_prepared lane (Lock stamp b es) L h = refl
-none_prepared lane (Finish stamp b ds) L h = refl
-none_prepared lane (Forget stamp b) L h = refl
-none_prepared lane (Commit stamp b os) L h = refl
-none_prepared lane (Discard stamp b) L h = refl
-none_prepared lane (Done stamp b) L h = refl
-
-not_alone : (lane : ℕ) (r : Record) → may_come true lane r ≡ true → ⊥
-not_alone lane r h = grind (arith, h)
+none_prepared lane other L h = refl
 
 -- what a lane made alone
 module _ (K : Shape) (lane : ℕ) (pieces : List (List Compact)) (I J : ℕ → List Record) (made : Made K pieces true lane I J) where
@@ -127,13 +106,11 @@ module _ (K : Shape) (minting : Minted) (P : Compact → Type 0) (some : 0 < K.s
     number_step : (r : Record) (past : List Record) → is_in_lane lane r ≡ true → Holds [] r → Next K (home_of K lane) past r → (slot (r ∷ past) lane).number ≡ (slot past lane).number
     number_step (Genesis header hs) past l h next = absurd next
     number_step (Start header) past l h next = absurd next
-    number_step (Lock stamp c es) past l h next = absurd (omega (arith, home, next.1.0))
-    number_step (Finish stamp c ds) past l h next = absurd (omega (arith, home, next.1.0))
-    number_step (Forget stamp c) past l h next = absurd (omega (arith, home, next.1.0))
     number_step (Prepare stamp c txs) past l h next = absurd (held_none txs h)
-    number_step (Commit stamp c os) past l h next = rw l (sym next.4 ∙ ap (λ m. (slot past m).number) (lane_is c.lane lane l))
-    number_step (Discard stamp c) past l h next = rw l (sym next.4 ∙ ap (λ m. (slot past m).number) (lane_is c.lane lane l))
-    number_step (Done stamp c) past l h next = rw l (sym next.4 ∙ ap (λ m. (slot past m).number) (lane_is c.lane lane l))
+    number_step (Commit stamp c os) past l h next = rw l (sym next.4 ∙ ap (λ m. (slot past m).number) (number_is c.lane lane l))
+    number_step (Discard stamp c) past l h next = rw l (sym next.4 ∙ ap (λ m. (slot past m).number) (number_is c.lane lane l))
+    number_step (Done stamp c) past l h next = rw l (sym next.4 ∙ ap (λ m. (slot past m).number) (number_is c.lane lane l))
+    number_step other past l h next = absurd (omega (arith, home, next.1.0))
 
     number_from : (more newer : List Record) → J (home_of K lane) ≡ newer ++ (more ++ I (home_of K lane)) → (slot (more ++ I (home_of K lane)) lane).number ≡ (slot (I (home_of K lane)) lane).number
     number_from [] newer e = refl
@@ -148,11 +125,11 @@ module _ (K : Shape) (minting : Minted) (P : Compact → Type 0) (some : 0 < K.s
     -- a record of the coordinator
     at_log : (c : Batch) (n : ℕ) (newer rest : List Record) (r : Record) → (c.lane == lane) ≡ true → n ≡ home_of K c.lane → (slot rest c.lane).number ≡ c.number → J n ≡ newer ++ r ∷ rest → IsEnd (I n) rest
         → same_batch c B ≡ true
-    at_log c n newer rest r l at number e h = same_of lane (slot (I (home_of K lane)) lane).number c l (here (at ∙ ap (home_of K) (lane_is c.lane lane l)) e h)
+    at_log c n newer rest r l at number e h = same_of lane (slot (I (home_of K lane)) lane).number c l (here (at ∙ ap (home_of K) (number_is c.lane lane l)) e h)
       where
         here : n ≡ home_of K lane → J n ≡ newer ++ r ∷ rest → IsEnd (I n) rest → c.number ≡ (slot (I (home_of K lane)) lane).number
         here m = subst (λ k. J k ≡ newer ++ r ∷ rest → IsEnd (I k) rest → c.number ≡ (slot (I (home_of K lane)) lane).number) (sym m)
-            (λ e h. sym number ∙ ap (λ k. (slot rest k).number) (lane_is c.lane lane l) ∙ ap (λ L. (slot L lane).number) h.1
+            (λ e h. sym number ∙ ap (λ k. (slot rest k).number) (number_is c.lane lane l) ∙ ap (λ L. (slot L lane).number) h.1
             ∙ number_from h.0 (newer ++ r ∷ []) (e ∙ ap (λ L. newer ++ r ∷ L) h.1 ∙ shifted newer h.0 r (I (home_of K lane))))
 
     shard_at : (n : ℕ) → K.coordinators ≤ n → n ≡ shard_node K (n - K.coordinators)
@@ -168,7 +145,7 @@ module _ (K : Shape) (minting : Minted) (P : Compact → Type 0) (some : 0 < K.s
         let prepared_old : has_prepare (I (home_of K c.lane)) c ≡ true = ap is_some (sym same) ∙ prepared_new in
         let part : Concerned K (txs_of (J (home_of K c.lane)) c) s = (lt, not_empty (lock_of (J (shard_node K s)) c) _ (st.lock_part s c h) ((all_more K minting P some after kept' (shard_node K s)).lock_some c h)) in
         let le : c.number ≤ (slot (I (home_of K c.lane)) c.lane).number = ((all_structure K minting P some before kept).journals (home_of K c.lane)).prepare_below c prepared_old in
-        let at_lane : (slot (I (home_of K c.lane)) c.lane).number ≡ (slot (I (home_of K lane)) lane).number = ap (λ m. (slot (I (home_of K m)) m).number) (lane_is c.lane lane l) in
+        let at_lane : (slot (I (home_of K c.lane)) c.lane).number ≡ (slot (I (home_of K lane)) lane).number = ap (λ m. (slot (I (home_of K m)) m).number) (number_is c.lane lane l) in
         elim (either c.number (slot (I (home_of K c.lane)) c.lane).number le) [
           | inl e ↦ inl (e ∙ at_lane)
           | inr low ↦ inr (done_forgot K minting P some before kept c ((all_dones K minting P some before kept (home_of K c.lane)).past_done c prepared_old low) s
@@ -193,7 +170,7 @@ module _ (K : Shape) (minting : Minted) (P : Compact → Type 0) (some : 0 < K.s
     oks_at n newer rest r e h = subst (λ L. JournalOk L × MoreOk L) (sym h.1) (oks_from n h.0 (newer ++ r ∷ []) (e ∙ ap (λ L. newer ++ r ∷ L) h.1 ∙ shifted newer h.0 r (I n)))
 
     locked_first : (stamp : ℕ) (c : Batch) (rest : List Record) (es : _) → has_lock (Lock stamp c es ∷ rest) c ≡ true
-    locked_first stamp c rest es = rw (itself 2 c)
+    locked_first stamp c rest es = rw (test_itself 2 c)
 
     pub of_open : (n : ℕ) (newer rest : List Record) (r : Record) → J n ≡ newer ++ r ∷ rest → IsEnd (I n) rest → is_of B r ≡ true
     of_open n newer rest r e h = by_kind r e (its_own K lane [] I J made n newer rest r e h).0 (its_own K lane [] I J made n newer rest r e h).2 (new_next n newer rest r e h)

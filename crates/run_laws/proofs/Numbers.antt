@@ -1,5 +1,5 @@
 -- Along each journal of a history: what it found stays, and at a coordinator a lane's number is that of its Prepares.
-use Rattle.std.proofs.Common.{◌≡◌, ℕ, ◌+◌, ◌/◌, ◌<◌, ◌≤◌, Bool, true, false, ◌&&◌, ◌==◌, if◌then◌else◌, List, [], ◌∷◌, ◌++◌, length, reverse, is_some, refl, sym, ap, ◌∙◌, subst, arith, append_assoc}
+use Rattle.std.proofs.Common.{◌≡◌, ℕ, ◌+◌, ◌/◌, ◌<◌, ◌≤◌, true, false, ◌==◌, if◌then◌else◌, List, [], ◌∷◌, ◌++◌, length, reverse, is_some, refl, sym, ap, ◌∙◌, subst, arith, append_assoc}
 use Rattle.std.proofs.lemmas.List.{reverse-append, reverse-reverse, append_cancel_right, length-reverse, length-append}
 use Rattle.cbdc_model.specs.Records.{Shape, Batch, Compact, Record, Row, journal, record_of, Genesis, Lock, Finish, Forget, Start, Prepare, Commit, Discard, Done}
 use Rattle.cbdc_model.specs.Slots.{Slot, Phase, slot, Idle, InLock, InFinish, InPrepare, InCommit, InDiscard}
@@ -12,7 +12,7 @@ use Rattle.ledger_laws.proofs.Slots.{JournalOk, next_ok}
 use Rattle.ledger_laws.proofs.More.{MoreOk, next_more}
 use Rattle.ledger_laws.proofs.First.{AllFirst, journal_first, all_first}
 use Rattle.ledger_laws.proofs.Moves.{once, all_structure, all_more}
-use Rattle.ledger_laws.proofs.Finds.{Once, found_stays}
+use Rattle.ledger_laws.proofs.Finds.{Once, first_once, found_stays}
 use Rattle.ledger_laws.proofs.Ledger.{SteadyLists}
 use Rattle.ledger_laws.proofs.Together.{lists_of}
 use Rattle.ledger_laws.proofs.Cuts.{end_self, end_trans}
@@ -36,14 +36,7 @@ prepared_on lane (Prepare stamp b txs) A B = elim (b.lane == lane) as (λ c. (if
   | true ↦ refl
   | false ↦ refl
 ]
-prepared_on lane (Genesis header hs) A B = refl
-prepared_on lane (Start header) A B = refl
-prepared_on lane (Lock stamp b es) A B = refl
-prepared_on lane (Finish stamp b ds) A B = refl
-prepared_on lane (Forget stamp b) A B = refl
-prepared_on lane (Commit stamp b os) A B = refl
-prepared_on lane (Discard stamp b) A B = refl
-prepared_on lane (Done stamp b) A B = refl
+prepared_on lane other A B = refl
 
 pub prepared_more : (lane : ℕ) (newer older : List Record) → prepared lane (newer ++ older) ≡ prepared lane newer ++ prepared lane older
 prepared_more lane [] older = refl
@@ -53,13 +46,7 @@ first_prepared : (lane : ℕ) (J : List Record) → AllFirst J → prepared lane
 first_prepared lane [] f = refl
 first_prepared lane (Genesis header hs ∷ J) f = first_prepared lane J f.1
 first_prepared lane (Start header ∷ J) f = first_prepared lane J f.1
-first_prepared lane (Lock stamp b es ∷ J) f = absurd f.0
-first_prepared lane (Finish stamp b ds ∷ J) f = absurd f.0
-first_prepared lane (Forget stamp b ∷ J) f = absurd f.0
-first_prepared lane (Prepare stamp b txs ∷ J) f = absurd f.0
-first_prepared lane (Commit stamp b os ∷ J) f = absurd f.0
-first_prepared lane (Discard stamp b ∷ J) f = absurd f.0
-first_prepared lane (Done stamp b ∷ J) f = absurd f.0
+first_prepared lane (other ∷ J) f = absurd f.0
 
 abbrev no_slot : Slot
 no_slot = record { number = 0; phase = Idle }
@@ -68,31 +55,7 @@ first_slot : (lane : ℕ) (J : List Record) → AllFirst J → slot J lane ≡ n
 first_slot lane [] f = refl
 first_slot lane (Genesis header hs ∷ J) f = first_slot lane J f.1
 first_slot lane (Start header ∷ J) f = first_slot lane J f.1
-first_slot lane (Lock stamp b es ∷ J) f = absurd f.0
-first_slot lane (Finish stamp b ds ∷ J) f = absurd f.0
-first_slot lane (Forget stamp b ∷ J) f = absurd f.0
-first_slot lane (Prepare stamp b txs ∷ J) f = absurd f.0
-first_slot lane (Commit stamp b os ∷ J) f = absurd f.0
-first_slot lane (Discard stamp b ∷ J) f = absurd f.0
-first_slot lane (Done stamp b ∷ J) f = absurd f.0
-
-first_once : (J : List Record) → AllFirst J → Once J
-first_once [] f = tt
-first_once (Genesis header hs ∷ J) f = (λ kind c t. absurd (no_test (1 == kind) t), first_once J f.1)
-  where
-    no_test : (a : Bool) → (a && false) ≡ true → ⊥
-    no_test a h = grind arith
-first_once (Start header ∷ J) f = (λ kind c t. absurd (no_test (5 == kind) t), first_once J f.1)
-  where
-    no_test : (a : Bool) → (a && false) ≡ true → ⊥
-    no_test a h = grind arith
-first_once (Lock stamp c es ∷ J) f = absurd f.0
-first_once (Finish stamp c es ∷ J) f = absurd f.0
-first_once (Forget stamp c ∷ J) f = absurd f.0
-first_once (Prepare stamp c es ∷ J) f = absurd f.0
-first_once (Commit stamp c es ∷ J) f = absurd f.0
-first_once (Discard stamp c ∷ J) f = absurd f.0
-first_once (Done stamp c ∷ J) f = absurd f.0
+first_slot lane (other ∷ J) f = absurd f.0
 
 -- the list's halves where one item stands between
 pub turned : {A : Type 0} (newer older : List A) (x : A) (done : List A) → reverse done ≡ newer ++ x ∷ older → done ≡ reverse older ++ x ∷ reverse newer
@@ -168,9 +131,6 @@ module _ (K : Shape) (m : Minted) (P : Compact → Type 0) (some : 0 < K.shards)
       → (slot (r ∷ rest) lane).number ≡ length (prepared lane (r ∷ rest))
   number_step n lane low rest (Genesis header hs) next h = absurd next
   number_step n lane low rest (Start header) next h = absurd next
-  number_step n lane low rest (Lock stamp b es) next h = absurd (omega (arith, low, next.1.0))
-  number_step n lane low rest (Finish stamp b ds) next h = absurd (omega (arith, low, next.1.0))
-  number_step n lane low rest (Forget stamp b) next h = absurd (omega (arith, low, next.1.0))
   number_step n lane low rest (Prepare stamp b txs) next h = elim (b.lane == lane)
       as (λ c. (b.lane == lane) ≡ c → (if c then (record { number = b.number; phase = InPrepare }) else slot rest lane).number ≡ length (if c then txs ∷ prepared lane rest else prepared lane rest)) [
         | true ↦ λ e. (let there : (slot rest b.lane).number ≡ (slot rest lane).number = ap (λ l. (slot rest l).number) (lane_is b.lane lane e) in omega (arith, next.4, there, h))
@@ -191,6 +151,7 @@ module _ (K : Shape) (m : Minted) (P : Compact → Type 0) (some : 0 < K.shards)
         | true ↦ λ e. sym next.4 ∙ ap (λ l. (slot rest l).number) (lane_is b.lane lane e) ∙ h
         | false ↦ λ e. h
       ] refl
+  number_step n lane low rest other next h = absurd (omega (arith, low, next.1.0))
 
   -- a lane's number is how often it has prepared
   pub number_is : (n lane : ℕ) → n < K.coordinators → (V : List Record) → IsEnd (first_of K m n) V → IsEnd V (J n) → (slot V lane).number ≡ length (prepared lane V)
@@ -202,9 +163,6 @@ module _ (K : Shape) (m : Minted) (P : Compact → Type 0) (some : 0 < K.shards)
   coord_step : (n lane : ℕ) → n < K.coordinators → (rest : List Record) (r : Record) → Next K n rest r → IsCoordSlot K n lane (slot rest lane).phase → IsCoordSlot K n lane (slot (r ∷ rest) lane).phase
   coord_step n lane low rest (Genesis header hs) next h = absurd next
   coord_step n lane low rest (Start header) next h = absurd next
-  coord_step n lane low rest (Lock stamp b es) next h = absurd (omega (arith, low, next.1.0))
-  coord_step n lane low rest (Finish stamp b ds) next h = absurd (omega (arith, low, next.1.0))
-  coord_step n lane low rest (Forget stamp b) next h = absurd (omega (arith, low, next.1.0))
   coord_step n lane low rest (Prepare stamp b txs) next h = elim (b.lane == lane)
       as (λ c. (b.lane == lane) ≡ c → IsCoordSlot K n lane (if c then (record { number = b.number; phase = InPrepare }) else slot rest lane).phase) [
         | true ↦ λ e. next.2 ∙ ap (λ l. l / K.lanes) (lane_is b.lane lane e)
@@ -225,6 +183,7 @@ module _ (K : Shape) (m : Minted) (P : Compact → Type 0) (some : 0 < K.shards)
         | true ↦ λ e. tt
         | false ↦ λ e. h
       ] refl
+  coord_step n lane low rest other next h = absurd (omega (arith, low, next.1.0))
 
   pub coord_slot : (n lane : ℕ) → n < K.coordinators → (V : List Record) → IsEnd (first_of K m n) V → IsEnd V (J n) → IsCoordSlot K n lane (slot V lane).phase
   coord_slot n lane low V begins ends =
@@ -235,10 +194,6 @@ module _ (K : Shape) (m : Minted) (P : Compact → Type 0) (some : 0 < K.shards)
   shard_step : (n lane : ℕ) → K.coordinators ≤ n → (rest : List Record) (r : Record) → Next K n rest r → IsShardSlot (slot rest lane).phase → IsShardSlot (slot (r ∷ rest) lane).phase
   shard_step n lane high rest (Genesis header hs) next h = absurd next
   shard_step n lane high rest (Start header) next h = absurd next
-  shard_step n lane high rest (Prepare stamp b txs) next h = absurd (omega (arith, high, next.1))
-  shard_step n lane high rest (Commit stamp b os) next h = absurd (omega (arith, high, next.1))
-  shard_step n lane high rest (Discard stamp b) next h = absurd (omega (arith, high, next.1))
-  shard_step n lane high rest (Done stamp b) next h = absurd (omega (arith, high, next.1))
   shard_step n lane high rest (Lock stamp b es) next h = elim (b.lane == lane) as (λ c. IsShardSlot (if c then (record { number = b.number; phase = InLock }) else slot rest lane).phase) [
     | true ↦ tt
     | false ↦ h
@@ -251,6 +206,7 @@ module _ (K : Shape) (m : Minted) (P : Compact → Type 0) (some : 0 < K.shards)
     | true ↦ tt
     | false ↦ h
   ]
+  shard_step n lane high rest other next h = absurd (omega (arith, high, next.1))
 
   pub shard_slot : (n lane : ℕ) → K.coordinators ≤ n → (V : List Record) → IsEnd (first_of K m n) V → IsEnd V (J n) → IsShardSlot (slot V lane).phase
   shard_slot n lane high V begins ends =

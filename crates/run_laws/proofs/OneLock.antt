@@ -1,7 +1,7 @@
 -- One Lock that is still to come is written in a world that is up, and what this leaves of the others.
 use Rattle.std.proofs.Common.{◌≡◌, ℕ, suc, ◌+◌, ◌*◌, ◌^◌, ◌<◌, ◌≤◌, ◌/◌, max, Bool, true, false, ◌&&◌, not, ◌==◌, cond, List, [], ◌∷◌, ◌++◌, length, Some, None, is_some, refl, sym, ap, ◌∙◌, subst, arith}
 use Rattle.std.proofs.Math.Nat.{div-lt_iff_lt-mul}
-use Rattle.cbdc_model.specs.Records.{Shape, Batch, Compact, Record, Row, journal, record_of, kind_of, is_of, txs_in, txs_of, stamp_of, stamp_in, last_stamp, Genesis, Lock, Finish, Forget, Start, Prepare, Commit, Discard, Done}
+use Rattle.cbdc_model.specs.Records.{Shape, Batch, Compact, Record, Row, journal, record_of, kind_of, is_of, txs_in, txs_of, stamp_of, stamp_in, last_stamp, Lock}
 use Rattle.cbdc_model.specs.Due.{open_batch}
 use Rattle.cbdc_model.specs.Ranges.{shard_node, home_of, part, is_no_part}
 use Rattle.cbdc_model.specs.History.{Minted, first_rows, TxsPass}
@@ -13,7 +13,7 @@ use Rattle.ledger_laws.proofs.Worlds.{run_keeps}
 use Rattle.ledger_laws.proofs.Reaching.{ended, ended_at, ended_away, ended_length, written}
 use Rattle.ledger_laws.proofs.Found.{found_new}
 use Rattle.run_laws.specs.LocksDue.{lacks_lock_by, lacks_lock, lock_cause, before_lock, IsLock}
-use Rattle.run_laws.proofs.Opening.{IsQuiet}
+use Rattle.ledger_laws.proofs.Openings.{IsQuiet}
 use Rattle.run_laws.proofs.LockWrites.{LockFor, HasPrepare, has_prepare, lock_for}
 
 both_false : (a b : Bool) → (not a && not b) ≡ true → (a ≡ false) × (b ≡ false)
@@ -113,14 +113,7 @@ module _ (K : Shape) (minting : Minted) (P : Compact → Type 0) (shards : 0 < K
         where
           passes : (r : Record) → IsLock r → TxsPass P r
           passes (Lock stamp b es) h = tt
-          passes (Genesis header hs) h = absurd h
-          passes (Start header) h = absurd h
-          passes (Finish stamp b ds) h = absurd h
-          passes (Forget stamp b) h = absurd h
-          passes (Prepare stamp b txs) h = absurd h
-          passes (Commit stamp b os) h = absurd h
-          passes (Discard stamp b) h = absurd h
-          passes (Done stamp b) h = absurd h
+          passes other h = absurd h
 
           run_of : Run K minting v (Begin (shard_node K s) l.r ∷ End (shard_node K s) ∷ []) (ended K minting P shards v (shard_node K s) l.r in_v)
           run_of = written K minting P shards v (shard_node K s) l.r in_v (in_v, q.up (shard_node K s) in_v, q.quiet (shard_node K s) in_v)

@@ -1,6 +1,6 @@
 -- In kept journals a lane that is not idle at its coordinator is open there as recovery wants it.
-use Rattle.std.proofs.Common.{◌≡◌, ◌⊎◌, inl, inr, ℕ, suc, ◌^◌, ◌<◌, ◌≤◌, Bool, true, false, ◌&&◌, ◌==◌, not, nat_lt, List, [], ◌∷◌, ◌++◌, length, Option, Some, None, is_some, refl, sym, ap, ◌∙◌, subst, arith}
-use Rattle.cbdc_model.specs.Records.{Shape, Batch, same_batch, Compact, Entry, Answered, Record, Row, journal, record_of, is_in_lane, lock_of, txs_of, outcomes_of, stamp_in, stamp_of, Genesis, Lock, Finish, Forget, Start, Prepare, Commit, Discard, Done}
+use Rattle.std.proofs.Common.{◌≡◌, ◌⊎◌, inl, inr, ℕ, suc, ◌^◌, ◌<◌, ◌≤◌, Bool, true, false, ◌&&◌, not, nat_lt, List, [], ◌∷◌, ◌++◌, length, Option, Some, None, is_some, refl, sym, ap, ◌∙◌, subst, arith}
+use Rattle.cbdc_model.specs.Records.{Shape, Batch, Compact, Entry, Answered, Record, Row, journal, record_of, is_in_lane, lock_of, txs_of, outcomes_of, stamp_in, stamp_of, Forget, Prepare, Commit, Discard, Done}
 use Rattle.cbdc_model.specs.Slots.{Phase, slot, slot_stamp, Idle, InLock, InFinish, InPrepare, InCommit, InDiscard}
 use Rattle.cbdc_model.specs.Grammar.{IsInGrammar}
 use Rattle.cbdc_model.specs.Replies.{entries}
@@ -22,7 +22,7 @@ use Rattle.ledger_laws.proofs.Recovered.{all_dones, all_phases}
 use Rattle.ledger_laws.proofs.Standing.{standing}
 use Rattle.ledger_laws.proofs.Last.{last_of, slot_by, slot_is, last_found, last_in_lane}
 use Rattle.ledger_laws.proofs.Phases.{in_order}
-use Rattle.ledger_laws.proofs.Found.{found_grammar, finished_here, locked_here}
+use Rattle.ledger_laws.proofs.Found.{found_grammar, finished_here, locked_here, both_same}
 use Rattle.ledger_laws.proofs.Ledger.{steady}
 use Rattle.run_laws.specs.Open.{IsFit, HasAll, IsOpenBy, ResumeLaw, CheckedResumeLaw}
 use Rattle.run_laws.specs.Runs.{seen_by}
@@ -48,9 +48,6 @@ concerned s shards a h = (grind (arith, h), grind (arith, h))
 unconcerned : (s shards : ℕ) (a : Bool) → (nat_lt s shards && not a) ≡ false → (shards ≤ s) ⊎ (a ≡ true)
 unconcerned s shards true h = inr refl
 unconcerned s shards false h = inl (let le : shards ≤ s = grind (arith, h) in le)
-
-both_same : (c b : Batch) → (c.lane == b.lane) ≡ true → c.number ≡ b.number → same_batch c b ≡ true
-both_same c b l n = grind arith
 
 -- the same by lists: a coordinator's journal and those of the shards
 module _ (K : Shape) (b : Batch) where
@@ -216,13 +213,7 @@ module _ (K : Shape) (minting : Minted) (P : Compact → Type 0) (some : 0 < K.s
           of_record (Done stamp d) e l m i =
               absurd (true_false _ ((all_phases K minting P some later kept (shard_node K s)).done_prepared b (ap is_some (last_found (S s) 9 b (Done stamp d) e (both_same d b l m)))).0
               ((all_dones K minting P some later kept (shard_node K s)).pure b (omega arith)))
-          of_record (Genesis header hs) e l m i = absurd (let z : false ≡ true = l in cc)
-          of_record (Start header) e l m i = absurd (let z : false ≡ true = l in cc)
-          of_record (Lock stamp d es) e l m i = absurd (let z : InLock ≡ Idle = i in cc)
-          of_record (Finish stamp d ds) e l m i = absurd (let z : InFinish ≡ Idle = i in cc)
-          of_record (Prepare stamp d txs) e l m i = absurd (let z : InPrepare ≡ Idle = i in cc)
-          of_record (Commit stamp d os) e l m i = absurd (let z : InCommit ≡ Idle = i in cc)
-          of_record (Discard stamp d) e l m i = absurd (let z : InDiscard ≡ Idle = i in cc)
+          of_record other e l m i = cc
 
     -- ---- how far a concerned shard has come
 

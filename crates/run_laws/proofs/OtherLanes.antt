@@ -1,11 +1,16 @@
 -- What a lane made leaves of the other lanes.
 use Rattle.std.proofs.Common.{◌≡◌, ◌≢◌, inl, inr, ℕ, Bool, true, false, ◌==◌, List, [], ◌∷◌, ◌++◌, if◌then◌else◌, refl, sym, ap, ◌∙◌, append_assoc, arith}
-use Rattle.cbdc_model.specs.Records.{Shape, Compact, Record, is_in_lane, Genesis, Lock, Finish, Forget, Start, Prepare, Commit, Discard, Done}
+use Rattle.cbdc_model.specs.Records.{Shape, Compact, Record, is_in_lane, Prepare}
 use Rattle.cbdc_model.specs.Slots.{slot}
 use Rattle.cbdc_model.specs.Lanes.{may_come, Made}
 use Rattle.cbdc_model.specs.Waves.{prepared}
+use Rattle.ledger_laws.proofs.ByKind.{lanes_apart}
+use Rattle.ledger_laws.proofs.Last.{slot_stays}
 use Rattle.run_laws.specs.Runs.{seen_by, LeavesOthers, OthersLaw}
 use Rattle.run_laws.proofs.TurnStep.{lifted}
+
+unlike : (lane other : ℕ) → other ≢ lane → (lane == other) ≡ false
+unlike lane other apart = grind (arith, apart)
 
 -- a batch of the lane is none of another
 elsewhere : (l lane other : ℕ) → other ≢ lane → (l == lane) ≡ true → (l == other) ≡ false
@@ -17,27 +22,12 @@ passed false x y h = refl
 
 -- a record of the lane leaves the slot of another
 slot_step : (lane other : ℕ) (r : Record) (past : List Record) → other ≢ lane → is_in_lane lane r ≡ true → slot (r ∷ past) other ≡ slot past other
-slot_step lane other (Genesis header hs) past apart h = refl
-slot_step lane other (Start header) past apart h = refl
-slot_step lane other (Lock stamp b es) past apart h = passed (b.lane == other) _ (slot past other) (elsewhere b.lane lane other apart h)
-slot_step lane other (Finish stamp b ds) past apart h = passed (b.lane == other) _ (slot past other) (elsewhere b.lane lane other apart h)
-slot_step lane other (Forget stamp b) past apart h = passed (b.lane == other) _ (slot past other) (elsewhere b.lane lane other apart h)
-slot_step lane other (Prepare stamp b txs) past apart h = passed (b.lane == other) _ (slot past other) (elsewhere b.lane lane other apart h)
-slot_step lane other (Commit stamp b os) past apart h = passed (b.lane == other) _ (slot past other) (elsewhere b.lane lane other apart h)
-slot_step lane other (Discard stamp b) past apart h = passed (b.lane == other) _ (slot past other) (elsewhere b.lane lane other apart h)
-slot_step lane other (Done stamp b) past apart h = passed (b.lane == other) _ (slot past other) (elsewhere b.lane lane other apart h)
+slot_step lane other r past apart h = slot_stays r past other (lanes_apart lane other r h (unlike lane other apart))
 
 -- and is no Prepare of another
 prepared_step : (lane other : ℕ) (r : Record) (past : List Record) → other ≢ lane → is_in_lane lane r ≡ true → prepared other (r ∷ past) ≡ prepared other past
-prepared_step lane other (Genesis header hs) past apart h = refl
-prepared_step lane other (Start header) past apart h = refl
-prepared_step lane other (Lock stamp b es) past apart h = refl
-prepared_step lane other (Finish stamp b ds) past apart h = refl
-prepared_step lane other (Forget stamp b) past apart h = refl
 prepared_step lane other (Prepare stamp b txs) past apart h = passed (b.lane == other) (txs ∷ prepared other past) (prepared other past) (elsewhere b.lane lane other apart h)
-prepared_step lane other (Commit stamp b os) past apart h = refl
-prepared_step lane other (Discard stamp b) past apart h = refl
-prepared_step lane other (Done stamp b) past apart h = refl
+prepared_step lane other another past apart h = refl
 
 module _ (K : Shape) (pieces : List (List Compact)) (lane : ℕ) (I J : ℕ → List Record) (made : Made K pieces true lane I J) where
   not_alone : (r : Record) → may_come true lane r ≡ true → ⊥

@@ -1,7 +1,7 @@
 -- The q-th sound submission of a lane is the q-th transaction of its new Prepares.
-use Rattle.std.proofs.Common.{◌≡◌, ℕ, zero, suc, ◌-◌, ◌*◌, ◌<◌, ◌≤◌, Bool, true, false, ◌&&◌, ◌==◌, nat_lt, if◌then◌else◌, List, [], ◌∷◌, ◌++◌, map, reverse, length, Some, None, is_some, refl, sym, ap, ◌∙◌, subst, arith, append_assoc, append-nil}
+use Rattle.std.proofs.Common.{◌≡◌, ℕ, zero, suc, ◌-◌, ◌*◌, ◌<◌, ◌≤◌, Bool, true, false, ◌==◌, nat_lt, if◌then◌else◌, List, [], ◌∷◌, ◌++◌, map, reverse, length, Some, None, is_some, refl, sym, ap, ◌∙◌, subst, arith, append_assoc, append-nil}
 use Rattle.std.proofs.lemmas.List.{reverse-append, reverse-reverse, append_cancel_right, length-append}
-use Rattle.cbdc_model.specs.Records.{Shape, Batch, same_batch, Compact, Record, Row, journal, record_of, txs_in, txs_of, outcomes_of, lock_of, Prepare, Commit}
+use Rattle.cbdc_model.specs.Records.{Shape, Batch, Compact, Record, Row, journal, record_of, txs_in, txs_of, outcomes_of, lock_of, Prepare, Commit}
 use Rattle.cbdc_model.specs.Slots.{slot, Idle}
 use Rattle.cbdc_model.specs.Ranges.{home_of, shard_node}
 use Rattle.cbdc_model.specs.Outcomes.{outcome, outcomes}
@@ -11,6 +11,8 @@ use Rattle.cbdc_model.specs.History.{Minted, minted, first_rows}
 use Rattle.cbdc_model.specs.World.{AreIdle}
 use Rattle.cbdc_model.specs.Waves.{sent_to, prepared, AreFilesRun}
 use Rattle.cbdc_model.specs.Places.{sized_onto, place_of, outcome_at}
+use Rattle.ledger_laws.proofs.Lookups.{number_is}
+use Rattle.ledger_laws.proofs.ByKind.{test_itself}
 use Rattle.ledger_laws.proofs.Next.{Steady}
 use Rattle.ledger_laws.proofs.Standing.{standing}
 use Rattle.ledger_laws.proofs.Recovered.{all_dones, all_phases}
@@ -21,12 +23,6 @@ use Rattle.run_laws.proofs.Sharing.{joined, cut_joined, Told, told_in, txs_all, 
 use Rattle.run_laws.proofs.Told.{AllTold, told_middle, told_reversed, all_told, txs_reversed}
 use Rattle.run_laws.proofs.FreeReplies.{outcome_of_place}
 use Rattle.run_laws.proofs.WaveRecords.{found_at}
-
-itself : (kind : ℕ) (c : Batch) → ((kind == kind) && same_batch c c) ≡ true
-itself kind c = grind arith
-
-equal : (l m : ℕ) → (l == m) ≡ true → l ≡ m
-equal l m h = grind (arith, h)
 
 joined-append : (ps qs : List (List Compact)) → joined (ps ++ qs) ≡ joined ps ++ joined qs
 joined-append [] qs = refl
@@ -119,8 +115,8 @@ module _ (K : Shape) (minting : Minted) (P : Compact → Type 0) (some : 0 < K.s
         let is : J (home_of K lane) ≡ newer ++ Prepare stamp c txs ∷ (back ++ I (home_of K lane))
         = grown ∙ ap (λ m. m ++ I (home_of K lane)) e ∙ append_assoc newer (Prepare stamp c txs ∷ back) (I (home_of K lane)) in
         let found : record_of 6 (J (home_of K lane)) c ≡ Some (Prepare stamp c txs)
-        = found_at K minting P some old new kept kept' (home_of K lane) 6 c newer (back ++ I (home_of K lane)) (Prepare stamp c txs) is (back, refl) (itself 6 c) in
-        (equal c.lane lane l, ap txs_in found, ap is_some found)
+        = found_at K minting P some old new kept kept' (home_of K lane) 6 c newer (back ++ I (home_of K lane)) (Prepare stamp c txs) is (back, refl) (test_itself 6 c) in
+        (number_is c.lane lane l, ap txs_in found, ap is_some found)
 
     pub placed : (q : ℕ) (t : Compact) → tx_at (sent_of_all K sound files lane) q ≡ Some t → IsPlaced lane q t more (J (home_of K lane))
     placed q t e =

@@ -11,6 +11,7 @@ use Rattle.cbdc_model.specs.History.{Minted, header_of, first_rows}
 use Rattle.cbdc_model.specs.Lanes.{IsEnd, Seen, first_of}
 use Rattle.cbdc_model.specs.World.{replaced}
 use Rattle.cbdc_model.specs.Waves.{prepared}
+use Rattle.ledger_laws.proofs.ByKind.{some_is}
 use Rattle.ledger_laws.proofs.Next.{Next, Steady, has_lock, has_finish, has_forget, has_prepare}
 use Rattle.ledger_laws.proofs.Lookups.{not_true}
 use Rattle.ledger_laws.proofs.Moves.{not_empty}
@@ -26,9 +27,6 @@ use Rattle.run_laws.proofs.Lanes.{IsOfLane, others_stay, locked_slot, finished_s
 use Rattle.run_laws.proofs.Weights.{weight, all_at_home, home_in_records, kept_shard, from_lock, shard_in_records}
 use Rattle.run_laws.proofs.Budgets.{not_yet, not_there, unwritten_is, budget, budget_open, budget_new}
 use Rattle.run_laws.proofs.Growth.{home_in, fits_long, IsOpenBatch, open_where, kept_covered}
-
-some_is : (q r : Record) → Some q ≡ Some r → q ≡ r
-some_is q r e = cc
 
 -- behind the same journal
 past : (newer rest : List Record) (r : Record) → newer ++ r ∷ rest ≡ (newer ++ r ∷ []) ++ rest

@@ -2,7 +2,7 @@
 use Rattle.std.proofs.Common.{◌≡◌, ◌⊎◌, inl, inr, ℕ, ◌+◌, ◌*◌, ◌^◌, ◌<◌, ◌≤◌, ◌/◌, Bool, true, false, ◌&&◌, not, List, [], ◌∷◌, ◌++◌, length, is_some, sym, ap, subst, arith}
 use Rattle.std.proofs.Math.Nat.{mul-le-mul}
 use Rattle.cbdc_types.specs.Limits.{IsWithinLimits}
-use Rattle.cbdc_model.specs.Records.{Shape, Batch, Compact, Record, Row, journal, record_of, txs_of, last_stamp, Genesis, Lock, Finish, Forget, Start, Prepare, Commit, Discard, Done}
+use Rattle.cbdc_model.specs.Records.{Shape, Batch, Compact, Record, Row, journal, record_of, txs_of, last_stamp, Prepare}
 use Rattle.cbdc_model.specs.Slots.{slot}
 use Rattle.cbdc_model.specs.Due.{open_batch}
 use Rattle.cbdc_model.specs.Coins.{Output, FullTx}
@@ -24,7 +24,7 @@ use Rattle.ledger_laws.proofs.LanePhases.{Rests, lanes_rest}
 use Rattle.run_laws.specs.Laws.{late_records, RecoveryLaw, StuckLaw}
 use Rattle.run_laws.specs.LocksDue.{opened, lacks_lock, LocksFit, IsStuck, IsLock, BeginsLock, BeginLocks, Sticks}
 use Rattle.run_laws.proofs.Few.{low, few_enough}
-use Rattle.run_laws.proofs.Opening.{IsQuiet, Opened, open_all}
+use Rattle.ledger_laws.proofs.Openings.{IsQuiet, Opened, open_all}
 use Rattle.run_laws.proofs.LockWrites.{HasPrepare}
 use Rattle.run_laws.proofs.LockWrites as locks
 use Rattle.run_laws.proofs.OneLock.{LockStep}
@@ -82,15 +82,8 @@ enough K limits =
     sum m n h g = omega arith
 
 lock_no_prepare : (r : Record) → IsLock r → IsNoPrepare r
-lock_no_prepare (Lock stamp b es) h = tt
-lock_no_prepare (Genesis header hs) h = tt
-lock_no_prepare (Start header) h = tt
-lock_no_prepare (Finish stamp b ds) h = tt
-lock_no_prepare (Forget stamp b) h = tt
 lock_no_prepare (Prepare stamp b txs) h = absurd h
-lock_no_prepare (Commit stamp b os) h = tt
-lock_no_prepare (Discard stamp b) h = tt
-lock_no_prepare (Done stamp b) h = tt
+lock_no_prepare other h = tt
 
 of_event : (e : Event) → BeginsLock e → BeginsNone e
 of_event (Begin n r) h = lock_no_prepare r h

@@ -7,7 +7,8 @@ use Rattle.cbdc_model.specs.Clean.{IsProperCompact}
 use Rattle.cbdc_model.specs.History.{Minted, minted, first_rows}
 use Rattle.cbdc_model.specs.Sights.{Sight}
 use Rattle.lane_laws.specs.Batches.{Settled}
-use Rattle.ledger_laws.proofs.Next.{Next, Steady}
+use Rattle.ledger_laws.proofs.Next.{Steady}
+use Rattle.ledger_laws.proofs.ByKind.{at_a_node}
 use Rattle.ledger_laws.proofs.Slots.{JournalOk}
 use Rattle.ledger_laws.proofs.More.{MoreOk}
 use Rattle.ledger_laws.proofs.Moves.{split_test, all_structure, all_more}
@@ -51,24 +52,12 @@ none_later J ok more kind b lt =
     below (Discard stamp c) e t = omega (arith, lt, more.discard_below b (some 8 _ (split_test 8 kind c b t).0 e))
     below (Done stamp c) e t = omega (arith, lt, more.done_below b (some 9 _ (split_test 9 kind c b t).0 e))
 
--- what is next stands at a node of the ledger
-node_below : (K : Shape) (n : ℕ) (J : List Record) (r : Record) → Next K n J r → n < K.coordinators + K.shards
-node_below K n J (Genesis header hs) next = absurd next
-node_below K n J (Start header) next = absurd next
-node_below K n J (Lock stamp b es) next = next.1.1
-node_below K n J (Finish stamp b ds) next = next.1.1
-node_below K n J (Forget stamp b) next = next.1.1
-node_below K n J (Prepare stamp b txs) next = omega (arith, next.1)
-node_below K n J (Commit stamp b os) next = omega (arith, next.1)
-node_below K n J (Discard stamp b) next = omega (arith, next.1)
-node_below K n J (Done stamp b) next = omega (arith, next.1)
-
 -- behind the last node there is no journal
 pub none_beyond : (K : Shape) (minting : Minted) (P : Compact → Type 0) (later : List Row) → Steady K minting P later → (n : ℕ) → K.coordinators + K.shards ≤ n
     → journal n (later ++ first_rows K minting) ≡ []
 none_beyond K minting P [] kept n le = first_beyond K minting n le
 none_beyond K minting P (row ∷ later) kept n le =
-    let below : row.node < K.coordinators + K.shards = node_below K row.node (journal row.node (later ++ first_rows K minting)) row.what kept.0 in
+    let below : row.node < K.coordinators + K.shards = at_a_node K row.node (journal row.node (later ++ first_rows K minting)) row.what kept.0 in
     let other : (row.node == n) ≡ false = grind (arith, below, le) in
     ap (λ t. if t then row.what ∷ journal n (later ++ first_rows K minting) else journal n (later ++ first_rows K minting)) other
     ∙ none_beyond K minting P later kept.3 n le

@@ -1,6 +1,6 @@
 -- Which records of a batch a shard has.
 use Rattle.std.proofs.Common.{◌≡◌, ◌⊎◌, inl, inr, ℕ, ◌+◌, ◌-◌, ◌<◌, Bool, true, false, ◌&&◌, ◌==◌, nat_lt, if◌then◌else◌, List, [], ◌∷◌, ◌++◌, refl, sym, subst, arith}
-use Rattle.cbdc_model.specs.Records.{Digest, Shape, Compact, Batch, Record, Row, journal, kind_of, is_of, same_batch, Genesis, Lock, Finish, Forget, Start, Prepare, Commit, Discard, Done}
+use Rattle.cbdc_model.specs.Records.{Digest, Shape, Compact, Batch, Record, Row, journal, kind_of, is_of, same_batch, Genesis, Lock, Finish, Forget, Start}
 use Rattle.cbdc_model.specs.Ranges.{shard_node, on_shard}
 use Rattle.cbdc_model.specs.Grammar.{IsInGrammar}
 use Rattle.cbdc_model.specs.Clean.{IsProperCompact}
@@ -37,10 +37,7 @@ module _ (K : Shape) (m : Minted) (P : Compact → Type 0) (s kind : ℕ) (b : B
   not_it id n (Finish stamp c ds) e g = false_and (3 == kind) (same_batch c b) (unlike 3 kind (λ k. other (inr (inl k))))
   not_it id n (Forget stamp c) e g = false_and (4 == kind) (same_batch c b) (unlike 4 kind (λ k. other (inr (inr k))))
   not_it id n (Start header) e g = and_false (5 == kind)
-  not_it id n (Prepare stamp c txs) e g = let l : n < K.coordinators = g.2 in absurd (omega arith)
-  not_it id n (Commit stamp c os) e g = let l : n < K.coordinators = g.2 in absurd (omega arith)
-  not_it id n (Discard stamp c) e g = let l : n < K.coordinators = g.2 in absurd (omega arith)
-  not_it id n (Done stamp c) e g = let l : n < K.coordinators = g.2 in absurd (omega arith)
+  not_it id n other e g = let l : n < K.coordinators = g.2 in absurd (omega arith)
 
   first : count_of kind (first_record K m (shard_node K s) ∷ []) b ≡ 0
   first = elim (nat_lt (shard_node K s) K.coordinators) as (λ c. count_of kind ((if c then Start (header_of K m.id (shard_node K s))

@@ -3,7 +3,7 @@ use Rattle.std.proofs.Common.{◌≡◌, ℕ, suc, ◌+◌, ◌-◌, ◌%◌, �
 use Rattle.std.specs.List.{filter}
 use Rattle.std.proofs.lemmas.List.{map-append, reverse-append, take-append-drop, length-append}
 use Rattle.std.proofs.lemmas.List.Elements.{filter-append}
-use Rattle.cbdc_model.specs.Records.{Digest, Batch, Compact, Record, Genesis, Lock, Finish, Forget, Start, Prepare, Commit, Discard, Done}
+use Rattle.cbdc_model.specs.Records.{Digest, Batch, Compact, Record, Prepare}
 use Rattle.cbdc_model.specs.Status.{has}
 use Rattle.cbdc_model.specs.Coins.{FullTx, compact}
 use Rattle.cbdc_model.specs.Waves.{share, IsCut, prepared}
@@ -109,14 +109,7 @@ prepared_step lane (Prepare stamp b txs) T P more old h = elim (b.lane == lane)
       | true ↦ ap (λ l. txs ∷ l) h
       | false ↦ h
     ]
-prepared_step lane (Genesis header hs) T P more old h = h
-prepared_step lane (Start header) T P more old h = h
-prepared_step lane (Lock stamp b es) T P more old h = h
-prepared_step lane (Finish stamp b ds) T P more old h = h
-prepared_step lane (Forget stamp b) T P more old h = h
-prepared_step lane (Commit stamp b os) T P more old h = h
-prepared_step lane (Discard stamp b) T P more old h = h
-prepared_step lane (Done stamp b) T P more old h = h
+prepared_step lane other T P more old h = h
 
 pub prepared_told : (lane : ℕ) (more old : List Record) → prepared lane (more ++ old) ≡ txs_all (told_in lane more) ++ prepared lane old
 prepared_told lane [] old = refl
@@ -132,14 +125,7 @@ sized_step lane (Prepare stamp b txs) others T = elim (b.lane == lane)
       | true ↦ one_more T (b, txs) others
       | false ↦ refl
     ]
-sized_step lane (Genesis header hs) others T = refl
-sized_step lane (Start header) others T = refl
-sized_step lane (Lock stamp b es) others T = refl
-sized_step lane (Finish stamp b ds) others T = refl
-sized_step lane (Forget stamp b) others T = refl
-sized_step lane (Commit stamp b os) others T = refl
-sized_step lane (Discard stamp b) others T = refl
-sized_step lane (Done stamp b) others T = refl
+sized_step lane other others T = refl
 
 pub sized_told : (lane : ℕ) (more : List Record) (others : List Sized) → sized_onto lane more others ≡ map size_told (reverse (told_in lane more)) ++ others
 sized_told lane [] others = refl

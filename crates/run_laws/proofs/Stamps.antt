@@ -1,12 +1,12 @@
 -- No stamp is above the greatest one before by more than the number of records that have come.
-use Rattle.std.proofs.Common.{◌≡◌, ◌⊎◌, inl, inr, ℕ, zero, suc, ◌+◌, ◌-◌, ◌<◌, ◌≤◌, List, [], ◌∷◌, ◌++◌, length, refl, sym, ap, ◌∙◌, subst, arith, append_assoc}
+use Rattle.std.proofs.Common.{◌≡◌, ◌⊎◌, inl, inr, ℕ, suc, ◌+◌, ◌-◌, ◌<◌, ◌≤◌, List, [], ◌∷◌, ◌++◌, length, refl, sym, ap, ◌∙◌, subst, arith, append_assoc}
 use Rattle.std.proofs.lemmas.List.{length-append}
-use Rattle.cbdc_model.specs.Records.{Shape, Batch, Compact, Record, Row, journal, record_of, stamp_of, stamp_in, last_stamp, Genesis, Lock, Finish, Forget, Start, Prepare, Commit, Discard, Done}
-use Rattle.cbdc_model.specs.Ranges.{home_of, shard_node}
-use Rattle.cbdc_model.specs.Causes.{greatest, at_shards, IsCaused}
+use Rattle.cbdc_model.specs.Records.{Shape, Batch, Compact, Record, Row, journal, record_of, stamp_of, stamp_in, last_stamp, Genesis, Start}
+use Rattle.cbdc_model.specs.Causes.{IsCaused}
 use Rattle.cbdc_model.specs.History.{Minted, first_rows}
 use Rattle.cbdc_model.specs.Lanes.{IsEnd, first_of}
-use Rattle.ledger_laws.proofs.Next.{Next, Steady}
+use Rattle.ledger_laws.proofs.Next.{Steady}
+use Rattle.ledger_laws.proofs.ByKind.{after_stamp, at_a_node}
 use Rattle.ledger_laws.proofs.First.{AllFirst, journal_first, all_first}
 use Rattle.ledger_laws.proofs.Rows.{at, away, at_node, head_at, head_away}
 use Rattle.ledger_laws.proofs.Repeats.{all_order}
@@ -14,59 +14,17 @@ use Rattle.ledger_laws.proofs.HistoryLaws.{journal-append}
 use Rattle.ledger_laws.proofs.Cuts.{end_trans}
 use Rattle.run_laws.proofs.Sums.{sum_below, sum_le, sum_more}
 use Rattle.run_laws.proofs.Numbers.{lists, further}
+use Rattle.run_laws.proofs.WorldStamps.{caused_le}
 
 first_stamp : (J : List Record) → AllFirst J → last_stamp J ≡ 0
 first_stamp [] f = refl
 first_stamp (Genesis header hs ∷ J) f = refl
 first_stamp (Start header ∷ J) f = refl
-first_stamp (Lock stamp b es ∷ J) f = absurd f.0
-first_stamp (Finish stamp b ds ∷ J) f = absurd f.0
-first_stamp (Forget stamp b ∷ J) f = absurd f.0
-first_stamp (Prepare stamp b txs ∷ J) f = absurd f.0
-first_stamp (Commit stamp b os ∷ J) f = absurd f.0
-first_stamp (Discard stamp b ∷ J) f = absurd f.0
-first_stamp (Done stamp b ∷ J) f = absurd f.0
-
-rising : (K : Shape) (n : ℕ) (J : List Record) (r : Record) → Next K n J r → last_stamp J < stamp_of r
-rising K n J (Genesis header hs) next = absurd next
-rising K n J (Start header) next = absurd next
-rising K n J (Lock stamp b es) next = next.0
-rising K n J (Finish stamp b ds) next = next.0
-rising K n J (Forget stamp b) next = next.0
-rising K n J (Prepare stamp b txs) next = next.0
-rising K n J (Commit stamp b os) next = next.0
-rising K n J (Discard stamp b) next = next.0
-rising K n J (Done stamp b) next = next.0
-
-inside_of : (K : Shape) (n : ℕ) (J : List Record) (r : Record) → Next K n J r → n < K.coordinators + K.shards
-inside_of K n J (Genesis header hs) next = absurd next
-inside_of K n J (Start header) next = absurd next
-inside_of K n J (Lock stamp b es) next = next.1.1
-inside_of K n J (Finish stamp b ds) next = next.1.1
-inside_of K n J (Forget stamp b) next = next.1.1
-inside_of K n J (Prepare stamp b txs) next = omega (arith, next.1)
-inside_of K n J (Commit stamp b os) next = omega (arith, next.1)
-inside_of K n J (Discard stamp b) next = omega (arith, next.1)
-inside_of K n J (Done stamp b) next = omega (arith, next.1)
-
-greatest_most : (f : ℕ → ℕ) (n bound : ℕ) → ((k : ℕ) → f k ≤ bound) → greatest f n ≤ bound
-greatest_most f zero bound all = omega arith
-greatest_most f (suc n) bound all = let here : f n ≤ bound = all n in let rest : greatest f n ≤ bound = greatest_most f n bound all in omega arith
+first_stamp (other ∷ J) f = absurd f.0
 
 -- a record's stamp is at most one more than the greatest before it
 caused_most : (K : Shape) (J : ℕ → List Record) (n bound : ℕ) (r : Record) → ((k : ℕ) → last_stamp (J k) ≤ bound) → ((k kind : ℕ) (b : Batch) → stamp_in (record_of kind (J k) b) ≤ bound) → IsCaused K J n r → stamp_of r ≤ suc bound
-caused_most K J n bound (Genesis header hs) lasts finds c = omega arith
-caused_most K J n bound (Start header) lasts finds c = omega arith
-caused_most K J n bound (Prepare stamp b txs) lasts finds c = omega (arith, c, lasts n)
-caused_most K J n bound (Lock stamp b es) lasts finds c = omega (arith, c.2, lasts n, finds (home_of K b.lane) 6 b)
-caused_most K J n bound (Finish stamp b ds) lasts finds c = omega (arith, c.2, lasts n, finds (home_of K b.lane) 7 b)
-caused_most K J n bound (Forget stamp b) lasts finds c = omega (arith, c.1, lasts n, finds (home_of K b.lane) 8 b)
-caused_most K J n bound (Commit stamp b os) lasts finds c =
-    omega (arith, c.2, lasts n, greatest_most (λ s. stamp_in (at_shards K J 2 b s)) K.shards bound (λ s. finds (shard_node K s) 2 b))
-caused_most K J n bound (Discard stamp b) lasts finds c =
-    omega (arith, c.1, lasts n, greatest_most (λ s. stamp_in (at_shards K J 3 b s)) K.shards bound (λ s. finds (shard_node K s) 3 b))
-caused_most K J n bound (Done stamp b) lasts finds c =
-    omega (arith, c.1, lasts n, greatest_most (λ s. stamp_in (at_shards K J 4 b s)) K.shards bound (λ s. finds (shard_node K s) 4 b))
+caused_most K J n bound r lasts finds c = caused_le K J n bound r lasts (λ kind m b. finds m kind b) c
 
 -- of two beginnings of a list the shorter is one of the longer
 shorter : {A : Type 0} (a b : List A) (U V : List A) → a ++ U ≡ b ++ V → length U ≤ length V → (more : List A) × (V ≡ more ++ U)
@@ -101,7 +59,7 @@ module _ (K : Shape) (m : Minted) (P : Compact → Type 0) (some : 0 < K.shards)
     was_there n V r inside begins ends =
         let le : stamp_of r ≤ last_stamp (E n) = subst (λ L. stamp_of r ≤ last_stamp L) (sym ends.1)
         (further K m P some before old n (r ∷ V) begins (λ L. stamp_of r ≤ last_stamp L) (omega arith)
-        (λ newer rest q e h next le. (let up : last_stamp rest < stamp_of q = rising K n rest q next in omega (arith, le, up))) [] ends.0 ends.1) in
+        (λ newer rest q e h next le. (let up : last_stamp rest < stamp_of q = after_stamp K n rest q next in omega (arith, le, up))) [] ends.0 ends.1) in
         omega (arith, le, tops n inside)
 
     abbrev Bounded : List Row → Type 0
@@ -127,7 +85,7 @@ module _ (K : Shape) (m : Minted) (P : Compact → Type 0) (some : 0 < K.shards)
             (λ n lt. (let le : length (whole later n) ≤ length (whole (row ∷ later) n) = length_on row (later ++ first_rows K m) n in omega arith))
 
         inside : row.node < N
-        inside = inside_of K row.node (whole later row.node) row.what kept.0
+        inside = at_a_node K row.node (whole later row.node) row.what kept.0
 
         here : whole (row ∷ later) row.node ≡ row.what ∷ whole later row.node
         here = head_at row (later ++ first_rows K m) row.node refl
@@ -180,5 +138,5 @@ module _ (K : Shape) (m : Minted) (P : Compact → Type 0) (some : 0 < K.shards)
     front_most n V h v =
         let le : last_stamp V ≤ last_stamp (X n) = subst (λ L. last_stamp V ≤ last_stamp L) (sym v.1)
         (further K m P some after new n V (end_trans (first_of K m n) (E n) V ((lists K m P some before old).begins n) h) (λ L. last_stamp V ≤ last_stamp L) (omega arith)
-        (λ newer rest q e back next le. (let up : last_stamp rest < stamp_of q = rising K n rest q next in omega (arith, le, up))) [] v.0 v.1) in
+        (λ newer rest q e back next le. (let up : last_stamp rest < stamp_of q = after_stamp K n rest q next in omega (arith, le, up))) [] v.0 v.1) in
         omega (arith, le, last_most n)

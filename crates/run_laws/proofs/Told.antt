@@ -1,7 +1,7 @@
 -- What holds of each new Prepare of a lane.
 use Rattle.std.proofs.Common.{◌≡◌, true, false, ◌==◌, ℕ, if◌then◌else◌, List, [], ◌∷◌, ◌++◌, reverse, refl, sym, ap, ◌∙◌, subst}
 use Rattle.std.proofs.lemmas.List.{map-append, reverse-append, reverse-reverse, append_assoc}
-use Rattle.cbdc_model.specs.Records.{Digest, Batch, Compact, Record, Genesis, Lock, Finish, Forget, Start, Prepare, Commit, Discard, Done}
+use Rattle.cbdc_model.specs.Records.{Digest, Batch, Compact, Record, Prepare}
 use Rattle.run_laws.proofs.Sharing.{AllLack, lack_both, joined, Told, told_before, told_in, txs_all}
 
 abbrev pub AllTold : (Batch → List Compact → Type 0) → List Told → Type 0
@@ -30,14 +30,7 @@ told_step Q lane (Prepare stamp c txs) T h f = elim (c.lane == lane) as (λ l. (
   | true ↦ λ l. (f stamp c txs refl l, h)
   | false ↦ λ l. h
 ] refl
-told_step Q lane (Genesis header hs) T h f = h
-told_step Q lane (Start header) T h f = h
-told_step Q lane (Lock stamp c es) T h f = h
-told_step Q lane (Finish stamp c ds) T h f = h
-told_step Q lane (Forget stamp c) T h f = h
-told_step Q lane (Commit stamp c os) T h f = h
-told_step Q lane (Discard stamp c) T h f = h
-told_step Q lane (Done stamp c) T h f = h
+told_step Q lane other T h f = h
 
 pub all_told : (Q : Batch → List Compact → Type 0) (lane : ℕ) (more front : List Record)
     → ((newer back : List Record) (stamp : ℕ) (c : Batch) (txs : List Compact) → front ++ more ≡ newer ++ Prepare stamp c txs ∷ back → (c.lane == lane) ≡ true → Q c txs) → AllTold Q (told_in lane more)
@@ -51,14 +44,7 @@ told_rest Q lane (Prepare stamp c txs) T h = elim (c.lane == lane) as (λ l. All
   | true ↦ λ g. g.1
   | false ↦ λ g. g
 ] h
-told_rest Q lane (Genesis header hs) T h = h
-told_rest Q lane (Start header) T h = h
-told_rest Q lane (Lock stamp c es) T h = h
-told_rest Q lane (Finish stamp c ds) T h = h
-told_rest Q lane (Forget stamp c) T h = h
-told_rest Q lane (Commit stamp c os) T h = h
-told_rest Q lane (Discard stamp c) T h = h
-told_rest Q lane (Done stamp c) T h = h
+told_rest Q lane other T h = h
 
 pub told_at : (Q : Batch → List Compact → Type 0) (lane : ℕ) (newer back : List Record) (stamp : ℕ) (c : Batch) (txs : List Compact) → (c.lane == lane) ≡ true
     → AllTold Q (told_in lane (newer ++ Prepare stamp c txs ∷ back)) → Q c txs

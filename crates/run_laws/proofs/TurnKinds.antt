@@ -1,7 +1,7 @@
 -- What a driver says of a turn, taken to the journals of all nodes.
 use Rattle.std.proofs.Common.{◌≡◌, ◌⊎◌, inl, inr, ℕ, ◌<◌, true, false, List, [], ◌∷◌, refl, sym, ap, ◌∙◌, subst}
 use Rattle.cbdc_types.specs.declared.calls.NodeFault.{NodeFault}
-use Rattle.cbdc_model.specs.Records.{Shape, Batch, Compact, Outcome, Record, is_in_lane, Genesis, Lock, Finish, Forget, Start, Prepare, Commit, Discard, Done}
+use Rattle.cbdc_model.specs.Records.{Shape, Batch, Compact, Outcome, Record, is_in_lane, Prepare}
 use Rattle.cbdc_model.specs.Ranges.{home_of}
 use Rattle.cbdc_model.specs.Lanes.{Made}
 use Rattle.cbdc_model.specs.Waves.{prepared}
@@ -40,25 +40,11 @@ ends_law K pieces lane logs shards logs' shards' home turn = (lifted K pieces la
 
 prepared_out : (lane : ℕ) (r : Record) (J : List Record) → is_in_lane lane r ≡ false → prepared lane (r ∷ J) ≡ prepared lane J
 prepared_out lane (Prepare stamp b txs) J h = rw h
-prepared_out lane (Genesis header hs) J h = refl
-prepared_out lane (Start header) J h = refl
-prepared_out lane (Lock stamp b es) J h = refl
-prepared_out lane (Finish stamp b ds) J h = refl
-prepared_out lane (Forget stamp b) J h = refl
-prepared_out lane (Commit stamp b os) J h = refl
-prepared_out lane (Discard stamp b) J h = refl
-prepared_out lane (Done stamp b) J h = refl
+prepared_out lane other J h = refl
 
 prepared_here : (lane : ℕ) (r : Record) (I J : List Record) → is_in_lane lane r ≡ true → prepared lane J ≡ batches.prepared I → prepared lane (r ∷ J) ≡ batches.prepared (r ∷ I)
 prepared_here lane (Prepare stamp b txs) I J l h = rw l (ap (λ x. txs ∷ x) h)
-prepared_here lane (Genesis header hs) I J l h = h
-prepared_here lane (Start header) I J l h = h
-prepared_here lane (Lock stamp b es) I J l h = h
-prepared_here lane (Finish stamp b ds) I J l h = h
-prepared_here lane (Forget stamp b) I J l h = h
-prepared_here lane (Commit stamp b os) I J l h = h
-prepared_here lane (Discard stamp b) I J l h = h
-prepared_here lane (Done stamp b) I J l h = h
+prepared_here lane other I J l h = h
 
 pub prepared_own : (lane : ℕ) (J : List Record) → prepared lane J ≡ prepared_of lane J
 prepared_own lane [] = refl

@@ -1,12 +1,13 @@
 -- Records that kept journals have newly: each is next, is the one of its kind and batch, and what it makes of a hash's status.
 use Rattle.std.proofs.Common.{◌≡◌, ℕ, suc, ◌<◌, Bool, true, false, ◌&&◌, ◌==◌, if◌then◌else◌, List, [], ◌∷◌, ◌++◌, Some, is_some, refl, sym, ap, ◌∙◌, subst, arith, append_assoc}
-use Rattle.cbdc_model.specs.Records.{Digest, Shape, Batch, same_batch, Compact, Entry, Answered, Record, Row, journal, record_of, kind_of, is_of, is_held, entries_in, txs_of, lock_of, Genesis, Lock, Finish, Forget, Start, Prepare, Commit, Discard, Done}
+use Rattle.cbdc_model.specs.Records.{Digest, Shape, Batch, same_batch, Compact, Entry, Answered, Record, Row, journal, record_of, kind_of, is_of, is_held, entries_in, txs_of, lock_of, Genesis, Lock, Finish, Start}
 use Rattle.cbdc_model.specs.Status.{Status, status, has, held_inputs, made_outputs, returned_inputs, taken_inputs, finished_status, Unspent, Locked, Absent}
 use Rattle.cbdc_model.specs.Replies.{entries}
 use Rattle.cbdc_model.specs.Ranges.{home_of, shard_node, on_shard, is_empty, entry_of, part}
 use Rattle.cbdc_model.specs.History.{Minted, first_rows}
 use Rattle.cbdc_model.specs.Lanes.{IsEnd, first_of}
 use Rattle.cbdc_model.specs.Waves.{Adds, has_prepare}
+use Rattle.ledger_laws.proofs.ByKind.{test_itself, found_new}
 use Rattle.ledger_laws.proofs.Next.{Next, Steady, has_lock}
 use Rattle.ledger_laws.proofs.Slots.{JournalOk, next_ok}
 use Rattle.ledger_laws.proofs.More.{MoreOk, next_more}
@@ -67,12 +68,6 @@ stays_unspent x es ds before h e =
         | false ↦ ap (λ c. if c then Absent else before) (taken_lacks x es ds h) ∙ e
       ]
     ]
-
-found_new : (kind : ℕ) (q : Record) (J : List Record) (b : Batch) → ((kind_of q == kind) && is_of b q) ≡ true → record_of kind (q ∷ J) b ≡ Some q
-found_new kind q J b t = rw t
-
-itself : (kind : ℕ) (c : Batch) → ((kind == kind) && same_batch c c) ≡ true
-itself kind c = grind arith
 
 module _ (K : Shape) (minting : Minted) (P : Compact → Type 0) (some : 0 < K.shards) (before after : List Row) (kept : Steady K minting P before) (kept' : Steady K minting P after) where
   abbrev I : ℕ → List Record
@@ -142,10 +137,10 @@ module _ (K : Shape) (minting : Minted) (P : Compact → Type 0) (some : 0 < K.s
       -- the entries of a new batch's Lock
       lock_lacks : (newer rest : List Record) (stamp : ℕ) (c : Batch) (es : List Answered) → J n ≡ newer ++ Lock stamp c es ∷ rest → IsEnd (I n) rest → (c ≡ b → ⊥) → NoneSpends x (entries es)
       lock_lacks newer rest stamp c es e h apart =
-          let found : record_of 2 (J n) c ≡ Some (Lock stamp c es) = found_at n 2 c newer rest (Lock stamp c es) e h (itself 2 c) in
+          let found : record_of 2 (J n) c ≡ Some (Lock stamp c es) = found_at n 2 c newer rest (Lock stamp c es) e h (test_itself 2 c) in
           let is : entries (lock_of (J n) c) ≡ part K.shards s 0 (txs_of (J (home_of K c.lane)) c) = (all_structure K minting P some after kept').lock_part s c (ap is_some found) in
           let es_are : entries es ≡ part K.shards s 0 (txs_of (J (home_of K c.lane)) c) = ap (λ o. entries (entries_in o)) (sym found) ∙ is in
-          subst (NoneSpends x) (sym es_are) (part_lacks x K.shards s 0 (txs_of (J (home_of K c.lane)) c) (lacks c (of_new n newer rest (Lock stamp c es) c e h (itself 2 c)) apart))
+          subst (NoneSpends x) (sym es_are) (part_lacks x K.shards s 0 (txs_of (J (home_of K c.lane)) c) (lacks c (of_new n newer rest (Lock stamp c es) c e h (test_itself 2 c)) apart))
 
       pub record Stays (past : List Record) : Type 0 where
         pub unspent : status past x ≡ Unspent
@@ -164,19 +159,15 @@ module _ (K : Shape) (minting : Minted) (P : Compact → Type 0) (some : 0 < K.s
       step newer past (Genesis header hs) e h free stays = absurd (next_in n newer past (Genesis header hs) e h)
       step newer past (Start header) e h free stays = absurd (next_in n newer past (Start header) e h)
       step newer past (Lock stamp c es) e h free stays =
-          lock_step newer past stamp c es (lock_lacks newer past stamp c es e h (λ same. free (ap is_some (found_new 2 (Lock stamp c es) past b (subst (λ d. ((2 == 2) && same_batch c d) ≡ true) same (itself 2 c)))))) stays
+          lock_step newer past stamp c es (lock_lacks newer past stamp c es e h (λ same. free (ap is_some (found_new 2 (Lock stamp c es) past b (subst (λ d. ((2 == 2) && same_batch c d) ≡ true) same (test_itself 2 c)))))) stays
       step newer past (Finish stamp c ds) e h free stays =
           let next = next_in n newer past (Finish stamp c ds) e h in
           let locked : has_lock past c ≡ true = ((oks_in n (newer ++ Finish stamp c ds ∷ []) past (e ∙ sym (append_assoc newer (Finish stamp c ds ∷ []) past)) h).0.locked c next.2 next.3).0 in
           record {
-            unspent = stays_unspent x (lock_of past c) ds (status past x) (stays.spares c (of_new n newer past (Finish stamp c ds) c e h (itself 3 c)) (λ same. free (subst (λ d. has_lock past d ≡ true) same locked))) stays.unspent;
+            unspent = stays_unspent x (lock_of past c) ds (status past x) (stays.spares c (of_new n newer past (Finish stamp c ds) c e h (test_itself 3 c)) (λ same. free (subst (λ d. has_lock past d ≡ true) same locked))) stays.unspent;
             spares = stays.spares;
           }
-      step newer past (Forget stamp c) e h free stays = record { unspent = stays.unspent; spares = stays.spares }
-      step newer past (Prepare stamp c txs) e h free stays = record { unspent = stays.unspent; spares = stays.spares }
-      step newer past (Commit stamp c os) e h free stays = record { unspent = stays.unspent; spares = stays.spares }
-      step newer past (Discard stamp c) e h free stays = record { unspent = stays.unspent; spares = stays.spares }
-      step newer past (Done stamp c) e h free stays = record { unspent = stays.unspent; spares = stays.spares }
+      step newer past other e h free stays = record { unspent = stays.unspent; spares = stays.spares }
 
       go : status (I n) x ≡ Unspent → (more newer : List Record) → J n ≡ newer ++ (more ++ I n) → (has_lock (more ++ I n) b ≡ true → ⊥) → Stays (more ++ I n)
       go base [] newer e free = record { unspent = base; spares = λ c new apart. subst (λ es. NoneSpends x (entries es)) (sym (no_lock (I n) c (not_true _ (never_locked c n new)))) tt }

@@ -1,6 +1,6 @@
 -- How far a run has come: through the lanes that an earlier run left open, and through its files.
 use Rattle.std.proofs.Common.{◌≡◌, ◌≢◌, ◌⊎◌, inl, inr, ℕ, suc, ◌<◌, ◌≤◌, Bool, true, false, ◌&&◌, ◌==◌, List, [], ◌∷◌, ◌++◌, is_some, refl, sym, ap, ◌∙◌, subst, arith}
-use Rattle.cbdc_model.specs.Records.{Shape, Batch, Record, record_of, is_of, same_batch, Genesis, Lock, Finish, Forget, Start, Prepare, Commit, Discard, Done}
+use Rattle.cbdc_model.specs.Records.{Shape, Batch, Record, record_of, is_of, Genesis}
 use Rattle.cbdc_model.specs.Ranges.{home_of}
 use Rattle.cbdc_model.specs.Slots.{slot, Idle}
 use Rattle.cbdc_model.specs.Coins.{FullTx}
@@ -19,7 +19,7 @@ use Rattle.run_laws.proofs.NewRecords.{in_journal, still_found}
 adds_none : (P : Batch → Type 0) (J : ℕ → List Record) → Adds P J J
 adds_none P J = record { grows = λ n. end_self (J n); each = λ n newer rest r e h. absurd (no_room (J n) newer rest r h.0 h.1 e) }
 
-adds_on : (P Q R : Batch → Type 0) (I J X : ℕ → List Record) → ((b : Batch) → P b → R b) → ((b : Batch) → Q b → R b) → Adds P I J → Adds Q J X → Adds R I X
+pub adds_on : (P Q R : Batch → Type 0) (I J X : ℕ → List Record) → ((b : Batch) → P b → R b) → ((b : Batch) → Q b → R b) → Adds P I J → Adds Q J X → Adds R I X
 adds_on P Q R I J X p q a b = record {
   grows = λ n. end_trans (I n) (J n) (X n) (a.grows n) (b.grows n);
   each = λ n newer rest r e h. elim (cut (b.grows n).0 (J n) newer rest r (sym (b.grows n).1 ∙ e)) [
@@ -29,28 +29,18 @@ adds_on P Q R I J X p q a b = record {
 }
 
 -- what was found is still found
-grown : (kind : ℕ) (c : Batch) (I J : List Record) → IsEnd I J → is_some (record_of kind I c) ≡ true → is_some (record_of kind J c) ≡ true
+pub grown : (kind : ℕ) (c : Batch) (I J : List Record) → IsEnd I J → is_some (record_of kind I c) ≡ true → is_some (record_of kind J c) ≡ true
 grown kind c I J h f = subst (λ L. is_some (record_of kind L c) ≡ true) (sym h.1) (still_found h.0 I kind c f)
 
-not_before : (kind : ℕ) (c : Batch) (I J : List Record) → IsEnd I J → is_some (record_of kind J c) ≡ false → is_some (record_of kind I c) ≡ false
+pub not_before : (kind : ℕ) (c : Batch) (I J : List Record) → IsEnd I J → is_some (record_of kind J c) ≡ false → is_some (record_of kind I c) ≡ false
 not_before kind c I J h f = not_true _ (λ t. true_false _ (grown kind c I J h t) f)
 
 -- a record is of one batch
-both_are : (d c b : Batch) → same_batch d c ≡ true → same_batch d b ≡ true → c ≡ b
-both_are d c b x y = sym (same_batch_is d c x) ∙ same_batch_is d b y
-
 pub one_batch : (c b : Batch) (r : Record) → is_of c r ≡ true → is_of b r ≡ true → c ≡ b
 one_batch c b (Genesis header hs) x y = absurd (let z : false ≡ true = x in cc)
-one_batch c b (Start header) x y = absurd (let z : false ≡ true = x in cc)
-one_batch c b (Lock stamp d es) x y = both_are d c b x y
-one_batch c b (Finish stamp d ds) x y = both_are d c b x y
-one_batch c b (Forget stamp d) x y = both_are d c b x y
-one_batch c b (Prepare stamp d txs) x y = both_are d c b x y
-one_batch c b (Commit stamp d os) x y = both_are d c b x y
-one_batch c b (Discard stamp d) x y = both_are d c b x y
-one_batch c b (Done stamp d) x y = both_are d c b x y
+one_batch c b other x y = same_batch_is c b (grind (arith, x, y))
 
-second : (a c : Bool) → (a && c) ≡ true → c ≡ true
+pub second : (a c : Bool) → (a && c) ≡ true → c ≡ true
 second a c h = grind (arith, h)
 
 apart : (a b : ℕ) → (a == b) ≡ false → b ≢ a

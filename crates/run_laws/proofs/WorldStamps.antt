@@ -1,18 +1,16 @@
 -- Each stamp above 2^62 is at most one more than those before it, so none is further above it than there are such records.
-use Rattle.std.proofs.Common.{◌≡◌, ℕ, zero, suc, ◌+◌, ◌^◌, ◌<◌, ◌≤◌, ◌/◌, Bool, true, false, nat_lt, if◌then◌else◌, List, [], ◌∷◌, ◌++◌, length, refl, sym, subst, arith}
+use Rattle.std.proofs.Common.{◌≡◌, ℕ, suc, ◌+◌, ◌^◌, ◌<◌, ◌≤◌, ◌/◌, Bool, true, false, nat_lt, if◌then◌else◌, List, [], ◌∷◌, ◌++◌, length, refl, sym, subst, arith}
 use Rattle.cbdc_model.specs.Records.{Shape, Batch, Compact, Record, Row, journal, record_of, stamp_of, stamp_in, last_stamp, kind_of, Genesis, Lock, Finish, Forget, Start, Prepare, Commit, Discard, Done}
-use Rattle.cbdc_model.specs.Causes.{IsCaused, greatest, at_shards}
+use Rattle.cbdc_model.specs.Causes.{IsCaused, at_shards}
 use Rattle.cbdc_model.specs.Ranges.{shard_node}
 use Rattle.cbdc_model.specs.History.{Minted, first_rows}
+use Rattle.ledger_laws.proofs.Resuming.{greatest_le}
 use Rattle.ledger_laws.proofs.Next.{Steady}
 use Rattle.ledger_laws.proofs.Rows.{at, away, at_node, head_at, head_away}
 use Rattle.ledger_laws.proofs.First.{AllFirst, journal_first, all_first}
 use Rattle.ledger_laws.proofs.Repeats.{all_order}
+pub use Rattle.ledger_laws.proofs.ByKind.{lane_in}
 use Rattle.run_laws.proofs.Codes.{code_of}
-
-greatest_le : (f : ℕ → ℕ) (top n : ℕ) → ((s : ℕ) → f s ≤ top) → greatest f n ≤ top
-greatest_le f top zero h = omega arith
-greatest_le f top (suc n) h = omega (arith, greatest_le f top n h, h n)
 
 -- a caused record's stamp is at most one more than all that stand
 pub caused_le : (K : Shape) (J : ℕ → List Record) (n top : ℕ) (r : Record) → ((m : ℕ) → last_stamp (J m) ≤ top) → ((kind m : ℕ) (b : Batch) → stamp_in (record_of kind (J m) b) ≤ top)
@@ -29,18 +27,6 @@ caused_le K J n top (Discard stamp b) low all c =
     omega (arith, low n, greatest_le (λ s. stamp_in (at_shards K J 3 b s)) top K.shards (λ s. all 3 (shard_node K s) b), c.1)
 caused_le K J n top (Done stamp b) low all c =
     omega (arith, low n, greatest_le (λ s. stamp_in (at_shards K J 4 b s)) top K.shards (λ s. all 4 (shard_node K s) b), c.1)
-
--- a record's lane
-abbrev pub lane_in : Record → ℕ
-lane_in (Genesis header hs) = 0
-lane_in (Start header) = 0
-lane_in (Lock stamp b es) = b.lane
-lane_in (Finish stamp b ds) = b.lane
-lane_in (Forget stamp b) = b.lane
-lane_in (Prepare stamp b txs) = b.lane
-lane_in (Commit stamp b os) = b.lane
-lane_in (Discard stamp b) = b.lane
-lane_in (Done stamp b) = b.lane
 
 abbrev pub is_late : Record → Bool
 is_late r = nat_lt (2 ^ 62) (stamp_of r)
@@ -75,13 +61,7 @@ first_low : (J : List Record) → AllFirst J → last_stamp J ≤ 2 ^ 62 + 0
 first_low [] h = omega arith
 first_low (Genesis header hs ∷ J) h = omega arith
 first_low (Start header ∷ J) h = omega arith
-first_low (Lock stamp b es ∷ J) h = absurd h.0
-first_low (Finish stamp b ds ∷ J) h = absurd h.0
-first_low (Forget stamp b ∷ J) h = absurd h.0
-first_low (Prepare stamp b txs ∷ J) h = absurd h.0
-first_low (Commit stamp b os ∷ J) h = absurd h.0
-first_low (Discard stamp b ∷ J) h = absurd h.0
-first_low (Done stamp b ∷ J) h = absurd h.0
+first_low (other ∷ J) h = absurd h.0
 
 module _ (K : Shape) (minting : Minted) (P : Compact → Type 0) (shards : 0 < K.shards) where
   abbrev whole : List Row → ℕ → List Record

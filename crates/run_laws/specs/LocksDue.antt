@@ -5,12 +5,9 @@ use Rattle.cbdc_model.specs.Ranges.{shard_node, home_of, part, is_no_part}
 use Rattle.cbdc_model.specs.Due.{open_batch}
 use Rattle.cbdc_model.specs.Coins.{Output, FullTx}
 use Rattle.cbdc_model.specs.History.{minted}
-use Rattle.cbdc_model.specs.World.{World, node_at, journals, flushed, Event, Begin, Run, KeptWorld}
+use Rattle.cbdc_model.specs.World.{World, journals, Event, Begin, Run, KeptWorld}
 use Rattle.ledger_laws.specs.Resumed.{openings}
-
--- the journals of the nodes once they are opened again, each keeping what was in flight or not
-abbrev pub opened : (ℕ → Bool) → World → ℕ → List Record
-opened kept_at w n = if (node_at w n).up && kept_at n then flushed (node_at w n).flight (journals w n) else journals w n
+pub use Rattle.ledger_laws.specs.Resumed.{opened}
 
 -- whether the lane's last batch has a part for shard s and no Lock there, by the journals of the two nodes
 abbrev pub lacks_lock_by : Shape → List Record → List Record → ℕ → ℕ → Bool

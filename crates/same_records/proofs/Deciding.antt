@@ -1,5 +1,5 @@
 -- What the tests of equality decide that types derive.
-use Rattle.std.proofs.Common.{◌≡◌, ℕ, true, Bool, List, refl, subst, arith}
+use Rattle.std.proofs.Common.{◌≡◌, true, Bool, List, refl, subst, arith}
 use Rattle.std.proofs.lemmas.Bool.Decides.{Decides-eqb}
 use Rattle.std.proofs.lemmas.Grind.{common_steps}
 use Rattle.std.specs.Bool.{Decides, beq}
@@ -123,12 +123,10 @@ record_self : (x : Record) → of_record.eq-value.it x x ≡ true
 record_self (Genesis g xs) = grind (arith, common_steps, (header_decides g g).1, (hashes_decide xs xs).1)
 record_self (Lock s b xs) = grind (arith, common_steps, (all_answered_decide xs xs).1)
 record_self (Finish s b xs) = grind (arith, common_steps, (decisions_decide xs xs).1)
-record_self (Forget s b) = grind (arith, common_steps)
 record_self (Start g) = grind (arith, common_steps, (header_decides g g).1)
 record_self (Prepare s b xs) = grind (arith, common_steps, (compacts_decide xs xs).1)
 record_self (Commit s b xs) = grind (arith, common_steps, (outcomes_decide xs xs).1)
-record_self (Discard s b) = grind (arith, common_steps)
-record_self (Done s b) = grind (arith, common_steps)
+record_self other = grind (arith, common_steps)
 
 pub record_decides : (x y : Record) → Decides (of_record.eq-value.it x y) (x ≡ y)
 record_decides x y = decided of_record.eq-value.it record_is record_self x y

@@ -2,13 +2,14 @@
 use Rattle.std.proofs.Common.{◌≡◌, inl, inr, ℕ, ◌+◌, ◌-◌, ◌<◌, ◌≤◌, true, false, ◌&&◌, ◌==◌, nat_lt, if◌then◌else◌, List, [], ◌∷◌, ◌++◌, map, reverse, length, Option, Some, None, is_some, refl, sym, ap, ◌∙◌, subst, arith, append_assoc}
 use Rattle.std.proofs.lemmas.Bool.{cases_lt}
 use Rattle.std.proofs.lemmas.List.{reverse-append}
-use Rattle.cbdc_model.specs.Records.{Shape, Batch, same_batch, Compact, Record, Row, journal, record_of, txs_in, txs_of, Genesis, Lock, Finish, Forget, Start, Prepare, Commit, Discard, Done}
+use Rattle.cbdc_model.specs.Records.{Shape, Batch, same_batch, Compact, Record, Row, journal, record_of, txs_in, txs_of, Prepare}
 use Rattle.cbdc_model.specs.Ranges.{home_of}
 use Rattle.cbdc_model.specs.History.{Minted, first_rows}
 use Rattle.cbdc_model.specs.Waves.{has_prepare}
 use Rattle.cbdc_model.specs.Places.{PlaceIn, place_of}
+use Rattle.ledger_laws.proofs.ByKind.{test_itself, some_is}
 use Rattle.ledger_laws.proofs.Next.{Steady}
-use Rattle.ledger_laws.proofs.Lookups.{true_false, not_true}
+use Rattle.ledger_laws.proofs.Lookups.{true_false, not_true, number_is}
 use Rattle.ledger_laws.proofs.Cuts.{cut}
 use Rattle.ledger_laws.proofs.Finds.{stands}
 use Rattle.run_laws.proofs.LastRecords.{prepare_stands}
@@ -18,15 +19,6 @@ use Rattle.run_laws.proofs.Sharing.{joined, Told, told_before, told_in, txs_all,
 use Rattle.run_laws.proofs.Told.{AllTold, told_append, told_reversed, all_told}
 use Rattle.run_laws.proofs.WaveRecords.{never_twice, found_at}
 use Rattle.submission_laws.proofs.Lists.{tx_behind, tx_front, tx_low}
-
-itself : (kind : ℕ) (c : Batch) → ((kind == kind) && same_batch c c) ≡ true
-itself kind c = grind arith
-
-lane_is : (l m : ℕ) → (l == m) ≡ true → l ≡ m
-lane_is l m h = grind (arith, h)
-
-some_record : (q r : Record) → Some q ≡ Some r → q ≡ r
-some_record q r e = cc
 
 some_place : (p q : PlaceIn) → Some p ≡ Some q → p ≡ q
 some_place p q e = cc
@@ -89,14 +81,7 @@ told_both lane (r ∷ A) B = ap (told_before lane r) (told_both lane A B) ∙ be
   where
     before_both : (lane : ℕ) (r : Record) (S T : List Told) → told_before lane r (S ++ T) ≡ told_before lane r S ++ T
     before_both lane (Prepare stamp b txs) S T = elim (b.lane == lane) as (λ c. (if c then (b, txs) ∷ (S ++ T) else S ++ T) ≡ (if c then (b, txs) ∷ S else S) ++ T) [ true ↦ refl | false ↦ refl ]
-    before_both lane (Genesis header hs) S T = refl
-    before_both lane (Start header) S T = refl
-    before_both lane (Lock stamp b es) S T = refl
-    before_both lane (Finish stamp b ds) S T = refl
-    before_both lane (Forget stamp b) S T = refl
-    before_both lane (Commit stamp b os) S T = refl
-    before_both lane (Discard stamp b) S T = refl
-    before_both lane (Done stamp b) S T = refl
+    before_both lane other S T = refl
 
 pub told_parts : (lane : ℕ) (A B : List Record) → told_in lane (A ++ B) ≡ told_in lane A ++ told_in lane B
 told_parts lane A B = told_both lane A B
@@ -142,7 +127,7 @@ module _ (K : Shape) (minting : Minted) (P : Compact → Type 0) (some : 0 < K.s
 
   -- a Prepare that came newly is of a batch that was not prepared before, nor elsewhere
   fresh : (n : ℕ) (newer back : List Record) (stamp : ℕ) (c : Batch) (txs : List Compact) → J n ≡ newer ++ Prepare stamp c txs ∷ (back ++ I n) → is_some (record_of 6 (back ++ I n) c) ≡ true → ⊥
-  fresh n newer back stamp c txs e found = never_twice K minting P some old new kept kept' n newer (back ++ I n) (Prepare stamp c txs) 6 c e (back, refl) (itself 6 c) found
+  fresh n newer back stamp c txs e found = never_twice K minting P some old new kept kept' n newer (back ++ I n) (Prepare stamp c txs) 6 c e (back, refl) (test_itself 6 c) found
 
   module _ (lane : ℕ) (more : List Record) (grown : J (home_of K lane) ≡ more ++ I (home_of K lane)) where
     -- each batch of the lane's new Prepares is of the lane, was not prepared before, and has these transactions now
@@ -154,12 +139,12 @@ module _ (K : Shape) (minting : Minted) (P : Compact → Type 0) (some : 0 < K.s
 
     each_own : (newer back : List Record) (stamp : ℕ) (c : Batch) (txs : List Compact) → [] ++ more ≡ newer ++ Prepare stamp c txs ∷ back → (c.lane == lane) ≡ true → IsOwn c txs
     each_own newer back stamp c txs e l =
-        let own : c.lane ≡ lane = lane_is c.lane lane l in
+        let own : c.lane ≡ lane = number_is c.lane lane l in
         let is : J (home_of K lane) ≡ newer ++ Prepare stamp c txs ∷ (back ++ I (home_of K lane)) = placed_at newer back stamp c txs e in (
           own,
           not_true (has_prepare K I c)
               (λ h. fresh (home_of K lane) newer back stamp c txs is (still_found back (I (home_of K lane)) 6 c (subst (λ m. is_some (record_of 6 (I (home_of K m)) c) ≡ true) own h))),
-          ap txs_in (found_at K minting P some old new kept kept' (home_of K lane) 6 c newer (back ++ I (home_of K lane)) (Prepare stamp c txs) is (back, refl) (itself 6 c)),
+          ap txs_in (found_at K minting P some old new kept kept' (home_of K lane) 6 c newer (back ++ I (home_of K lane)) (Prepare stamp c txs) is (back, refl) (test_itself 6 c)),
         )
 
     pub all_own : AllTold IsOwn (reverse (told_in lane more))
@@ -172,7 +157,7 @@ module _ (K : Shape) (minting : Minted) (P : Compact → Type 0) (some : 0 < K.s
         all_told (Other b) lane back []
             (λ newer later stamp' c txs' f own same.
             fresh (home_of K lane) front back stamp b txs (placed_at front back stamp b txs (sym e))
-            (still_in newer later stamp' c txs' back f (subst (λ d. ((6 == 6) && same_batch c d) ≡ true) same (itself 6 c)))),
+            (still_in newer later stamp' c txs' back f (subst (λ d. ((6 == 6) && same_batch c d) ≡ true) same (test_itself 6 c)))),
         h,
       )
       | false ↦ h
@@ -183,14 +168,7 @@ module _ (K : Shape) (minting : Minted) (P : Compact → Type 0) (some : 0 < K.s
         still_in newer later stamp' c txs' back f t =
             subst (λ l. is_some (record_of 6 l b) ≡ true) (sym (ap (λ l. l ++ I (home_of K lane)) f ∙ append_assoc newer (Prepare stamp' c txs' ∷ later) (I (home_of K lane))))
             (in_journal newer (later ++ I (home_of K lane)) (Prepare stamp' c txs') 6 b t)
-    apart_step (Genesis header hs) back front e h = h
-    apart_step (Start header) back front e h = h
-    apart_step (Lock stamp b es) back front e h = h
-    apart_step (Finish stamp b ds) back front e h = h
-    apart_step (Forget stamp b) back front e h = h
-    apart_step (Commit stamp b os) back front e h = h
-    apart_step (Discard stamp b) back front e h = h
-    apart_step (Done stamp b) back front e h = h
+    apart_step other back front e h = h
 
     apart_from : (rest front : List Record) → front ++ rest ≡ more → Apart (told_in lane rest)
     apart_from [] front e = tt
@@ -205,7 +183,7 @@ module _ (K : Shape) (minting : Minted) (P : Compact → Type 0) (some : 0 < K.s
         let there : is_some (record_of 6 (J (home_of K b.lane)) b) ≡ true = prepared b at c e in
         let p = prepare_stands (J (home_of K b.lane)) b there in
         let q = stands (J (home_of K b.lane)) 6 b there in
-        let same : q.1 ≡ Prepare p.0 b (txs_of (J (home_of K b.lane)) b) = some_record q.1 (Prepare p.0 b (txs_of (J (home_of K b.lane)) b)) (sym q.5 ∙ p.1) in
+        let same : q.1 ≡ Prepare p.0 b (txs_of (J (home_of K b.lane)) b) = some_is q.1 (Prepare p.0 b (txs_of (J (home_of K b.lane)) b)) (sym q.5 ∙ p.1) in
         let whole : more ++ I (home_of K b.lane) ≡ q.0 ++ q.1 ∷ q.2 = sym (subst (λ m. J (home_of K m) ≡ more ++ I (home_of K m)) (sym own) grown) ∙ q.3 in
         elim (cut more (I (home_of K b.lane)) q.0 q.2 q.1 whole) [
           | inl f ↦ absurd (true_false (has_prepare K I b) (subst (λ M. is_some (record_of 6 M b) ≡ true) (sym f.1) (in_journal f.0 q.2 q.1 6 b q.4)) none)

@@ -1,7 +1,7 @@
 -- What the shards replied to a transaction, and the outcome that its coordinator wrote down.
 use Rattle.std.proofs.Common.{◌≡◌, inl, inr, ℕ, zero, suc, ◌+◌, ◌<◌, Bool, true, false, not, ◌&&◌, ◌==◌, if◌then◌else◌, List, [], ◌∷◌, ◌++◌, Option, Some, None, is_some, refl, sym, ap, ◌∙◌, subst, arith}
 use Rattle.std.proofs.lemmas.Bool.{cases_lt}
-use Rattle.cbdc_model.specs.Records.{Digest, Shape, Batch, Compact, Reply, Outcome, Answered, Record, Row, journal, record_of, kind_of, is_of, is_held, entries_in, txs_of, outcomes_of, lock_of, Held, Missing, Taken, Won, Genesis, Lock, Finish, Forget, Start, Prepare, Commit, Discard, Done}
+use Rattle.cbdc_model.specs.Records.{Digest, Shape, Batch, Compact, Reply, Outcome, Answered, Record, Row, journal, record_of, kind_of, is_of, is_held, entries_in, txs_of, outcomes_of, lock_of, Held, Missing, Taken, Won, Lock, Commit}
 use Rattle.cbdc_model.specs.Slots.{slot, Idle}
 use Rattle.cbdc_model.specs.Ranges.{home_of, shard_node, on_shard, is_empty, entry_of, part, is_no_part}
 use Rattle.cbdc_model.specs.Replies.{reply_to, answered, entries}
@@ -141,14 +141,6 @@ module _ (K : Shape) (minting : Minted) (P : Compact → Type 0) (some : 0 < K.s
         → HasStandingLock K J b s
 
     stood : (q : Record) → Stands q
-    stood (Genesis header hs) newer rest e u found h = absurd (let z : false ≡ true = u in cc)
-    stood (Start header) newer rest e u found h = absurd (let z : false ≡ true = u in cc)
-    stood (Finish stamp c ds) newer rest e u found h = absurd (let z : false ≡ true = u in cc)
-    stood (Forget stamp c) newer rest e u found h = absurd (let z : false ≡ true = u in cc)
-    stood (Prepare stamp c txs) newer rest e u found h = absurd (let z : false ≡ true = u in cc)
-    stood (Commit stamp c os) newer rest e u found h = absurd (let z : false ≡ true = u in cc)
-    stood (Discard stamp c) newer rest e u found h = absurd (let z : false ≡ true = u in cc)
-    stood (Done stamp c) newer rest e u found h = absurd (let z : false ≡ true = u in cc)
     stood (Lock stamp c es) newer rest e u found h =
         let same : c ≡ b = (split_test 2 2 c b u).1 in
         let next : Next K (shard_node K s) rest (Lock stamp c es) = ((lists_of K minting P some later kept).each (shard_node K s) newer rest (Lock stamp c es) e h).0 in
@@ -161,6 +153,7 @@ module _ (K : Shape) (minting : Minted) (P : Compact → Type 0) (some : 0 < K.s
           stands = e ∙ (λ i. newer ++ Lock stamp (same i) (sym is i) ∷ rest);
           replies = is ∙ next.4 ∙ (λ i. answered rest (same i) [] (whole i));
         }
+    stood other newer rest e u found h = absurd (let z : false ≡ true = u in cc)
 
     pub locked : has_lock (J (shard_node K s)) b ≡ true → HasStandingLock K J b s
     locked there =

@@ -1,8 +1,8 @@
 -- The joins are confirmed, behind the splits.
-use Rattle.std.proofs.Common.{◌≡◌, ◌⊎◌, inl, inr, ℕ, zero, suc, ◌*◌, ◌<◌, true, ◌&&◌, ◌==◌, List, [], ◌∷◌, ◌++◌, Some, None, refl, sym, ap, ◌∙◌, subst, arith}
+use Rattle.std.proofs.Common.{◌≡◌, ◌⊎◌, inl, inr, ℕ, zero, suc, ◌*◌, ◌<◌, true, List, [], ◌∷◌, ◌++◌, Some, None, refl, sym, ap, ◌∙◌, subst, arith}
 use Rattle.std.specs.Prelude.{slice_get, All}
 use Rattle.std.proofs.lemmas.List.Elements.{All-cons, All-nil}
-use Rattle.cbdc_model.specs.Records.{Digest, Shape, Batch, same_batch, Compact, Record, Row, journal, record_of, txs_in, txs_of, Genesis, Lock, Finish, Forget, Start, Prepare, Commit, Discard, Done}
+use Rattle.cbdc_model.specs.Records.{Digest, Shape, Batch, Compact, Record, Row, journal, record_of, txs_in, txs_of, Prepare}
 use Rattle.cbdc_model.specs.Status.{has, status}
 use Rattle.cbdc_model.specs.Ranges.{home_of, shard_of, shard_node}
 use Rattle.cbdc_model.specs.Coins.{Output, FullTx, coin_hash, tx_id, compact, genesis_id}
@@ -12,6 +12,7 @@ use Rattle.cbdc_model.specs.History.{minted, header_of, first_rows, history_of, 
 use Rattle.cbdc_model.specs.World.{KeptJournals, AreIdle, IsUnspent}
 use Rattle.cbdc_model.specs.Lanes.{IsEnd, KeptLists, first_of}
 use Rattle.cbdc_model.specs.Waves.{Waves}
+use Rattle.ledger_laws.proofs.ByKind.{test_itself}
 use Rattle.ledger_laws.proofs.Next.{Steady}
 use Rattle.ledger_laws.proofs.Counts.{count}
 use Rattle.ledger_laws.proofs.Ledger.{steady}
@@ -38,9 +39,6 @@ use Rattle.submission_laws.proofs.Worlds.{OneOf, spender, each_passes, won_makes
 use Rattle.submission_laws.proofs.Sets.{has_in}
 use Rattle.submission_laws.proofs.Committed.{is_committed}
 use Rattle.submission_laws.proofs.FirstFile.{one_in, same_file, sound_at, kept_first, none_prepared, split_confirmed, split_sent}
-
-itself : (kind : ℕ) (c : Batch) → ((kind == kind) && same_batch c c) ≡ true
-itself kind c = grind arith
 
 pub two_in : (x y z : Digest) → In x (y ∷ z ∷ []) → (x ≡ y) ⊎ (x ≡ z)
 two_in x y z (inl e) = inl e
@@ -73,15 +71,8 @@ module _ (K : Shape) (mint : List Output) (all these : List FullTx) (some : 0 < 
   lists = (local_law K mint all J some).0 kept
 
   pass : (n : ℕ) (newer rest : List Record) (r : Record) → J n ≡ newer ++ r ∷ rest → IsEnd (first_of K (minted mint) n) rest → After (header_of K (minted mint).id n) rest r → TxsPass (IsProperCompact these) r
-  pass n newer rest (Genesis header hs) e h after = tt
-  pass n newer rest (Start header) e h after = tt
-  pass n newer rest (Lock stamp b es) e h after = tt
-  pass n newer rest (Finish stamp b ds) e h after = tt
-  pass n newer rest (Forget stamp b) e h after = tt
   pass n newer rest (Prepare stamp b txs) e h after = are n newer rest stamp b txs e h after.1.1
-  pass n newer rest (Commit stamp b os) e h after = tt
-  pass n newer rest (Discard stamp b) e h after = tt
-  pass n newer rest (Done stamp b) e h after = tt
+  pass n newer rest other e h after = tt
 
   pub kept_by_these : KeptJournals K mint these J
   kept_by_these = (local_law K mint these J some).1 (record {
@@ -129,7 +120,7 @@ module _ (K : Shape) (seed n : ℕ) (some : 0 < K.shards) (lanes : 0 < K.lanes) 
     found =
         let by_rows : record_of 6 (journal node (kept_mid.later ++ first_rows K (minted (mint_of seed n)))) b ≡ Some (Prepare stamp b txs)
         = found_at K (minted (mint_of seed n)) (IsProperCompact (all_submissions seed n)) some [] kept_mid.later tt
-        (steady K (minted (mint_of seed n)) (IsProperCompact (all_submissions seed n)) kept_mid.later kept_mid.kept) node 6 b newer rest (Prepare stamp b txs) (kept_mid.history.journals_are node ∙ e) h (itself 6 b) in
+        (steady K (minted (mint_of seed n)) (IsProperCompact (all_submissions seed n)) kept_mid.later kept_mid.kept) node 6 b newer rest (Prepare stamp b txs) (kept_mid.history.journals_are node ∙ e) h (test_itself 6 b) in
         ap (λ m. txs_of (M m) b) (sym home) ∙ ap (λ L. txs_of L b) (sym (kept_mid.history.journals_are node)) ∙ ap txs_in by_rows
 
     of_split : (i : ℕ) (c : Compact) → tx_at txs i ≡ Some c → IsProperCompact (splits_of seed n) c

@@ -1,7 +1,7 @@
 -- Each sound submission of a run has its one place among the transactions of the new Prepares, and an outcome by the shards' replies.
-use Rattle.std.proofs.Common.{◌≡◌, ℕ, ◌*◌, ◌<◌, Bool, true, false, ◌&&◌, ◌==◌, if◌then◌else◌, List, [], ◌∷◌, ◌++◌, map, reverse, take, Option, Some, None, is_some, refl, sym, ap, ◌∙◌, subst, arith, append_assoc, append-nil, mod-lt}
+use Rattle.std.proofs.Common.{◌≡◌, ℕ, ◌*◌, ◌<◌, Bool, true, false, ◌==◌, if◌then◌else◌, List, [], ◌∷◌, ◌++◌, map, reverse, take, Option, Some, None, is_some, refl, sym, ap, ◌∙◌, subst, arith, append_assoc, append-nil, mod-lt}
 use Rattle.std.specs.Prelude.{option_map}
-use Rattle.cbdc_model.specs.Records.{Shape, Batch, same_batch, Compact, Outcome, Record, Row, journal, record_of, txs_of, txs_in, lock_of, Genesis, Lock, Finish, Forget, Start, Prepare, Commit, Discard, Done}
+use Rattle.cbdc_model.specs.Records.{Shape, Batch, Compact, Outcome, Record, Row, journal, record_of, txs_of, txs_in, lock_of, Prepare}
 use Rattle.cbdc_model.specs.Slots.{slot, Idle}
 use Rattle.cbdc_model.specs.Ranges.{home_of, shard_node}
 use Rattle.cbdc_model.specs.Coins.{Output, FullTx, compact, tx_id}
@@ -12,6 +12,7 @@ use Rattle.cbdc_model.specs.Lanes.{IsEnd}
 use Rattle.cbdc_model.specs.Waves.{has_prepare, IsResumed, AreFilesRun, Waves}
 use Rattle.cbdc_model.specs.Places.{PlaceIn, sized_onto, place_of, outcome_in}
 use Rattle.cbdc_model.specs.Outcomes.{outcome}
+use Rattle.ledger_laws.proofs.ByKind.{test_itself, same_batch_self}
 use Rattle.ledger_laws.proofs.Next.{Steady}
 use Rattle.ledger_laws.proofs.Found.{found_grammar}
 use Rattle.ledger_laws.proofs.Ledger.{steady}
@@ -38,15 +39,6 @@ use Rattle.submission_laws.proofs.Lists.{added_is}
 use Rattle.submission_laws.proofs.Turns.{Turn, Found, at_turn, found, one_turn as one_submission}
 use Rattle.submission_laws.proofs.NewPlaces.{Apart, among, one_turn as one_place, told_parts, HasTurn, all_own, all_apart, new_turn}
 use Rattle.submission_laws.proofs.Replying.{the_outcome, is_replied}
-
-itself : (kind : ℕ) (c : Batch) → ((kind == kind) && same_batch c c) ≡ true
-itself kind c = grind arith
-
-one_of : (c : Batch) → same_batch c c ≡ true
-one_of c = grind arith
-
-some_place : (p q : PlaceIn) → Some p ≡ Some q → p ≡ q
-some_place p q e = cc
 
 some_outcome : (o q : Outcome) → Some o ≡ Some q → o ≡ q
 some_outcome o q e = cc
@@ -75,24 +67,17 @@ module _ (K : Shape) (minting : Minted) (P : Compact → Type 0) (some : 0 < K.s
       | true ↦ λ own.
           let k = resumed.adds.each (home_of K lane) newer (rest ++ I (home_of K lane)) (Prepare stamp b txs) e (rest, refl) in
           let g = grows (home_of K lane) in
-          let same : k.0 ≡ b = one_batch k.0 b (Prepare stamp b txs) k.1 (one_of b) in
+          let same : k.0 ≡ b = one_batch k.0 b (Prepare stamp b txs) k.1 (same_batch_self b) in
           let there : is_some (record_of 6 (I (home_of K lane)) b) ≡ true
           = subst (λ m. is_some (record_of 6 (I (home_of K m)) b) ≡ true) (lane_is b.lane lane own) (subst (λ c. has_prepare K I c ≡ true) same k.2.0) in
           absurd (never_twice K minting P some old new kept kept' (home_of K lane) (g.0 ++ newer) (rest ++ I (home_of K lane)) (Prepare stamp b txs) 6 b
-          (g.1 ∙ ap (λ l. g.0 ++ l) e ∙ sym (append_assoc g.0 newer (Prepare stamp b txs ∷ (rest ++ I (home_of K lane))))) (rest, refl) (itself 6 b) (still_found rest (I (home_of K lane)) 6 b there))
+          (g.1 ∙ ap (λ l. g.0 ++ l) e ∙ sym (append_assoc g.0 newer (Prepare stamp b txs ∷ (rest ++ I (home_of K lane))))) (rest, refl) (test_itself 6 b) (still_found rest (I (home_of K lane)) 6 b there))
       | false ↦ λ own. none
     ] refl
       where
         lane_is : (l m : ℕ) → (l == m) ≡ true → l ≡ m
         lane_is l m h = grind (arith, h)
-    none_step (Genesis header hs) rest newer T e none = none
-    none_step (Start header) rest newer T e none = none
-    none_step (Lock stamp b es) rest newer T e none = none
-    none_step (Finish stamp b ds) rest newer T e none = none
-    none_step (Forget stamp b) rest newer T e none = none
-    none_step (Commit stamp b os) rest newer T e none = none
-    none_step (Discard stamp b) rest newer T e none = none
-    none_step (Done stamp b) rest newer T e none = none
+    none_step other rest newer T e none = none
 
     none_from : (rest newer : List Record) → R (home_of K lane) ≡ newer ++ (rest ++ I (home_of K lane)) → told_in lane rest ≡ []
     none_from [] newer e = refl

@@ -8,6 +8,7 @@ use Rattle.std.proofs.lemmas.List.Sums.{sum_by-append, sum_by-cons}
 use Rattle.cbdc_model.specs.Records.{Shape, Compact}
 use Rattle.cbdc_model.specs.Coins.{FullTx, compact}
 use Rattle.cbdc_model.specs.Waves.{share, sent_to}
+use Rattle.ledger_laws.proofs.Lookups.{number_is, number_self}
 use Rattle.printed_lines.specs.Runs.{lane_at, sent_before, turn}
 use Rattle.run_laws.specs.Placing.{sent_of_all, tx_at}
 use Rattle.run_laws.proofs.Sharing.{got, got-append, got_here}
@@ -15,12 +16,6 @@ use Rattle.submission_laws.proofs.Lists.{split_get, before_get, taken_get, taken
 
 from_zero : (n : ℕ) → 0 + n ≡ n
 from_zero n = omega arith
-
-some_lane_is : (l : ℕ) → (l == l) ≡ true
-some_lane_is l = grind arith
-
-lane_is : (l m : ℕ) → (l == m) ≡ true → l ≡ m
-lane_is l m h = grind (arith, h)
 
 some_tx : (u t : Compact) → Some u ≡ Some t → u ≡ t
 some_tx u t e = cc
@@ -32,7 +27,7 @@ module _ (sound : FullTx → Bool) (n lane : ℕ) where
   pub parted : (file : List FullTx) (j : ℕ) (t : FullTx) → slice_get file j ≡ Some t → sound t ≡ true → j % n ≡ lane
       → got sound n lane 0 file ≡ got sound n lane 0 (take j file) ++ compact t ∷ got sound n lane (suc (0 + length (take j file))) (drop (suc j) file)
   parted file j t e s own =
-      let here : ((0 + length (take j file)) % n == lane) ≡ true = ap (λ k. k % n == lane) (from_zero (length (take j file)) ∙ before_get file j t e) ∙ ap (λ k. k == lane) own ∙ some_lane_is lane in
+      let here : ((0 + length (take j file)) % n == lane) ≡ true = ap (λ k. k % n == lane) (from_zero (length (take j file)) ∙ before_get file j t e) ∙ ap (λ k. k == lane) own ∙ number_self lane in
       ap (got sound n lane 0) (split_get file j t e) ∙ got-append sound n lane 0 (take j file) (t ∷ drop (suc j) file)
       ∙ ap (λ l. got sound n lane 0 (take j file) ++ l) (got_here sound n lane (0 + length (take j file)) t (drop (suc j) file) s here)
 
@@ -94,7 +89,7 @@ module _ (sound : FullTx → Bool) (n lane : ℕ) where
     tx = u;
     tx_is = refl;
     is_sound = s;
-    lane_of = ap (λ m. m % n) (nothing_more k) ∙ lane_is (k % n) lane own;
+    lane_of = ap (λ m. m % n) (nothing_more k) ∙ number_is (k % n) lane own;
     turn_is = refl;
     is_compact = sym (some_tx (compact u) c e);
   }

@@ -4,12 +4,11 @@ use Rattle.std.proofs.lemmas.List.{get_or_past}
 use Rattle.cbdc_model.specs.Records.{Shape, Compact}
 use Rattle.cbdc_model.specs.History.{Minted}
 use Rattle.cbdc_model.specs.World.{World, Node, no_node, Crash, Reopen, node_at, journals, flushed, effect, Step, Run}
-use Rattle.ledger_laws.specs.Resumed.{openings}
+use Rattle.ledger_laws.specs.Resumed.{openings, opened}
 use Rattle.ledger_laws.proofs.Rows.{at, away, at_node}
 use Rattle.ledger_laws.proofs.Ledger.{SteadyWorld}
 use Rattle.ledger_laws.proofs.Worlds.{set_same, set_other, run_keeps}
 use Rattle.ledger_laws.proofs.Reaching.{run-append}
-use Rattle.run_laws.specs.LocksDue.{opened}
 
 up_or_down : (a : Bool) → a ≡ true → a ≡ false → ⊥
 up_or_down a h g = let z : true ≡ false = sym h ∙ g in cc
