@@ -7,7 +7,7 @@ use Rattle.cbdc_types.specs.declared.batch.OpenLane.{OpenLane}
 use Rattle.cbdc_model.specs.Records.{Shape, Header, Compact}
 use Rattle.cbdc_model.specs.Slots.{Phase, Idle}
 use Rattle.cbdc_model.specs.Sights.{Sight}
-use Rattle.lane_driver.specs.Told.{KeepsOthers}
+use Rattle.lane_driver.specs.Told.{KeepsOtherLanes}
 use Rattle.lane_driver.specs.declared.fault.LaneFault.{LaneFault}
 use Rattle.recovery.specs.declared.resumed.Resumed.{Resumed}
 use Rattle.recovery.specs.declared.resumed.ResumedBatch.{ResumedBatch}
@@ -24,7 +24,7 @@ are_one o (Ok r) resumed = one_batch o r.batches resumed
 are_one o (Err e) resumed = tt
 
 -- the other lanes
-pub others_keep : (h : Header) (o : OpenLane) (p q : ℕ → Phase) (t u : ℕ → List Compact) → KeepsUnlisted h (o ∷ []) p q t u → KeepsOthers h o.batch.lane p q t u
+pub others_keep : (h : Header) (o : OpenLane) (p q : ℕ → Phase) (t u : ℕ → List Compact) → KeepsUnlisted h (o ∷ []) p q t u → KeepsOtherLanes h o.batch.lane p q t u
 others_keep h o p q t u keeps lane inside apart = keeps lane inside (All-cons (λ x. lane ≢ x.batch.lane) o [] apart (All-nil (λ x. lane ≢ x.batch.lane)))
 
 -- the one of a chain of one

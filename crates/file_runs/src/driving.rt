@@ -7,7 +7,7 @@ ghost use Rattle.node_journal.specs.Nodes.{sight};
 ghost use Rattle.coord_log.specs.OpenLanes.{open_lane};
 ghost use Rattle.node_ports.specs.Nodes.{sight_at};
 ghost use Rattle.lane_laws.specs.Resuming.{IsTakenUp};
-ghost use Rattle.recovery.specs.Open.{IsResumed, IsUnfinished, HasItsOutcomes, IsResumeStopped};
+ghost use Rattle.recovery.specs.Open.{IsBatchResumed, IsBatchUnfinished, HasItsOutcomes, IsResumeStopped};
 ghost use Rattle.ledger_runs.specs.Turning.{lane_phase, IsLaneOf};
 ghost use Rattle.file_runs.specs.Ledgers.{IsLedger, FliesNext, node_journals, HaveCheckedJournals};
 ghost use Rattle.file_runs.specs.Steps.{IsStep};
@@ -82,13 +82,13 @@ pub(crate) fn drive_resume<W: Wait, D: Disk, G: Gate>(
     requires plan { plan ≡ record { shape = header.now.shape; lanes = unfinished.now ∷ [] } }
     requires checked { HaveCheckedJournals header.now.shape ports.old.log.logs.items ports.old.shards.nodes.items }
     ensures step { IsStep D.Disk header.now lane ports.old.log.logs.items ports.old.shards.nodes.items ports.new.log.logs.items ports.new.shards.nodes.items }
-    ensures taken { OnOk result (IsUnfinished unfinished.now.phase header.now.shape unfinished.now
+    ensures taken { OnOk result (IsBatchUnfinished unfinished.now.phase header.now.shape unfinished.now
         (sight_at sight ports.old.log.logs.items (home_of header.now.shape lane)) (sight_at sight ports.old.shards.nodes.items)
         → IsTakenUp header.now.shape true unfinished.now.batch
         (sight_at sight ports.old.log.logs.items (home_of header.now.shape lane)) (sight_at sight ports.old.shards.nodes.items)
         (sight_at sight ports.new.log.logs.items (home_of header.now.shape lane)) (sight_at sight ports.new.shards.nodes.items)) }
-    ensures resumed { IfOk result (IsResumed unfinished.now) }
-    ensures outcomes { IfOk result (λ r. IsUnfinished unfinished.now.phase header.now.shape unfinished.now
+    ensures resumed { IfOk result (IsBatchResumed unfinished.now) }
+    ensures outcomes { IfOk result (λ r. IsBatchUnfinished unfinished.now.phase header.now.shape unfinished.now
         (sight_at sight ports.old.log.logs.items (home_of header.now.shape lane)) (sight_at sight ports.old.shards.nodes.items)
         → HasItsOutcomes unfinished.now.phase unfinished.now (sight_at sight ports.new.log.logs.items (home_of header.now.shape lane)).seen r) }
     ensures left { IfErr result (IsResumeStopped header.now.shape true unfinished.now

@@ -16,7 +16,7 @@ use Rattle.lane_laws.proofs.Laning.{lane_goes_on, lane_stops}
 use Rattle.lane_driver.specs.declared.fault.LaneFault.{LaneFault}
 use Rattle.lane_driver.specs.declared.fault.Stop.{Stop}
 use Rattle.lane_driver.specs.declared.fault.LaneFaultKind.TheVariants.{Memory as NoMemory}
-use Rattle.lane_driver.specs.Stops.{IsFaultOf, IsStopOf, HasNoMemory, IsPreparedStopped, IsOneStoppedAt, IsOneToldAt, IsOneStopped, IsOneTold, IsBatchStoppedAt, IsBatchToldAt, IsBatchStopped, IsBatchTold}
+use Rattle.lane_driver.specs.Stops.{IsLaneFaultOf, IsStopOf, DriverHasNoMemory, IsPreparedStopped, IsOneStoppedAt, IsOneToldAt, IsOneStopped, IsOneTold, IsBatchStoppedAt, IsBatchToldAt, IsBatchStopped, IsBatchTold}
 use Rattle.lane_driver.specs.declared.fault.BatchReport.{BatchReport}
 use Rattle.lane_driver.specs.Reports.{AreDone}
 use Rattle.std.specs.Prelude.{◌++◌, reverse}
@@ -45,11 +45,11 @@ module _ (K : Shape) (alone : Bool) (lane : ℕ) (txs : List Compact) (log log' 
   pub at_granted : IsOneStoppedAt K alone lane txs log I log' J e → (k : ℕ) → Settled K lane k log I → IsNoRefusal e.fault
   at_granted stop k st = let s = stop k st in subst (λ x. IsNoRefusal x.fault) (sym s.2) s.3.granted
 
-  pub at_stops : IsOneStoppedAt K alone lane txs log I log' J e → (l : LaneFault) → IsFaultOf l e.node e.fault → IsBatchStoppedAt K alone lane txs log I log' J l
-  at_stops stop l told k st = let s = stop k st in (s.0, s.1, subst (λ x. IsFaultOf l x.node x.fault) s.2 told, s.3)
+  pub at_stops : IsOneStoppedAt K alone lane txs log I log' J e → (l : LaneFault) → IsLaneFaultOf l e.node e.fault → IsBatchStoppedAt K alone lane txs log I log' J l
+  at_stops stop l told k st = let s = stop k st in (s.0, s.1, subst (λ x. IsLaneFaultOf l x.node x.fault) s.2 told, s.3)
 
-  pub at_told : (n : ℕ) (l : LaneFault) → IsFaultOf l e.node e.fault → IsOneToldAt K alone lane txs n log I log' J e → IsBatchToldAt K alone lane txs n log I log' J l
-  at_told n l is s = (s.0, s.1, s.2, s.3, subst (λ x. IsFaultOf l x.node x.fault) s.4 is, s.5)
+  pub at_told : (n : ℕ) (l : LaneFault) → IsLaneFaultOf l e.node e.fault → IsOneToldAt K alone lane txs n log I log' J e → IsBatchToldAt K alone lane txs n log I log' J l
+  at_told n l is s = (s.0, s.1, s.2, s.3, subst (λ x. IsLaneFaultOf l x.node x.fault) s.4 is, s.5)
 
 -- the same where it may not have been begun
 module _ (K : Shape) (alone : Bool) (lane : ℕ) (txs : List Compact) (log log' : Sight) (I J : ℕ → Sight) (e : Stop) (stop : IsOneStopped K alone lane txs log I log' J e) where
@@ -60,17 +60,17 @@ module _ (K : Shape) (alone : Bool) (lane : ℕ) (txs : List Compact) (log log' 
       go (inl h) = subst (λ x. IsNoRefusal x.fault) (sym h.0) tt
       go (inr h) = at_granted K alone lane txs log log' I J e h k st
 
-  pub one_stops : (l : LaneFault) → IsFaultOf l e.node e.fault → IsBatchStopped K alone lane txs log I log' J l
+  pub one_stops : (l : LaneFault) → IsLaneFaultOf l e.node e.fault → IsBatchStopped K alone lane txs log I log' J l
   one_stops l told = go stop
     where
       go : IsOneStopped K alone lane txs log I log' J e → IsBatchStopped K alone lane txs log I log' J l
-      go (inl h) = inl (subst (λ x. IsFaultOf l x.node x.fault) h.0 told, h.1, h.2)
+      go (inl h) = inl (subst (λ x. IsLaneFaultOf l x.node x.fault) h.0 told, h.1, h.2)
       go (inr h) = inr (at_stops K alone lane txs log log' I J e h l told)
 
 -- what was told of it is told of the lane
-pub one_told : (K : Shape) (alone : Bool) (lane : ℕ) (txs : List Compact) (n : ℕ) (log log' : Sight) (I J : ℕ → Sight) (e : Stop) (l : LaneFault) → IsFaultOf l e.node e.fault → IsOneTold K alone lane txs n log I log' J e
+pub one_told : (K : Shape) (alone : Bool) (lane : ℕ) (txs : List Compact) (n : ℕ) (log log' : Sight) (I J : ℕ → Sight) (e : Stop) (l : LaneFault) → IsLaneFaultOf l e.node e.fault → IsOneTold K alone lane txs n log I log' J e
     → IsBatchTold K alone lane txs n log I log' J l
-one_told K alone lane txs n log log' I J e l is (inl h) = inl (subst (λ x. IsFaultOf l x.node x.fault) h.0 is, h.1, h.2)
+one_told K alone lane txs n log log' I J e l is (inl h) = inl (subst (λ x. IsLaneFaultOf l x.node x.fault) h.0 is, h.1, h.2)
 one_told K alone lane txs n log log' I J e l is (inr s) = inr (at_told K alone lane txs log log' I J e n l is s)
 
 -- a lane goes on by a batch, or stops at one
@@ -98,9 +98,9 @@ module _ (K : Shape) (alone : Bool) (lane : ℕ) (txs rest piece : List Compact)
       subst (λ rs. AreDone K alone lane txs log0 I0 rs more log2 I2) (sym (ap reverse is ∙ reverse-append reports (r ∷ []))) next
 
   pub lane_off : (e : LaneFault) → 0 < length rest → IsBatchStopped K alone lane piece log1 I1 log2 I2 e
-      → HasNoMemory e log0 I0 log2 I2
+      → DriverHasNoMemory e log0 I0 log2 I2
       ⊎ ((e ≡ record { node = 0; fault = NoMemory }) × (rest : List Compact) × (0 < length rest) × LaneSo K alone lane txs rest log0 I0 log2 I2)
-      ⊎ ((n : ℕ) × (f : NodeFault) × IsFaultOf e n f × LaneStopped K alone lane txs log0 I0 log2 I2 n f)
+      ⊎ ((n : ℕ) × (f : NodeFault) × IsLaneFaultOf e n f × LaneStopped K alone lane txs log0 I0 log2 I2 n f)
   lane_off e some (inl h) =
       inr (inl (h.0, rest, some, subst (λ (X : ℕ → Sight). LaneSo K alone lane txs rest log0 I0 log2 X) (sym h.2) (subst (λ l. LaneSo K alone lane txs rest log0 I0 l I1) (sym h.1) so)))
   lane_off e some (inr h) =
@@ -108,7 +108,7 @@ module _ (K : Shape) (alone : Bool) (lane : ℕ) (txs rest piece : List Compact)
       inr (inr (s.0, s.1, s.2, lane_stops K alone lane txs rest log0 log1 log2 I0 I1 I2 so piece s.0 s.1 some front s.3))
 
   pub lane_told : (n : ℕ) (e : LaneFault) → 0 < length rest → IsBatchTold K alone lane piece n log1 I1 log2 I2 e
-      → HasNoMemory e log0 I0 log2 I2
+      → DriverHasNoMemory e log0 I0 log2 I2
       ⊎ ((rest : List Compact) × (0 < length rest) × (before : Sight) × (shards_before : ℕ → Sight) × LaneSo K alone lane txs rest log0 I0 before shards_before
       × IsBatchTold K alone lane (take K.batch rest) n before shards_before log2 I2 e)
   lane_told n e some told = inr (rest, some, log1, I1, so, subst (λ p. IsBatchTold K alone lane p n log1 I1 log2 I2 e) front told)

@@ -13,7 +13,7 @@ use Rattle.lane_laws.proofs.ByShard.{every_any, first_at}
 use Rattle.lane_driver.specs.declared.fault.LaneFault.{LaneFault}
 use Rattle.lane_driver.specs.declared.fault.Stop.{Stop}
 use Rattle.lane_driver.specs.declared.fault.LaneFaultKind.TheVariants.{DiskFault as DiskStopped, Full as NoRoom, ClockEnd as NoStamp, Memory as NoMemory}
-use Rattle.lane_driver.specs.Stops.{IsFaultOf, IsStopOf, IsStoppedAt}
+use Rattle.lane_driver.specs.Stops.{IsLaneFaultOf, IsStopOf, IsStoppedAt}
 use Rattle.lane_driver.specs.Causes.{IsDecideCause}
 use Rattle.lane_driver.specs.Wanting.{IsLockWant, IsBatchWant, wants_at_prepare, wants_at_lock}
 use Rattle.lane_driver.proofs.Turning.{turn_stopped}
@@ -46,7 +46,7 @@ lock_want K a a' b cause parts cs log I J e same is (s, f, at, stop) want = reco
 }
 
 -- the lane's fault is want of memory where the node's is
-pub fault_want : (e : LaneFault) (n : ℕ) (f : NodeFault) → IsFaultOf e n f → e.fault ≡ NoMemory → f ≡ Memory
+pub fault_want : (e : LaneFault) (n : ℕ) (f : NodeFault) → IsLaneFaultOf e n f → e.fault ≡ NoMemory → f ≡ Memory
 fault_want e n (Broken since) is w = let z : DiskStopped ≡ NoMemory = sym (ap (λ (x : LaneFault). x.fault) is) ∙ w in cc
 fault_want e n (Refuses why) is w = absurd is
 fault_want e n (ClockEnd stamp) is w = let z : NoStamp stamp ≡ NoMemory = sym (ap (λ (x : LaneFault). x.fault) is) ∙ w in cc
@@ -55,7 +55,7 @@ fault_want e n DiskFault is w = let z : DiskStopped ≡ NoMemory = sym (ap (λ (
 fault_want e n Memory is w = refl
 
 -- and at the same node
-pub fault_node : (e : LaneFault) (n : ℕ) (f : NodeFault) → IsFaultOf e n f → e.node ≡ n
+pub fault_node : (e : LaneFault) (n : ℕ) (f : NodeFault) → IsLaneFaultOf e n f → e.node ≡ n
 fault_node e n (Broken since) is = ap (λ (x : LaneFault). x.node) is
 fault_node e n (Refuses why) is = absurd is
 fault_node e n (ClockEnd stamp) is = ap (λ (x : LaneFault). x.node) is

@@ -7,11 +7,11 @@ ghost use Rattle.cbdc_model.specs.Ranges.{home_of};
 ghost use Rattle.cbdc_model.specs.Grammar.{HasSize, IsBatchOf, IsCompact};
 ghost use Rattle.lane_driver.specs.Calls.{shard, forget_of, AreParts};
 ghost use Rattle.lane_driver.specs.Keeping.{KeepsLog, KeepsShards};
-ghost use Rattle.lane_driver.specs.Told.{IsLane, KeepsOthers, AreShardsOf, AreLockCalls, AreFitParts, IsStamp, AreShards};
+ghost use Rattle.lane_driver.specs.Told.{IsLane, KeepsOtherLanes, AreShardsOf, AreLockCalls, AreFitParts, IsStamp, AreShards};
 ghost use Rattle.lane_driver.specs.Rooms.{IsBatchRoom, IsLaterRoom};
-ghost use Rattle.lane_driver.specs.Reports.{AreReports};
+ghost use Rattle.lane_driver.specs.Reports.{AreBatchReports};
 ghost use Rattle.lane_driver.specs.Causes.{IsCausedStop, IsCausedFault};
-ghost use Rattle.lane_driver.specs.Stops.{IsDiscardedStopped, IsCommittedStopped, IsPreparedStopped, IsOneStopped, IsOneTold, IsOneStoppedAt, IsOneToldAt, IsBatchStopped, IsBatchTold, IsOneBatch, IsSettled};
+ghost use Rattle.lane_driver.specs.Stops.{IsDiscardedStopped, IsCommittedStopped, IsPreparedStopped, IsOneStopped, IsOneTold, IsOneStoppedAt, IsOneToldAt, IsBatchStopped, IsBatchTold, IsOneBatch, IsLaneSettled};
 ghost use Rattle.lane_driver.specs.Readied.{IsReadied};
 ghost use Rattle.lane_driver.specs.Wanting.{IsLockWant, IsBatchWant};
 ghost use Rattle.lane_laws.specs.Batches.{Settled, BatchDone};
@@ -70,7 +70,7 @@ pub fn from_discarded<S: PortSet<G>, L: LogPort, G: Gate>(
     ensures fault { IfErr result (λ e. IsCausedStop shape.now (L.sights ports.new.log) (S.sights ports.new.shards) e.node e.fault) }
     ensures no_want { IfErr result (λ e. e.fault ≢ Memory) }
     ensures phase { OnOk result (L.phase ports.new.log batch.now.lane ≡ Idle) }
-    ensures others { L.alone ≡ true → KeepsOthers (L.header ports.old.log) batch.now.lane (L.phase ports.old.log) (L.phase ports.new.log) (L.open_txs ports.old.log) (L.open_txs ports.new.log) }
+    ensures others { L.alone ≡ true → KeepsOtherLanes (L.header ports.old.log) batch.now.lane (L.phase ports.old.log) (L.phase ports.new.log) (L.open_txs ports.old.log) (L.open_txs ports.new.log) }
     ensures keeps_log { KeepsLog L.at L.header L.count L.sights L.faults L.holds ports.old.log ports.new.log }
     ensures keeps_shards { KeepsShards S.count S.sights S.faults S.holds S.serves ports.old.shards ports.new.shards }
     ensures calls { forgets.new.items ≡ map (forget_of batch.now cause) locks.now }
@@ -125,7 +125,7 @@ pub fn from_committed<S: PortSet<G>, L: LogPort, G: Gate>(
     ensures fault { IfErr result (λ e. IsCausedStop shape.now (L.sights ports.new.log) (S.sights ports.new.shards) e.node e.fault) }
     ensures no_want { IfErr result (λ e. e.fault ≢ Memory) }
     ensures phase { OnOk result (L.phase ports.new.log batch.now.lane ≡ Idle) }
-    ensures others { L.alone ≡ true → KeepsOthers (L.header ports.old.log) batch.now.lane (L.phase ports.old.log) (L.phase ports.new.log) (L.open_txs ports.old.log) (L.open_txs ports.new.log) }
+    ensures others { L.alone ≡ true → KeepsOtherLanes (L.header ports.old.log) batch.now.lane (L.phase ports.old.log) (L.phase ports.new.log) (L.open_txs ports.old.log) (L.open_txs ports.new.log) }
     ensures keeps_log { KeepsLog L.at L.header L.count L.sights L.faults L.holds ports.old.log ports.new.log }
     ensures keeps_shards { KeepsShards S.count S.sights S.faults S.holds S.serves ports.old.shards ports.new.shards }
 {
@@ -199,7 +199,7 @@ pub fn from_prepared<S: PortSet<G>, L: LogPort, G: Gate>(
     ensures fault { IfErr result (λ e. IsCausedStop shape.now (L.sights ports.new.log) (S.sights ports.new.shards) e.node e.fault) }
     ensures want { IfErr result (λ e. e.fault ≡ Memory → IsLockWant shape.now L.alone batch.now cause room.parts (L.sights ports.old.log (L.at ports.old.log)) (L.sights ports.new.log (L.at ports.new.log)) (S.sights ports.old.shards) (S.sights ports.new.shards) e.node) }
     ensures phase { OnOk result (L.phase ports.new.log batch.now.lane ≡ Idle) }
-    ensures others { L.alone ≡ true → KeepsOthers (L.header ports.old.log) batch.now.lane (L.phase ports.old.log) (L.phase ports.new.log) (L.open_txs ports.old.log) (L.open_txs ports.new.log) }
+    ensures others { L.alone ≡ true → KeepsOtherLanes (L.header ports.old.log) batch.now.lane (L.phase ports.old.log) (L.phase ports.new.log) (L.open_txs ports.old.log) (L.open_txs ports.new.log) }
     ensures keeps_log { KeepsLog L.at L.header L.count L.sights L.faults L.holds ports.old.log ports.new.log }
     ensures keeps_shards { KeepsShards S.count S.sights S.faults S.holds S.serves ports.old.shards ports.new.shards }
     ensures outcomes { IfOk result (λ os. length os ≡ length (L.open_txs ports.old.log batch.now.lane)) }
@@ -263,7 +263,7 @@ pub(crate) fn drive_batch<S: PortSet<G>, L: LogPort, G: Gate>(
     ensures fault { IfErr result (λ e. IsCausedStop shape.now (L.sights ports.new.log) (S.sights ports.new.shards) e.node e.fault) }
     ensures want { IfErr result (λ e. e.fault ≡ Memory → IsBatchWant shape.now L.alone lane txs.now (L.sights ports.old.log (L.at ports.old.log)) (S.sights ports.old.shards) (L.sights ports.new.log (L.at ports.new.log)) (S.sights ports.new.shards) e.node) }
     ensures idle { OnOk result (L.phase ports.new.log lane ≡ Idle) }
-    ensures others { L.alone ≡ true → KeepsOthers (L.header ports.old.log) lane (L.phase ports.old.log) (L.phase ports.new.log) (L.open_txs ports.old.log) (L.open_txs ports.new.log) }
+    ensures others { L.alone ≡ true → KeepsOtherLanes (L.header ports.old.log) lane (L.phase ports.old.log) (L.phase ports.new.log) (L.open_txs ports.old.log) (L.open_txs ports.new.log) }
     ensures keeps_log { KeepsLog L.at L.header L.count L.sights L.faults L.holds ports.old.log ports.new.log }
     ensures keeps_shards { KeepsShards S.count S.sights S.faults S.holds S.serves ports.old.shards ports.new.shards }
     ensures report { IfOk result (λ r. (r.batch.lane ≡ lane) × (length r.outcomes ≡ length txs.now)) }
@@ -309,7 +309,7 @@ pub(crate) fn one_batch<S: PortSet<G>, L: LogPort, G: Gate>(
     ensures told { IfErr result (IsOneTold shape.now L.alone lane txs.now repeats (L.sights ports.old.log (L.at ports.old.log)) (S.sights ports.old.shards) (L.sights ports.new.log (L.at ports.new.log)) (S.sights ports.new.shards)) }
     ensures fault { IfErr result (λ e. IsCausedStop shape.now (L.sights ports.new.log) (S.sights ports.new.shards) e.node e.fault) }
     ensures idle { OnOk result (L.phase ports.new.log lane ≡ Idle) }
-    ensures others { L.alone ≡ true → KeepsOthers (L.header ports.old.log) lane (L.phase ports.old.log) (L.phase ports.new.log) (L.open_txs ports.old.log) (L.open_txs ports.new.log) }
+    ensures others { L.alone ≡ true → KeepsOtherLanes (L.header ports.old.log) lane (L.phase ports.old.log) (L.phase ports.new.log) (L.open_txs ports.old.log) (L.open_txs ports.new.log) }
     ensures keeps_log { KeepsLog L.at L.header L.count L.sights L.faults L.holds ports.old.log ports.new.log }
     ensures keeps_shards { KeepsShards S.count S.sights S.faults S.holds S.serves ports.old.shards ports.new.shards }
     ensures report { IfOk result (λ r. (r.batch.lane ≡ lane) × (length r.outcomes ≡ length txs.now)) }
@@ -346,7 +346,7 @@ pub fn run_batch<S: PortSet<G>, L: LogPort, G: Gate>(
     requires count { S.count ports.old.shards ≡ shape.now.shards }
     requires ledger { AreShardsOf shape.now (S.sights ports.old.shards) }
     requires mine { S.serves ports.old.shards lane }
-    requires settled { IsSettled shape.now lane (L.sights ports.old.log (L.at ports.old.log)) (S.sights ports.old.shards) }
+    requires settled { IsLaneSettled shape.now lane (L.sights ports.old.log (L.at ports.old.log)) (S.sights ports.old.shards) }
     requires size { HasSize shape.now txs.now }
     requires limits { All IsCompact txs.now }
     ensures done { IfOk result (λ r. IsOneBatch shape.now L.alone lane txs.now (L.sights ports.old.log (L.at ports.old.log)) (S.sights ports.old.shards) (L.sights ports.new.log (L.at ports.new.log)) (S.sights ports.new.shards) r.batches) }
@@ -354,10 +354,10 @@ pub fn run_batch<S: PortSet<G>, L: LogPort, G: Gate>(
     ensures told { IfErr result (IsBatchTold shape.now L.alone lane txs.now repeats (L.sights ports.old.log (L.at ports.old.log)) (S.sights ports.old.shards) (L.sights ports.new.log (L.at ports.new.log)) (S.sights ports.new.shards)) }
     ensures fault { IfErr result (IsCausedFault shape.now (L.sights ports.new.log) (S.sights ports.new.shards)) }
     ensures idle { OnOk result (L.phase ports.new.log lane ≡ Idle) }
-    ensures others { L.alone ≡ true → KeepsOthers (L.header ports.old.log) lane (L.phase ports.old.log) (L.phase ports.new.log) (L.open_txs ports.old.log) (L.open_txs ports.new.log) }
+    ensures others { L.alone ≡ true → KeepsOtherLanes (L.header ports.old.log) lane (L.phase ports.old.log) (L.phase ports.new.log) (L.open_txs ports.old.log) (L.open_txs ports.new.log) }
     ensures keeps_log { KeepsLog L.at L.header L.count L.sights L.faults L.holds ports.old.log ports.new.log }
     ensures keeps_shards { KeepsShards S.count S.sights S.faults S.holds S.serves ports.old.shards ports.new.shards }
-    ensures report { IfOk result (λ r. AreReports lane r.batches (txs.now ∷ [])) }
+    ensures report { IfOk result (λ r. AreBatchReports lane r.batches (txs.now ∷ [])) }
 {
     let mut batches = match Vec::with_capacity(alloc, 1) {
         Ok(batches) => batches,

@@ -7,9 +7,9 @@ ghost use Rattle.cbdc_model.specs.Grammar.{IsCompact};
 ghost use Rattle.cbdc_model.specs.Ranges.{home_of};
 ghost use Rattle.lane_laws.specs.Batches.{Settled, LaneSo};
 ghost use Rattle.lane_driver.specs.Causes.{IsCausedFault};
-ghost use Rattle.lane_driver.specs.Stops.{IsLaneStopped, IsLaneTold, IsSettled};
+ghost use Rattle.lane_driver.specs.Stops.{IsLaneStopped, IsLaneTold, IsLaneSettled};
 ghost use Rattle.lane_driver.specs.Keeping.{KeepsLog, KeepsShards};
-ghost use Rattle.lane_driver.specs.Told.{IsLane, KeepsOthers, AreShardsOf};
+ghost use Rattle.lane_driver.specs.Told.{IsLane, KeepsOtherLanes, AreShardsOf};
 ghost use Rattle.lane_driver.specs.Reports.{IsReported, AreDone};
 
 use crate::batch::one_batch;
@@ -48,7 +48,7 @@ pub fn run_lane<S: PortSet<G>, L: LogPort, X: Source, G: Gate>(
     requires count { S.count ports.old.shards ≡ shape.now.shards }
     requires ledger { AreShardsOf shape.now (S.sights ports.old.shards) }
     requires mine { S.serves ports.old.shards lane }
-    requires settled { IsSettled shape.now lane (L.sights ports.old.log (L.at ports.old.log)) (S.sights ports.old.shards) }
+    requires settled { IsLaneSettled shape.now lane (L.sights ports.old.log (L.at ports.old.log)) (S.sights ports.old.shards) }
     requires limits { All IsCompact (X.all source.old) }
     ensures same { X.all source.new ≡ X.all source.old }
     ensures done { OnOk result ((k : ℕ) → Settled shape.now lane k (L.sights ports.old.log (L.at ports.old.log)) (S.sights ports.old.shards) → LaneSo shape.now L.alone lane (X.all source.old) [] (L.sights ports.old.log (L.at ports.old.log)) (S.sights ports.old.shards) (L.sights ports.new.log (L.at ports.new.log)) (S.sights ports.new.shards)) }
@@ -56,7 +56,7 @@ pub fn run_lane<S: PortSet<G>, L: LogPort, X: Source, G: Gate>(
     ensures told { IfErr result (IsLaneTold shape.now L.alone lane (X.all source.old) repeats (L.sights ports.old.log (L.at ports.old.log)) (S.sights ports.old.shards) (L.sights ports.new.log (L.at ports.new.log)) (S.sights ports.new.shards)) }
     ensures fault { IfErr result (IsCausedFault shape.now (L.sights ports.new.log) (S.sights ports.new.shards)) }
     ensures idle { OnOk result (L.phase ports.new.log lane ≡ Idle) }
-    ensures others { L.alone ≡ true → KeepsOthers (L.header ports.old.log) lane (L.phase ports.old.log) (L.phase ports.new.log) (L.open_txs ports.old.log) (L.open_txs ports.new.log) }
+    ensures others { L.alone ≡ true → KeepsOtherLanes (L.header ports.old.log) lane (L.phase ports.old.log) (L.phase ports.new.log) (L.open_txs ports.old.log) (L.open_txs ports.new.log) }
     ensures keeps_log { KeepsLog L.at L.header L.count L.sights L.faults L.holds ports.old.log ports.new.log }
     ensures keeps_shards { KeepsShards S.count S.sights S.faults S.holds S.serves ports.old.shards ports.new.shards }
     ensures report { IfOk result (λ r. IsReported lane shape.now.batch (X.all source.old) [] r.batches) }

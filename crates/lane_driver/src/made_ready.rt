@@ -5,9 +5,9 @@ ghost use Rattle.cbdc_model.specs.Ranges.{home_of};
 ghost use Rattle.cbdc_model.specs.Grammar.{HasSize, IsCompact};
 ghost use Rattle.lane_laws.specs.Batches.{Settled, BatchDone};
 ghost use Rattle.lane_driver.specs.Keeping.{KeepsLog, KeepsShards};
-ghost use Rattle.lane_driver.specs.Told.{IsLane, KeepsOthers, AreShardsOf};
+ghost use Rattle.lane_driver.specs.Told.{IsLane, KeepsOtherLanes, AreShardsOf};
 ghost use Rattle.lane_driver.specs.Causes.{IsCausedFault};
-ghost use Rattle.lane_driver.specs.Stops.{IsBatchStoppedAt, IsBatchToldAt, IsSettled};
+ghost use Rattle.lane_driver.specs.Stops.{IsBatchStoppedAt, IsBatchToldAt, IsLaneSettled};
 ghost use Rattle.lane_driver.specs.Wanting.{IsBatchWant};
 ghost use Rattle.lane_driver.specs.declared.fault.LaneFaultKind.TheVariants.{Memory as NoMemory};
 
@@ -61,7 +61,7 @@ impl<'a> Ready<'a> {
         requires count { S.count ports.old.shards ≡ self.shape.shards }
         requires ledger { AreShardsOf self.shape (S.sights ports.old.shards) }
         requires mine { S.serves ports.old.shards self.lane }
-        requires settled { IsSettled self.shape self.lane (L.sights ports.old.log (L.at ports.old.log)) (S.sights ports.old.shards) }
+        requires settled { IsLaneSettled self.shape self.lane (L.sights ports.old.log (L.at ports.old.log)) (S.sights ports.old.shards) }
         requires size { HasSize self.shape self.txs }
         requires limits { All IsCompact self.txs }
         ensures done { IfOk result (λ r. (k : ℕ) → Settled self.entry.shape self.entry.lane k (L.sights ports.old.log (L.at ports.old.log)) (S.sights ports.old.shards) → BatchDone self.entry.shape L.alone self.entry.lane k self.entry.txs (L.sights ports.old.log (L.at ports.old.log)) (S.sights ports.old.shards) (L.sights ports.new.log (L.at ports.new.log)) (S.sights ports.new.shards) r.batch r.outcomes) }
@@ -72,7 +72,7 @@ impl<'a> Ready<'a> {
         // It answers out of memory only where a node did: its coordinator at the Prepare, or a shard at a Lock.
         ensures want { IfErr result (λ e. e.fault ≡ NoMemory → IsBatchWant self.entry.shape L.alone self.entry.lane self.entry.txs (L.sights ports.old.log (L.at ports.old.log)) (S.sights ports.old.shards) (L.sights ports.new.log (L.at ports.new.log)) (S.sights ports.new.shards) e.node) }
         ensures idle { OnOk result (L.phase ports.new.log self.entry.lane ≡ Idle) }
-        ensures others { L.alone ≡ true → KeepsOthers (L.header ports.old.log) self.entry.lane (L.phase ports.old.log) (L.phase ports.new.log) (L.open_txs ports.old.log) (L.open_txs ports.new.log) }
+        ensures others { L.alone ≡ true → KeepsOtherLanes (L.header ports.old.log) self.entry.lane (L.phase ports.old.log) (L.phase ports.new.log) (L.open_txs ports.old.log) (L.open_txs ports.new.log) }
         ensures keeps_log { KeepsLog L.at L.header L.count L.sights L.faults L.holds ports.old.log ports.new.log }
         ensures keeps_shards { KeepsShards S.count S.sights S.faults S.holds S.serves ports.old.shards ports.new.shards }
         ensures report { IfOk result (λ r. (r.batch.lane ≡ self.entry.lane) × (length r.outcomes ≡ length self.entry.txs)) }

@@ -10,7 +10,7 @@ use Rattle.cbdc_model.specs.Ranges.{home_of}
 use Rattle.cbdc_model.specs.Sights.{Sight}
 use Rattle.lane_laws.specs.Batches.{LaneSo}
 use Rattle.lane_driver.specs.Told.{IsStillNode}
-use Rattle.lane_driver.specs.Stops.{IsSettled, IsLaneStopped}
+use Rattle.lane_driver.specs.Stops.{IsLaneSettled, IsLaneStopped}
 use Rattle.lane_driver.specs.Reports.{IsReported, AreDone}
 use Rattle.lane_driver.specs.declared.fault.LaneFault.{LaneFault}
 use Rattle.lane_driver.specs.declared.fault.LaneReport.{LaneReport}
@@ -90,7 +90,7 @@ module _ {W D S B X : Type 0} {G : Ghosts B} (sight : S → Sight) (tables : ℕ
   may_keep r q e (Some (Err fault)) k = tt
 
   -- how a lane ended
-  ended_of : (lane : ℕ) (x y : LaneOf) (r q : LaneRun W D S B X G) → r.lane ≡ lane → IsSettled K r.lane (log_of sight tables K r) (shards_of sight tables K r) → q.work ≡ r.work
+  ended_of : (lane : ℕ) (x y : LaneOf) (r q : LaneRun W D S B X G) → r.lane ≡ lane → IsLaneSettled K r.lane (log_of sight tables K r) (shards_of sight tables K r) → q.work ≡ r.work
       → (o : Option (Result LaneReport LaneFault)) → HasRun sight tables K r q o → IsLaneEnd q.work o y
       → (y.txs ≡ q.work.txs) × LaneHasEnded K lane (log_of sight tables K r) (shards_of sight tables K r) (log_of sight tables K q) (shards_of sight tables K q) x y
   ended_of lane x y r q l settled w None k e = absurd k
@@ -195,7 +195,7 @@ module _ {W D S B X : Type 0} {G : Ghosts B} (sight : S → Sight) (tables : ℕ
         let shards = shards_of sight tables K r in
         let log' = log_of sight tables K q in
         let shards' = shards_of sight tables K q in
-        let settled : IsSettled K lane log shards = subst (λ l. IsSettled K l log shards) k.set_up.lane_is begins.settled in
+        let settled : IsLaneSettled K lane log shards = subst (λ l. IsLaneSettled K l log shards) k.set_up.lane_is begins.settled in
         let first : Sight = log_at gs (home_of K lane) in
         let last_is : log' ≡ seat_sight log_sight q.ports.log.seat = seen_here q.ports.log.node (seat_sight log_sight q.ports.log.seat) in
         let still : IsStillNode log log' = subst (λ n. IsStillNode log (logs_of sight tables K q n)) (sym k.ends.at) (k.ends.log_nodes r.ports.log.node) in

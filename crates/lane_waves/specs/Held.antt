@@ -7,7 +7,7 @@ use Rattle.cbdc_model.specs.Ranges.{home_of}
 use Rattle.cbdc_model.specs.Sights.{Sight}
 use Rattle.lane_laws.specs.Batches.{Settled, LaneSo}
 use Rattle.lane_driver.specs.Told.{IsLane, AreShardsOf, KeepNodes}
-use Rattle.lane_driver.specs.Stops.{IsSettled, IsLaneStopped, IsLaneTold}
+use Rattle.lane_driver.specs.Stops.{IsLaneSettled, IsLaneStopped, IsLaneTold}
 use Rattle.lane_driver.specs.Causes.{IsCausedFault}
 use Rattle.lane_driver.specs.Reports.{IsReported, AreDone}
 use Rattle.lane_driver.specs.declared.fault.LaneFault.{LaneFault}
@@ -50,7 +50,7 @@ module _ {W D S B X : Type 0} {G : Ghosts B} (sight : S → Sight) (tables : ℕ
     pub idle : seat_phase (knows r.ports.log.seat).lane (seat_sight (log_sight {D = D}) r.ports.log.seat) r.lane ≡ Idle
     pub count_is : length r.ports.shards.each.ports.items ≡ K.shards
     pub ledger : AreShardsOf K (shards_of r)
-    pub settled : IsSettled K r.lane (log_of r) (shards_of r)
+    pub settled : IsLaneSettled K r.lane (log_of r) (shards_of r)
     pub ours : TakeCallsOf sight r.lane r.ports.shards.each.ports.items
     pub limits : All IsCompact r.work.txs
 

@@ -6,7 +6,7 @@ ghost use Rattle.cbdc_model.specs.Grammar.{IsCompact};
 ghost use Rattle.cbdc_model.specs.Ranges.{home_of};
 ghost use Rattle.lane_laws.specs.Batches.{Settled, LaneSo};
 ghost use Rattle.lane_driver.specs.Causes.{IsCausedFault};
-ghost use Rattle.lane_driver.specs.Stops.{IsLaneStopped, IsLaneTold, IsSettled};
+ghost use Rattle.lane_driver.specs.Stops.{IsLaneStopped, IsLaneTold, IsLaneSettled};
 ghost use Rattle.lane_driver.specs.Keeping.{KeepsLog};
 ghost use Rattle.lane_driver.specs.Told.{IsLane, AreShardsOf};
 ghost use Rattle.lane_driver.specs.Reports.{IsReported, AreDone};
@@ -107,7 +107,7 @@ pub(crate) fn run_over<
     requires count { length ports.old.shards.each.ports.items ≡ shape.now.shards }
     requires ledger { AreShardsOf shape.now (sight_at P.sight ports.old.shards.each.ports.items) }
     requires mine { All (λ p. P.serves p lane) ports.old.shards.each.ports.items }
-    requires settled { IsSettled shape.now lane (L.sights ports.old.log (L.at ports.old.log)) (sight_at P.sight ports.old.shards.each.ports.items) }
+    requires settled { IsLaneSettled shape.now lane (L.sights ports.old.log (L.at ports.old.log)) (sight_at P.sight ports.old.shards.each.ports.items) }
     requires limits { All IsCompact (Y.all source.old) }
     ensures same { Y.all source.new ≡ Y.all source.old }
     ensures done { OnOk result ((k : ℕ) → Settled shape.now lane k (L.sights ports.old.log (L.at ports.old.log)) (sight_at P.sight ports.old.shards.each.ports.items) → LaneSo shape.now L.alone lane (Y.all source.old) [] (L.sights ports.old.log (L.at ports.old.log)) (sight_at P.sight ports.old.shards.each.ports.items) (L.sights ports.new.log (L.at ports.new.log)) (sight_at P.sight ports.new.shards.each.ports.items)) }

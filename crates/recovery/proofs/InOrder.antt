@@ -9,11 +9,11 @@ use Rattle.cbdc_model.specs.Records.{Shape, Header, Compact}
 use Rattle.cbdc_model.specs.Slots.{Phase, Idle}
 use Rattle.cbdc_model.specs.Sights.{Sight}
 use Rattle.lane_laws.specs.Resuming.{IsTakenUp}
-use Rattle.lane_driver.specs.Told.{IsLane, KeepsOthers}
+use Rattle.lane_driver.specs.Told.{IsLane, KeepsOtherLanes}
 use Rattle.recovery.specs.declared.resumed.ResumedBatch.{ResumedBatch}
 use Rattle.lane_driver.specs.declared.fault.LaneFault.{LaneFault}
 use Rattle.lane_driver.specs.declared.fault.LaneFaultKind.TheVariants.{Memory as NoMemory}
-use Rattle.recovery.specs.Open.{IsOpen, LanesAbove, LanesRise, KeepsUnlisted, IsResumed, IsUnfinished, HasItsOutcomes, IsResumeStopped, IsResumeTold, WantsAtLock, HasPrepared, IsOneTaken, AreTakenUp, CameOf, AreTried, IsStoppedAmong, Keeps}
+use Rattle.recovery.specs.Open.{IsLaneOpen, LanesAbove, LanesRise, KeepsUnlisted, IsBatchResumed, IsBatchUnfinished, HasItsOutcomes, IsResumeStopped, IsResumeTold, WantsAtLock, HasPreparedLane, IsOneTaken, AreTakenUp, ResumeCameOf, AreTried, IsStoppedAmong, KeepsResumed}
 use Rattle.recovery.proofs.Rest.{split_rest, open_here, more_before}
 
 -- ---- what was taken
@@ -29,17 +29,17 @@ taken_one_more K alone (p ∷ os) (q ∷ rs) o r log between log' I N J (first, 
     (first, shards_first, is, taken_one_more K alone os rs o r first between log' shards_first N J rest one)
 
 -- what came of one, by what is told of it
-pub came_of : (K : Shape) (alone : Bool) (o : OpenLane) (c : Result ResumedBatch LaneFault) (log log' : Sight) (I J : ℕ → Sight) → IsUnfinished o.phase K o log I
-    → OnOk c (IsUnfinished o.phase K o log I → IsTakenUp K alone o.batch log I log' J) → IfOk c (IsResumed o) → IfOk c (λ r. IsUnfinished o.phase K o log I → HasItsOutcomes o.phase o log'.seen r)
-    → IfErr c (IsResumeStopped K alone o log I log' J) → IfErr c (IsResumeTold K alone o log I log' J) → IfErr c (WantsAtLock K alone o log I log' J) → CameOf K alone o c log I log' J
+pub came_of : (K : Shape) (alone : Bool) (o : OpenLane) (c : Result ResumedBatch LaneFault) (log log' : Sight) (I J : ℕ → Sight) → IsBatchUnfinished o.phase K o log I
+    → OnOk c (IsBatchUnfinished o.phase K o log I → IsTakenUp K alone o.batch log I log' J) → IfOk c (IsBatchResumed o) → IfOk c (λ r. IsBatchUnfinished o.phase K o log I → HasItsOutcomes o.phase o log'.seen r)
+    → IfErr c (IsResumeStopped K alone o log I log' J) → IfErr c (IsResumeTold K alone o log I log' J) → IfErr c (WantsAtLock K alone o log I log' J) → ResumeCameOf K alone o c log I log' J
 came_of K alone o (Ok r) log log' I J stands taken resumed outcomes left told want = record { taken = taken stands; resumed = resumed; outcomes = outcomes stands }
 came_of K alone o (Err e) log log' I J stands taken resumed outcomes left told want = (stands, left, told, want)
 
 -- one more, whatever came of it
 tried_one_more : (K : Shape) (alone : Bool) (os : List OpenLane) (cs : List (Result ResumedBatch LaneFault)) (o : OpenLane) (c : Result ResumedBatch LaneFault) (log between log' : Sight) (I N J : ℕ → Sight)
-    → AreTried K alone os cs log I between N → CameOf K alone o c between N log' J → AreTried K alone (os ++ o ∷ []) (cs ++ c ∷ []) log I log' J
+    → AreTried K alone os cs log I between N → ResumeCameOf K alone o c between N log' J → AreTried K alone (os ++ o ∷ []) (cs ++ c ∷ []) log I log' J
 tried_one_more K alone [] [] o c log between log' I N J (same, shards_same) one =
-    (log', J, subst (λ x. CameOf K alone o c x I log' J) same (subst (λ x. CameOf K alone o c between x log' J) shards_same one), (refl, refl))
+    (log', J, subst (λ x. ResumeCameOf K alone o c x I log' J) same (subst (λ x. ResumeCameOf K alone o c between x log' J) shards_same one), (refl, refl))
 tried_one_more K alone [] (d ∷ cs) o c log between log' I N J tried one = absurd tried
 tried_one_more K alone (p ∷ os) [] o c log between log' I N J tried one = absurd tried
 tried_one_more K alone (p ∷ os) (d ∷ cs) o c log between log' I N J (first, shards_first, is, rest) one =
@@ -51,18 +51,18 @@ abbrev pub CameSo : Shape → Bool → List OpenLane → List ResumedBatch → O
 CameSo K alone os rs None log I log' J = AreTakenUp K alone os rs log I log' J
 CameSo K alone os rs (Some e) log I log' J = IsStoppedAmong K alone os log I log' J e
 
-pub kept_first : (before after : List ResumedBatch) (f : LaneFault) (now : Option LaneFault) (c : Result ResumedBatch LaneFault) → Keeps before (Some f) c after now → now ≡ Some f
+pub kept_first : (before after : List ResumedBatch) (f : LaneFault) (now : Option LaneFault) (c : Result ResumedBatch LaneFault) → KeepsResumed before (Some f) c after now → now ≡ Some f
 kept_first before after f now (Ok r) kept = kept.1
 kept_first before after f now (Err e) kept = kept.1
 
-pub kept_none : (before after : List ResumedBatch) (was now : Option LaneFault) (c : Result ResumedBatch LaneFault) → Keeps before was c after now → now ≡ None
+pub kept_none : (before after : List ResumedBatch) (was now : Option LaneFault) (c : Result ResumedBatch LaneFault) → KeepsResumed before was c after now → now ≡ None
     → (was ≡ None) × (r : ResumedBatch) × (c ≡ Ok r) × (after ≡ before ++ r ∷ [])
 kept_none before after None now (Ok r) kept none = (refl, r, refl, kept.0)
 kept_none before after None now (Err e) kept none = absurd (let z : Some e ≡ None = sym kept.1 ∙ none in cc)
 kept_none before after (Some f) now c kept none = absurd (let z : Some f ≡ None = sym (kept_first before after f now c kept) ∙ none in cc)
 
 came_one_more : (K : Shape) (alone : Bool) (os : List OpenLane) (before after : List ResumedBatch) (was now : Option LaneFault) (o : OpenLane) (c : Result ResumedBatch LaneFault) (log between log' : Sight) (I N J : ℕ → Sight)
-    → CameSo K alone os before was log I between N → CameOf K alone o c between N log' J → Keeps before was c after now → CameSo K alone (os ++ o ∷ []) after now log I log' J
+    → CameSo K alone os before was log I between N → ResumeCameOf K alone o c between N log' J → KeepsResumed before was c after now → CameSo K alone (os ++ o ∷ []) after now log I log' J
 came_one_more K alone os before after None now o (Ok r) log between log' I N J so one kept =
     subst (λ f. CameSo K alone (os ++ o ∷ []) after f log I log' J) (sym kept.1)
     (subst (λ rs. AreTakenUp K alone (os ++ o ∷ []) rs log I log' J) (sym kept.0) (taken_one_more K alone os before o r log between log' I N J so one))
@@ -106,7 +106,7 @@ came_one_more K alone os before after (Some f) now o c log between log' I N J so
     })
 
 -- where one stopped for want of memory, one was prepared
-among_prepared : (K : Shape) (alone : Bool) (os : List OpenLane) (log log' : Sight) (I J : ℕ → Sight) (e : LaneFault) → IsStoppedAmong K alone os log I log' J e → e.fault ≡ NoMemory → HasPrepared os
+among_prepared : (K : Shape) (alone : Bool) (os : List OpenLane) (log log' : Sight) (I J : ℕ → Sight) (e : LaneFault) → IsStoppedAmong K alone os log I log' J e → e.fault ≡ NoMemory → HasPreparedLane os
 among_prepared K alone os log log' I J e among want = (among.stopped_at, subst (λ xs. Contains xs among.stopped_at) (sym among.are) (middle_there among.before among.stopped_at among.behind), (among.want want).0)
   where
     middle_there : (xs : List OpenLane) (x : OpenLane) (ys : List OpenLane) → Contains (xs ++ x ∷ ys) x
@@ -114,7 +114,7 @@ among_prepared K alone os log log' I J e among want = (among.stopped_at, subst (
     middle_there (z ∷ xs) x ys = let m = middle_there xs x ys in (suc m.0, omega (arith, m.1), m.2)
 
 pub prepared_by : {A : Type 0} (K : Shape) (alone : Bool) (os : List OpenLane) (log log' : Sight) (I J : ℕ → Sight) (came : Result A LaneFault) → IfErr came (IsStoppedAmong K alone os log I log' J)
-    → IfErr came (λ e. e.fault ≡ NoMemory → HasPrepared os)
+    → IfErr came (λ e. e.fault ≡ NoMemory → HasPreparedLane os)
 prepared_by K alone os log log' I J (Ok r) left = tt
 prepared_by K alone os log log' I J (Err e) left = among_prepared K alone os log log' I J e left
 
@@ -133,14 +133,14 @@ module _ (os : List OpenLane) (i : ℕ) (o : OpenLane) (lt : i < length os) (is 
   longer = take_more os i o lt ∙ ap (λ x. take i os ++ x ∷ []) (sym is)
 
   pub came_more : (K : Shape) (alone : Bool) (before after : List ResumedBatch) (was now : Option LaneFault) (c : Result ResumedBatch LaneFault) (log between log' : Sight) (I N J : ℕ → Sight)
-      → CameSo K alone (take i os) before was log I between N → CameOf K alone o c between N log' J → Keeps before was c after now → CameSo K alone (take (i + 1) os) after now log I log' J
+      → CameSo K alone (take i os) before was log I between N → ResumeCameOf K alone o c between N log' J → KeepsResumed before was c after now → CameSo K alone (take (i + 1) os) after now log I log' J
   came_more K alone before after was now c log between log' I N J so one kept =
       subst (λ xs. CameSo K alone xs after now log I log' J) (sym longer) (came_one_more K alone (take i os) before after was now o c log between log' I N J so one kept)
 
   split : drop i os ≡ o ∷ drop (i + 1) os
   split = split_rest os i o lt is
 
-  pub over_more : (h k : Header) (p q : ℕ → Phase) (t u : ℕ → List Compact) → k ≡ h → (1 < length os → KeepsOthers h o.batch.lane p q t u) → q o.batch.lane ≡ Idle → LanesRise (drop i os) → All (IsOpen h p t) (drop i os)
+  pub over_more : (h k : Header) (p q : ℕ → Phase) (t u : ℕ → List Compact) → k ≡ h → (1 < length os → KeepsOtherLanes h o.batch.lane p q t u) → q o.batch.lane ≡ Idle → LanesRise (drop i os) → All (IsLaneOpen h p t) (drop i os)
       → All (IsOver h p (drop i os)) (take i os) → All (IsOver k q (drop (i + 1) os)) (take (i + 1) os)
   over_more h k p q t u e keeps idle rise open_rest over =
       subst (λ xs. All (IsOver k q (drop (i + 1) os)) xs) (sym longer)
@@ -153,7 +153,7 @@ module _ (os : List OpenLane) (i : ℕ) (o : OpenLane) (lt : i < length os) (is 
         below = (subst LanesRise split rise).0;
       }
 
-      older : KeepsOthers h o.batch.lane p q t u → (x : OpenLane) → IsOver h p (drop i os) x → IsOver k q (drop (i + 1) os) x
+      older : KeepsOtherLanes h o.batch.lane p q t u → (x : OpenLane) → IsOver h p (drop i os) x → IsOver k q (drop (i + 1) os) x
       older kept x was =
           let below : LanesAbove x.batch.lane (o ∷ drop (i + 1) os) = subst (λ xs. LanesAbove x.batch.lane xs) split was.below in
           let apart : x.batch.lane ≢ o.batch.lane = λ same. (let lt : x.batch.lane < o.batch.lane = below.0 in omega (arith, same, lt)) in
@@ -168,7 +168,7 @@ module _ (os : List OpenLane) (i : ℕ) (o : OpenLane) (lt : i < length os) (is 
       before (x ∷ xs) d = All-weaker (IsOver h p (drop i os)) (IsOver k q (drop (i + 1) os)) (older (keeps (more_before os i x xs lt d))) (take i os) over
 
   -- lanes that are not listed stay as they were
-  pub unlisted_more : (h k : Header) (p q r : ℕ → Phase) (t u v : ℕ → List Compact) → k ≡ h → KeepsUnlisted h os p q t u → KeepsOthers k o.batch.lane q r u v → KeepsUnlisted h os p r t v
+  pub unlisted_more : (h k : Header) (p q r : ℕ → Phase) (t u v : ℕ → List Compact) → k ≡ h → KeepsUnlisted h os p q t u → KeepsOtherLanes k o.batch.lane q r u v → KeepsUnlisted h os p r t v
   unlisted_more h k p q r t u v e so one lane inside apart =
       let was = so lane inside apart in
       let now = one lane (subst (λ x. IsLane x lane) (sym e) inside) (subst (λ x. lane ≢ x.batch.lane) (sym is) (All-get_or (λ x. lane ≢ x.batch.lane) os i o lt apart)) in (

@@ -15,12 +15,12 @@ use Rattle.lane_driver.specs.Causes.{IsCausedFault}
 use Rattle.lane_driver.specs.declared.fault.LaneFault.{LaneFault}
 use Rattle.lane_driver.proofs.Fitting.{nodes_same, nodes_on}
 use Rattle.recovery.specs.declared.resumed.ResumedBatch.{ResumedBatch}
-use Rattle.recovery.specs.Open.{CameOf, HasGoneOn, WasCaused, Keeps}
+use Rattle.recovery.specs.Open.{ResumeCameOf, HasGoneOn, WasCaused, KeepsResumed}
 use Rattle.recovery.proofs.InOrder.{kept_first}
 
 -- ---- what a lane made, whatever came of it
 
-pub made_by : (K : Shape) (alone : Bool) (o : OpenLane) (c : Result ResumedBatch LaneFault) (log log' : Sight) (I J : ℕ → Sight) → CameOf K alone o c log I log' J
+pub made_by : (K : Shape) (alone : Bool) (o : OpenLane) (c : Result ResumedBatch LaneFault) (log log' : Sight) (I J : ℕ → Sight) → ResumeCameOf K alone o c log I log' J
     → Made K [] alone o.batch.lane (view K o.batch.lane log I) (view K o.batch.lane log' J)
 made_by K alone o (Ok r) log log' I J one = one.taken.made
 made_by K alone o (Err e) log log' I J (stands, stop, told, want) = (stop stands).3.made
@@ -68,7 +68,7 @@ caused_now K logs shards e cause = record { logs_then = logs; shards_then = shar
 
 pub caused_more : (K : Shape) (before after : List ResumedBatch) (was now : Option LaneFault) (c : Result ResumedBatch LaneFault) (logs logs' shards shards' : ℕ → Sight)
     → ((n : ℕ) → HasGoneOn (logs n) (logs' n)) → ((n : ℕ) → HasGoneOn (shards n) (shards' n)) → ((e : LaneFault) → was ≡ Some e → WasCaused K logs shards e) → IfErr c (IsCausedFault K logs' shards')
-    → Keeps before was c after now → (e : LaneFault) → now ≡ Some e → WasCaused K logs' shards' e
+    → KeepsResumed before was c after now → (e : LaneFault) → now ≡ Some e → WasCaused K logs' shards' e
 caused_more K before after (Some f) now c logs logs' shards shards' on shards_on had cause kept e is =
     caused_on K logs logs' shards shards' e on shards_on (had e (sym (kept_first before after f now c kept) ∙ is))
 caused_more K before after None now (Ok r) logs logs' shards shards' on shards_on had cause kept e is = absurd (let z : None ≡ Some e = sym kept.1 ∙ is in cc)

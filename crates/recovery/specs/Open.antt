@@ -18,7 +18,7 @@ use Rattle.lane_driver.specs.declared.fault.LaneFault.{LaneFault}
 use Rattle.lane_driver.specs.declared.fault.LaneFaultKind.TheVariants.{Memory as NoMemory}
 use Rattle.lane_driver.specs.Causes.{IsCausedFault}
 use Rattle.lane_driver.specs.Wanting.{IsLockWant}
-use Rattle.lane_driver.specs.Stops.{IsFaultOf, HasNoMemory}
+use Rattle.lane_driver.specs.Stops.{IsLaneFaultOf, DriverHasNoMemory}
 use Rattle.lane_driver.specs.Told.{IsLane, IsStamp, IsStillNode}
 use Rattle.recovery.specs.declared.resumed.ResumedBatch.{ResumedBatch}
 
@@ -35,7 +35,7 @@ HasOutcomes Committed outcomes txs = outcomes ≡ txs
 HasOutcomes Discarded outcomes txs = outcomes ≡ txs
 
 -- the lane is open at the coordinator as told
-pub record IsOpen (h : Header) (phase : ℕ → Phase) (open_txs : ℕ → List Compact) (o : OpenLane) : Type 0 where
+pub record IsLaneOpen (h : Header) (phase : ℕ → Phase) (open_txs : ℕ → List Compact) (o : OpenLane) : Type 0 where
   pub lane : IsLane h o.batch.lane
   pub batch : IsBatchOf h.shape o.batch
   pub phase_is : phase o.batch.lane ≡ phase_of o.phase
@@ -60,24 +60,24 @@ abbrev pub KeepsUnlisted : Header → List OpenLane → (ℕ → Phase) → (ℕ
 KeepsUnlisted h os p q t u = (lane : ℕ) → IsLane h lane → All (λ o. lane ≢ o.batch.lane) os → (q lane ≡ p lane) × (u lane ≡ t lane)
 
 -- the batch was resumed, with an outcome for each transaction
-pub record IsResumed (o : OpenLane) (r : ResumedBatch) : Type 0 where
+pub record IsBatchResumed (o : OpenLane) (r : ResumedBatch) : Type 0 where
   pub batch : r.batch ≡ o.batch
   pub phase_is : r.phase ≡ o.phase
   pub outcomes : length r.outcomes ≡ length o.txs
 
 -- each of these was resumed, in order
 abbrev pub AreResumed : List OpenLane → List ResumedBatch → Type 0
-AreResumed os rs = AllZip IsResumed os rs
+AreResumed os rs = AllZip IsBatchResumed os rs
 
 -- the journals have of the open batch what is told of it, and each shard has come as far with it as its phase lets it
-abbrev pub IsUnfinished : OpenPhase → Shape → OpenLane → Sight → (ℕ → Sight) → Type 0
-IsUnfinished Prepared K o log shards = IsPreparedAt K o.batch o.txs o.stamp log shards
-IsUnfinished Committed K o log shards = (prepared : ℕ) × IsCommittedAt K o.batch o.txs prepared o.stamp o.outcomes log shards
-IsUnfinished Discarded K o log shards = (prepared : ℕ) × IsDiscardedAt K o.batch o.txs prepared o.stamp log shards
+abbrev pub IsBatchUnfinished : OpenPhase → Shape → OpenLane → Sight → (ℕ → Sight) → Type 0
+IsBatchUnfinished Prepared K o log shards = IsPreparedAt K o.batch o.txs o.stamp log shards
+IsBatchUnfinished Committed K o log shards = (prepared : ℕ) × IsCommittedAt K o.batch o.txs prepared o.stamp o.outcomes log shards
+IsBatchUnfinished Discarded K o log shards = (prepared : ℕ) × IsDiscardedAt K o.batch o.txs prepared o.stamp log shards
 
 -- the same of all of them
 abbrev pub AreUnfinished : Shape → List OpenLane → Sight → (ℕ → Sight) → Type 0
-AreUnfinished K os log shards = All (λ o. IsUnfinished o.phase K o log shards) os
+AreUnfinished K os log shards = All (λ o. IsBatchUnfinished o.phase K o log shards) os
 
 -- the outcomes of the batch are those of the Commit that was written now, or those that it had
 abbrev pub HasItsOutcomes : OpenPhase → OpenLane → List Record → ResumedBatch → Type 0
@@ -87,7 +87,7 @@ HasItsOutcomes Discarded o J r = r.outcomes ≡ o.outcomes
 
 -- it stopped at a node's fault
 abbrev pub IsResumeStopped : Shape → Bool → OpenLane → Sight → (ℕ → Sight) → Sight → (ℕ → Sight) → LaneFault → Type 0
-IsResumeStopped K alone o log I log' J e = IsUnfinished o.phase K o log I → (n : ℕ) × (f : NodeFault) × IsFaultOf e n f × IsLeft K alone o.batch log I log' J n f
+IsResumeStopped K alone o log I log' J e = IsBatchUnfinished o.phase K o log I → (n : ℕ) × (f : NodeFault) × IsLaneFaultOf e n f × IsLeft K alone o.batch log I log' J n f
 
 -- what was told of it, call by call, from the phase on in which it stood: each concerned shard of a phase answered as it does (a lock with `Memory`
 -- maybe unasked), and where one of them did not do what it was asked, the least such shard's fault is this
@@ -99,7 +99,7 @@ IsToldFrom Discarded K alone o parts log I log' J n f = DiscardedStopped K alone
 -- the same of a batch that is cut into its parts
 abbrev pub IsResumeTold : Shape → Bool → OpenLane → Sight → (ℕ → Sight) → Sight → (ℕ → Sight) → LaneFault → Type 0
 IsResumeTold K alone o log I log' J e =
-    (parts : List (ℕ × List Entry)) × AreParts K o.txs parts × (n : ℕ) × (f : NodeFault) × IsFaultOf e n f × IsToldFrom o.phase K alone o parts log I log' J n f
+    (parts : List (ℕ × List Entry)) × AreParts K o.txs parts × (n : ℕ) × (f : NodeFault) × IsLaneFaultOf e n f × IsToldFrom o.phase K alone o parts log I log' J n f
 
 -- it was prepared, and stopped because memory ran out at the Lock of a shard, with nothing asked behind the Locks
 abbrev pub IsResumeWant : Shape → Bool → OpenLane → Sight → (ℕ → Sight) → Sight → (ℕ → Sight) → LaneFault → Type 0
@@ -113,7 +113,7 @@ WantsAtLock K alone o log I log' J e = e.fault ≡ NoMemory → IsResumeWant K a
 -- the open batch was taken to its end, and it is told with the phase in which it stood and its outcomes
 pub record IsOneTaken (K : Shape) (alone : Bool) (o : OpenLane) (log : Sight) (I : ℕ → Sight) (log' : Sight) (J : ℕ → Sight) (r : ResumedBatch) : Type 0 where
   pub taken : IsTakenUp K alone o.batch log I log' J
-  pub resumed : IsResumed o r
+  pub resumed : IsBatchResumed o r
   pub outcomes : HasItsOutcomes o.phase o log'.seen r
 
 -- so was each of them, one behind the other
@@ -125,10 +125,10 @@ AreTakenUp K alone (o ∷ os) (r ∷ rs) log I log' J =
     (between : Sight) × (shards_between : ℕ → Sight) × IsOneTaken K alone o log I between shards_between r × AreTakenUp K alone os rs between shards_between log' J
 
 -- the result of one of them: it was taken to its end, or it stood open and stopped
-abbrev pub CameOf : Shape → Bool → OpenLane → Result ResumedBatch LaneFault → Sight → (ℕ → Sight) → Sight → (ℕ → Sight) → Type 0
-CameOf K alone o (Ok r) log I log' J = IsOneTaken K alone o log I log' J r
-CameOf K alone o (Err e) log I log' J =
-    IsUnfinished o.phase K o log I × IsResumeStopped K alone o log I log' J e × IsResumeTold K alone o log I log' J e × WantsAtLock K alone o log I log' J e
+abbrev pub ResumeCameOf : Shape → Bool → OpenLane → Result ResumedBatch LaneFault → Sight → (ℕ → Sight) → Sight → (ℕ → Sight) → Type 0
+ResumeCameOf K alone o (Ok r) log I log' J = IsOneTaken K alone o log I log' J r
+ResumeCameOf K alone o (Err e) log I log' J =
+    IsBatchUnfinished o.phase K o log I × IsResumeStopped K alone o log I log' J e × IsResumeTold K alone o log I log' J e × WantsAtLock K alone o log I log' J e
 
 -- each of them was taken up, one behind the other, whatever came of those before it
 abbrev pub AreTried : Shape → Bool → List OpenLane → List (Result ResumedBatch LaneFault) → Sight → (ℕ → Sight) → Sight → (ℕ → Sight) → Type 0
@@ -136,7 +136,7 @@ AreTried K alone [] [] log I log' J = (log' ≡ log) × (J ≡ I)
 AreTried K alone [] (c ∷ cs) log I log' J = ⊥
 AreTried K alone (o ∷ os) [] log I log' J = ⊥
 AreTried K alone (o ∷ os) (c ∷ cs) log I log' J =
-    (between : Sight) × (shards_between : ℕ → Sight) × CameOf K alone o c log I between shards_between × AreTried K alone os cs between shards_between log' J
+    (between : Sight) × (shards_between : ℕ → Sight) × ResumeCameOf K alone o c log I between shards_between × AreTried K alone os cs between shards_between log' J
 
 -- one of them stopped; those before it were taken to their end, and each of those behind it was taken up still
 pub record IsStoppedAmong (K : Shape) (alone : Bool) (os : List OpenLane) (log : Sight) (I : ℕ → Sight) (log' : Sight) (J : ℕ → Sight) (e : LaneFault) : Type 0 where
@@ -148,7 +148,7 @@ pub record IsStoppedAmong (K : Shape) (alone : Bool) (os : List OpenLane) (log :
   pub log_there : Sight
   pub shards_there : ℕ → Sight
   pub taken : AreTakenUp K alone before batches log I log_there shards_there
-  pub stands : IsUnfinished stopped_at.phase K stopped_at log_there shards_there
+  pub stands : IsBatchUnfinished stopped_at.phase K stopped_at log_there shards_there
   pub log_then : Sight
   pub shards_then : ℕ → Sight
   pub stopped : IsResumeStopped K alone stopped_at log_there shards_there log_then shards_then e
@@ -159,11 +159,11 @@ pub record IsStoppedAmong (K : Shape) (alone : Bool) (os : List OpenLane) (log :
 
 -- that, or they were not begun because memory ran out
 abbrev pub AreStopped : Shape → Bool → List OpenLane → Sight → (ℕ → Sight) → Sight → (ℕ → Sight) → LaneFault → Type 0
-AreStopped K alone os log I log' J e = HasNoMemory e log I log' J ⊎ IsStoppedAmong K alone os log I log' J e
+AreStopped K alone os log I log' J e = DriverHasNoMemory e log I log' J ⊎ IsStoppedAmong K alone os log I log' J e
 
 -- one of them was prepared
-abbrev pub HasPrepared : List OpenLane → Type 0
-HasPrepared os = (o : OpenLane) × Contains os o × (o.phase ≡ Prepared)
+abbrev pub HasPreparedLane : List OpenLane → Type 0
+HasPreparedLane os = (o : OpenLane) × Contains os o × (o.phase ≡ Prepared)
 
 -- a node has gone on from how it stood: it is the same still, and its journal has grown at its end
 pub record HasGoneOn (old new : Sight) : Type 0 where
@@ -179,8 +179,8 @@ pub record WasCaused (K : Shape) (logs shards : ℕ → Sight) (e : LaneFault) :
   pub cause : IsCausedFault K logs_then shards_then e
 
 -- a lane's batch is kept behind those before it, or its fault, where none came before
-abbrev pub Keeps : List ResumedBatch → Option LaneFault → Result ResumedBatch LaneFault → List ResumedBatch → Option LaneFault → Type 0
-Keeps before (Some f) (Ok r) after now = (after ≡ before ++ r ∷ []) × (now ≡ Some f)
-Keeps before None (Ok r) after now = (after ≡ before ++ r ∷ []) × (now ≡ None)
-Keeps before (Some f) (Err e) after now = (after ≡ before) × (now ≡ Some f)
-Keeps before None (Err e) after now = (after ≡ before) × (now ≡ Some e)
+abbrev pub KeepsResumed : List ResumedBatch → Option LaneFault → Result ResumedBatch LaneFault → List ResumedBatch → Option LaneFault → Type 0
+KeepsResumed before (Some f) (Ok r) after now = (after ≡ before ++ r ∷ []) × (now ≡ Some f)
+KeepsResumed before None (Ok r) after now = (after ≡ before ++ r ∷ []) × (now ≡ None)
+KeepsResumed before (Some f) (Err e) after now = (after ≡ before) × (now ≡ Some f)
+KeepsResumed before None (Err e) after now = (after ≡ before) × (now ≡ Some e)

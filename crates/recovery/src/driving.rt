@@ -4,7 +4,7 @@ ghost use Rattle.std.specs.Vec.{vec_capacity, vec_len};
 ghost use Rattle.cbdc_model.specs.Slots.{Idle};
 ghost use Rattle.lane_driver.specs.Keeping.{KeepsLog, KeepsShards};
 ghost use Rattle.lane_driver.specs.Told.{AreShardsOf};
-ghost use Rattle.recovery.specs.Open.{IsOpen, LanesRise, KeepsUnlisted, AreResumed, AreUnfinished, AreTakenUp, IsStoppedAmong, WasCaused, Keeps};
+ghost use Rattle.recovery.specs.Open.{IsLaneOpen, LanesRise, KeepsUnlisted, AreResumed, AreUnfinished, AreTakenUp, IsStoppedAmong, WasCaused, KeepsResumed};
 ghost use Rattle.recovery.specs.Planned.{IsPlan};
 
 use crate::planning::LaneRoom;
@@ -21,7 +21,7 @@ fn keep(
     came: Result<ResumedBatch, LaneFault>,
 ) -> Option<LaneFault>
     requires room { vec_len batches.old < vec_capacity batches.old }
-    ensures kept { Keeps batches.old.items first came batches.new.items result }
+    ensures kept { KeepsResumed batches.old.items first came batches.new.items result }
     ensures len { vec_len batches.new ≤ vec_len batches.old + 1 }
     ensures capacity { vec_capacity batches.new ≡ vec_capacity batches.old }
 {
@@ -46,7 +46,7 @@ pub(crate) fn drive_lanes<S: PortSet<G>, L: LogPort, G: Gate>(
     requires same { S.alone ≡ L.alone }
     requires at { L.at ports.old.log ≡ (L.header ports.old.log).node }
     requires alone { 1 < length lanes.now → S.alone ≡ true }
-    requires is_open { All (IsOpen (L.header ports.old.log) (L.phase ports.old.log) (L.open_txs ports.old.log)) lanes.now }
+    requires is_open { All (IsLaneOpen (L.header ports.old.log) (L.phase ports.old.log) (L.open_txs ports.old.log)) lanes.now }
     requires stand { AreUnfinished shape.now lanes.now (L.sights ports.old.log (L.at ports.old.log)) (S.sights ports.old.shards) }
     requires rise { LanesRise lanes.now }
     requires shape { (L.header ports.old.log).shape ≡ shape.now }

@@ -4,7 +4,7 @@ ghost use Rattle.cbdc_model.specs.Slots.{Idle};
 ghost use Rattle.lane_driver.specs.declared.fault.LaneFaultKind.TheVariants.{Memory as NoMemory};
 ghost use Rattle.lane_driver.specs.Keeping.{KeepsLog, KeepsShards};
 ghost use Rattle.lane_driver.specs.Told.{AreShardsOf};
-ghost use Rattle.recovery.specs.Open.{IsOpen, LanesRise, KeepsUnlisted, AreResumed, AreUnfinished, AreTakenUp, IsStoppedAmong, HasPrepared, WasCaused};
+ghost use Rattle.recovery.specs.Open.{IsLaneOpen, LanesRise, KeepsUnlisted, AreResumed, AreUnfinished, AreTakenUp, IsStoppedAmong, HasPreparedLane, WasCaused};
 
 use crate::driving::drive_lanes;
 use crate::planning::LaneRoom;
@@ -53,7 +53,7 @@ impl<'a> Plan<'a> {
         requires same { S.alone ≡ L.alone }
         requires at { L.at ports.old.log ≡ (L.header ports.old.log).node }
         requires alone { 1 < length self.lanes → S.alone ≡ true }
-        requires is_open { All (IsOpen (L.header ports.old.log) (L.phase ports.old.log) (L.open_txs ports.old.log)) self.lanes }
+        requires is_open { All (IsLaneOpen (L.header ports.old.log) (L.phase ports.old.log) (L.open_txs ports.old.log)) self.lanes }
         requires stand { AreUnfinished self.shape self.lanes (L.sights ports.old.log (L.at ports.old.log)) (S.sights ports.old.shards) }
         requires rise { LanesRise self.lanes }
         requires shape { (L.header ports.old.log).shape ≡ self.shape }
@@ -71,7 +71,7 @@ impl<'a> Plan<'a> {
         ensures fault { IfErr result (WasCaused self.entry.shape (L.sights ports.new.log) (S.sights ports.new.shards)) }
 
         // It answers out of memory only where a shard did, at a Lock of a prepared batch: with none prepared it never does.
-        ensures want { IfErr result (λ e. e.fault ≡ NoMemory → HasPrepared self.entry.lanes) }
+        ensures want { IfErr result (λ e. e.fault ≡ NoMemory → HasPreparedLane self.entry.lanes) }
         ensures others { L.alone ≡ true → KeepsUnlisted (L.header ports.old.log) self.entry.lanes (L.phase ports.old.log) (L.phase ports.new.log) (L.open_txs ports.old.log) (L.open_txs ports.new.log) }
         ensures keeps_log { KeepsLog L.at L.header L.count L.sights L.faults L.holds ports.old.log ports.new.log }
         ensures keeps_shards { KeepsShards S.count S.sights S.faults S.holds S.serves ports.old.shards ports.new.shards }

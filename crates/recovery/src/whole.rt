@@ -3,7 +3,7 @@ ghost use Rattle.std.specs.Prelude.{◌≡◌, ◌<◌, true, length, IfOk, IfEr
 ghost use Rattle.cbdc_model.specs.Slots.{Idle};
 ghost use Rattle.lane_driver.specs.Keeping.{KeepsLog, KeepsShards};
 ghost use Rattle.lane_driver.specs.Told.{AreShardsOf};
-ghost use Rattle.recovery.specs.Open.{IsOpen, LanesRise, KeepsUnlisted, AreResumed, AreUnfinished, AreTakenUp, AreStopped, WasCaused};
+ghost use Rattle.recovery.specs.Open.{IsLaneOpen, LanesRise, KeepsUnlisted, AreResumed, AreUnfinished, AreTakenUp, AreStopped, WasCaused};
 
 use crate::planning::plan;
 use crate::resumed::Resumed;
@@ -29,7 +29,7 @@ pub fn resume<S: PortSet<G>, L: LogPort, G: Gate>(
     requires same { S.alone ≡ L.alone }
     requires at { L.at ports.old.log ≡ (L.header ports.old.log).node }
     requires alone { 1 < length lanes.now → S.alone ≡ true }
-    requires is_open { All (IsOpen (L.header ports.old.log) (L.phase ports.old.log) (L.open_txs ports.old.log)) lanes.now }
+    requires is_open { All (IsLaneOpen (L.header ports.old.log) (L.phase ports.old.log) (L.open_txs ports.old.log)) lanes.now }
     requires stand { AreUnfinished shape.now lanes.now (L.sights ports.old.log (L.at ports.old.log)) (S.sights ports.old.shards) }
     requires rise { LanesRise lanes.now }
     requires shape { (L.header ports.old.log).shape ≡ shape.now }

@@ -12,7 +12,7 @@ use Rattle.node_journal.specs.Nodes.{sight}
 use Rattle.node_ports.specs.Nodes.{sight_at}
 use Rattle.run_laws.proofs.Seen.{seen_log}
 use Rattle.lane_laws.specs.Resuming.{IsTakenUp}
-use Rattle.recovery.specs.Open.{IsOpen, LanesRise, KeepsUnlisted, IsResumed, AreResumed, IsUnfinished, AreUnfinished, HasItsOutcomes, IsResumeStopped, IsOneTaken, AreTakenUp, IsStoppedAmong}
+use Rattle.recovery.specs.Open.{IsLaneOpen, LanesRise, KeepsUnlisted, IsBatchResumed, AreResumed, IsBatchUnfinished, AreUnfinished, HasItsOutcomes, IsResumeStopped, IsOneTaken, AreTakenUp, IsStoppedAmong}
 use Rattle.thread_laws.proofs.OpenThere.{told_lane}
 use Rattle.file_runs.specs.Ledgers.{FliesNext}
 use Rattle.file_runs.proofs.Steps.{is_step, are_shards, at_home, open_at}
@@ -21,10 +21,10 @@ use Rattle.file_runs.proofs.Ones.{are_one, others_keep, one_taken, one_idle, one
 use Rattle.file_runs.proofs.driving.drive_resume.Goals as goal
 
 pub go-came-requires-clause-is_open : goal.go-came-requires-clause-is_open
-go-came-requires-clause-is_open g c = subst (λ os. All (IsOpen (sight_at sight c.args.ports.now.log.logs.items c.home-ports.result).header
+go-came-requires-clause-is_open g c = subst (λ os. All (IsLaneOpen (sight_at sight c.args.ports.now.log.logs.items c.home-ports.result).header
     (λ l. (slot (sight_at sight c.args.ports.now.log.logs.items c.home-ports.result).seen l).phase)
     (λ l. txs_of (sight_at sight c.args.ports.now.log.logs.items c.home-ports.result).seen (open_batch (sight_at sight c.args.ports.now.log.logs.items c.home-ports.result).seen l))) os) (sym (ap (λ (p : PlanOf). p.lanes) c.requires.plan))
-    (All-cons (IsOpen (sight_at sight c.args.ports.now.log.logs.items c.home-ports.result).header
+    (All-cons (IsLaneOpen (sight_at sight c.args.ports.now.log.logs.items c.home-ports.result).header
     (λ l. (slot (sight_at sight c.args.ports.now.log.logs.items c.home-ports.result).seen l).phase)
     (λ l. txs_of (sight_at sight c.args.ports.now.log.logs.items c.home-ports.result).seen (open_batch (sight_at sight c.args.ports.now.log.logs.items c.home-ports.result).seen l))) c.args.unfinished.now []
     (open_at c.args.header.now c.args.ports.now.log.logs.items c.args.ports.now.shards.nodes.items c.args.lane c.home-ports.result c.args.unfinished.now c.requires.ledger c.requires.lane c.home-ports.ensures.place c.requires.told)
@@ -44,23 +44,23 @@ returns-clause-step g c = is_step g.D.Disk c.args.header.now c.args.lane c.home-
 
 -- it was taken up, as a list of one
 pub returns-clause-taken : goal.returns-clause-taken
-returns-clause-taken g c = at_home (λ x y. OnOk c.one_of.result (IsUnfinished c.args.unfinished.now.phase c.args.header.now.shape c.args.unfinished.now x (λ n. sight_at sight c.args.ports.now.shards.nodes.items n) → IsTakenUp c.args.header.now.shape true c.args.unfinished.now.batch x (λ n. sight_at sight c.args.ports.now.shards.nodes.items n) y (λ n. sight_at sight c.go-came.new.ports.shards.nodes.items n)))
+returns-clause-taken g c = at_home (λ x y. OnOk c.one_of.result (IsBatchUnfinished c.args.unfinished.now.phase c.args.header.now.shape c.args.unfinished.now x (λ n. sight_at sight c.args.ports.now.shards.nodes.items n) → IsTakenUp c.args.header.now.shape true c.args.unfinished.now.batch x (λ n. sight_at sight c.args.ports.now.shards.nodes.items n) y (λ n. sight_at sight c.go-came.new.ports.shards.nodes.items n)))
     (λ n. sight_at sight c.args.ports.now.log.logs.items n) (λ n. sight_at sight c.go-came.new.ports.log.logs.items n) c.home-ports.result c.go-came.new.ports.log.at (home_of c.args.header.now.shape c.args.lane) c.home-ports.ensures.place c.go-came.ensures.keeps_log.at_same
-    (given_ok c.one_of.result (IsOneTaken c.args.header.now.shape true c.args.unfinished.now (sight_at sight c.args.ports.now.log.logs.items c.home-ports.result) (λ n. sight_at sight c.args.ports.now.shards.nodes.items n) (sight_at sight c.go-came.new.ports.log.logs.items c.go-came.new.ports.log.at) (λ n. sight_at sight c.go-came.new.ports.shards.nodes.items n)) (IsUnfinished c.args.unfinished.now.phase c.args.header.now.shape c.args.unfinished.now (sight_at sight c.args.ports.now.log.logs.items c.home-ports.result) (λ n. sight_at sight c.args.ports.now.shards.nodes.items n))
+    (given_ok c.one_of.result (IsOneTaken c.args.header.now.shape true c.args.unfinished.now (sight_at sight c.args.ports.now.log.logs.items c.home-ports.result) (λ n. sight_at sight c.args.ports.now.shards.nodes.items n) (sight_at sight c.go-came.new.ports.log.logs.items c.go-came.new.ports.log.at) (λ n. sight_at sight c.go-came.new.ports.shards.nodes.items n)) (IsBatchUnfinished c.args.unfinished.now.phase c.args.header.now.shape c.args.unfinished.now (sight_at sight c.args.ports.now.log.logs.items c.home-ports.result) (λ n. sight_at sight c.args.ports.now.shards.nodes.items n))
     (IsTakenUp c.args.header.now.shape true c.args.unfinished.now.batch (sight_at sight c.args.ports.now.log.logs.items c.home-ports.result) (λ n. sight_at sight c.args.ports.now.shards.nodes.items n) (sight_at sight c.go-came.new.ports.log.logs.items c.go-came.new.ports.log.at) (λ n. sight_at sight c.go-came.new.ports.shards.nodes.items n))
     (one_taken c.args.header.now.shape true c.args.unfinished.now (sight_at sight c.args.ports.now.log.logs.items c.home-ports.result) (sight_at sight c.go-came.new.ports.log.logs.items c.go-came.new.ports.log.at) (λ n. sight_at sight c.args.ports.now.shards.nodes.items n) (λ n. sight_at sight c.go-came.new.ports.shards.nodes.items n) c.go-came.result c.one_of.result c.one_of.ensures
     (subst (λ (p : PlanOf). IfOk c.go-came.result (λ r. AreTakenUp p.shape true p.lanes r.batches (sight_at sight c.args.ports.now.log.logs.items c.home-ports.result) (λ n. sight_at sight c.args.ports.now.shards.nodes.items n) (sight_at sight c.go-came.new.ports.log.logs.items c.go-came.new.ports.log.at) (λ n. sight_at sight c.go-came.new.ports.shards.nodes.items n))) c.requires.plan c.go-came.ensures.taken)) (λ r is. is.taken))
 
 pub returns-clause-resumed : goal.returns-clause-resumed
 returns-clause-resumed g c =
-    each_ok c.one_of.result (IsOneTaken c.args.header.now.shape true c.args.unfinished.now (sight_at sight c.args.ports.now.log.logs.items c.home-ports.result) (λ n. sight_at sight c.args.ports.now.shards.nodes.items n) (sight_at sight c.go-came.new.ports.log.logs.items c.go-came.new.ports.log.at) (λ n. sight_at sight c.go-came.new.ports.shards.nodes.items n)) (IsResumed c.args.unfinished.now)
+    each_ok c.one_of.result (IsOneTaken c.args.header.now.shape true c.args.unfinished.now (sight_at sight c.args.ports.now.log.logs.items c.home-ports.result) (λ n. sight_at sight c.args.ports.now.shards.nodes.items n) (sight_at sight c.go-came.new.ports.log.logs.items c.go-came.new.ports.log.at) (λ n. sight_at sight c.go-came.new.ports.shards.nodes.items n)) (IsBatchResumed c.args.unfinished.now)
     (one_taken c.args.header.now.shape true c.args.unfinished.now (sight_at sight c.args.ports.now.log.logs.items c.home-ports.result) (sight_at sight c.go-came.new.ports.log.logs.items c.go-came.new.ports.log.at) (λ n. sight_at sight c.args.ports.now.shards.nodes.items n) (λ n. sight_at sight c.go-came.new.ports.shards.nodes.items n) c.go-came.result c.one_of.result c.one_of.ensures
     (subst (λ (p : PlanOf). IfOk c.go-came.result (λ r. AreTakenUp p.shape true p.lanes r.batches (sight_at sight c.args.ports.now.log.logs.items c.home-ports.result) (λ n. sight_at sight c.args.ports.now.shards.nodes.items n) (sight_at sight c.go-came.new.ports.log.logs.items c.go-came.new.ports.log.at) (λ n. sight_at sight c.go-came.new.ports.shards.nodes.items n))) c.requires.plan c.go-came.ensures.taken)) (λ r is. is.resumed)
 
 pub returns-clause-outcomes : goal.returns-clause-outcomes
-returns-clause-outcomes g c = at_home (λ x y. IfOk c.one_of.result (λ r. IsUnfinished c.args.unfinished.now.phase c.args.header.now.shape c.args.unfinished.now x (λ n. sight_at sight c.args.ports.now.shards.nodes.items n) → HasItsOutcomes c.args.unfinished.now.phase c.args.unfinished.now y.seen r))
+returns-clause-outcomes g c = at_home (λ x y. IfOk c.one_of.result (λ r. IsBatchUnfinished c.args.unfinished.now.phase c.args.header.now.shape c.args.unfinished.now x (λ n. sight_at sight c.args.ports.now.shards.nodes.items n) → HasItsOutcomes c.args.unfinished.now.phase c.args.unfinished.now y.seen r))
     (λ n. sight_at sight c.args.ports.now.log.logs.items n) (λ n. sight_at sight c.go-came.new.ports.log.logs.items n) c.home-ports.result c.go-came.new.ports.log.at (home_of c.args.header.now.shape c.args.lane) c.home-ports.ensures.place c.go-came.ensures.keeps_log.at_same
-    (given_each c.one_of.result (IsOneTaken c.args.header.now.shape true c.args.unfinished.now (sight_at sight c.args.ports.now.log.logs.items c.home-ports.result) (λ n. sight_at sight c.args.ports.now.shards.nodes.items n) (sight_at sight c.go-came.new.ports.log.logs.items c.go-came.new.ports.log.at) (λ n. sight_at sight c.go-came.new.ports.shards.nodes.items n)) (λ r. HasItsOutcomes c.args.unfinished.now.phase c.args.unfinished.now (sight_at sight c.go-came.new.ports.log.logs.items c.go-came.new.ports.log.at).seen r) (IsUnfinished c.args.unfinished.now.phase c.args.header.now.shape c.args.unfinished.now (sight_at sight c.args.ports.now.log.logs.items c.home-ports.result) (λ n. sight_at sight c.args.ports.now.shards.nodes.items n))
+    (given_each c.one_of.result (IsOneTaken c.args.header.now.shape true c.args.unfinished.now (sight_at sight c.args.ports.now.log.logs.items c.home-ports.result) (λ n. sight_at sight c.args.ports.now.shards.nodes.items n) (sight_at sight c.go-came.new.ports.log.logs.items c.go-came.new.ports.log.at) (λ n. sight_at sight c.go-came.new.ports.shards.nodes.items n)) (λ r. HasItsOutcomes c.args.unfinished.now.phase c.args.unfinished.now (sight_at sight c.go-came.new.ports.log.logs.items c.go-came.new.ports.log.at).seen r) (IsBatchUnfinished c.args.unfinished.now.phase c.args.header.now.shape c.args.unfinished.now (sight_at sight c.args.ports.now.log.logs.items c.home-ports.result) (λ n. sight_at sight c.args.ports.now.shards.nodes.items n))
     (one_taken c.args.header.now.shape true c.args.unfinished.now (sight_at sight c.args.ports.now.log.logs.items c.home-ports.result) (sight_at sight c.go-came.new.ports.log.logs.items c.go-came.new.ports.log.at) (λ n. sight_at sight c.args.ports.now.shards.nodes.items n) (λ n. sight_at sight c.go-came.new.ports.shards.nodes.items n) c.go-came.result c.one_of.result c.one_of.ensures
     (subst (λ (p : PlanOf). IfOk c.go-came.result (λ r. AreTakenUp p.shape true p.lanes r.batches (sight_at sight c.args.ports.now.log.logs.items c.home-ports.result) (λ n. sight_at sight c.args.ports.now.shards.nodes.items n) (sight_at sight c.go-came.new.ports.log.logs.items c.go-came.new.ports.log.at) (λ n. sight_at sight c.go-came.new.ports.shards.nodes.items n))) c.requires.plan c.go-came.ensures.taken)) (λ r is. is.outcomes))
 
@@ -83,9 +83,9 @@ returns-clause-idle g c = subst (λ L. OnOk c.one_of.result ((slot L c.args.lane
 pub go-came-requires-clause-stand : goal.go-came-requires-clause-stand
 go-came-requires-clause-stand g c =
     subst (λ (p : PlanOf). AreUnfinished p.shape p.lanes (sight_at sight c.args.ports.now.log.logs.items c.home-ports.result) (λ n. sight_at sight c.args.ports.now.shards.nodes.items n)) (sym c.requires.plan)
-    (All-cons (λ x. IsUnfinished x.phase c.args.header.now.shape x (sight_at sight c.args.ports.now.log.logs.items c.home-ports.result) (λ n. sight_at sight c.args.ports.now.shards.nodes.items n)) c.args.unfinished.now []
+    (All-cons (λ x. IsBatchUnfinished x.phase c.args.header.now.shape x (sight_at sight c.args.ports.now.log.logs.items c.home-ports.result) (λ n. sight_at sight c.args.ports.now.shards.nodes.items n)) c.args.unfinished.now []
     (is_unfinished g.D.Disk c.args.header.now c.args.lane c.args.ports.now.log.logs.items c.args.ports.now.shards.nodes.items c.requires.ledger c.requires.lane c.args.unfinished.now c.requires.told c.requires.checked c.home-ports.result c.home-ports.ensures.place)
-    (All-nil (λ x. IsUnfinished x.phase c.args.header.now.shape x (sight_at sight c.args.ports.now.log.logs.items c.home-ports.result) (λ n. sight_at sight c.args.ports.now.shards.nodes.items n))))
+    (All-nil (λ x. IsBatchUnfinished x.phase c.args.header.now.shape x (sight_at sight c.args.ports.now.log.logs.items c.home-ports.result) (λ n. sight_at sight c.args.ports.now.shards.nodes.items n))))
 
 pub go-came-requires-clause-alone : goal.go-came-requires-clause-alone
 go-came-requires-clause-alone g c more = absurd (omega (arith, more, ap (λ (p : PlanOf). length p.lanes) c.requires.plan))

@@ -2,7 +2,7 @@ use Rattle.std.proofs.Common.{◌≡◌, ◌<◌, ◌∙◌, ◌+◌, [], sym, a
 use Rattle.std.specs.Prelude.{OnOk, IfOk}
 use Rattle.cbdc_model.specs.Ranges.{home_of}
 use Rattle.cbdc_model.specs.Slots.{Idle}
-use Rattle.recovery.specs.Open.{IsResumed, AreResumed, IsUnfinished, CameOf}
+use Rattle.recovery.specs.Open.{IsBatchResumed, AreResumed, IsBatchUnfinished, ResumeCameOf}
 use Rattle.lane_driver.proofs.Fitting.{ledger_kept}
 use Rattle.lane_driver.proofs.Keeping.{log_on, shards_on}
 use Rattle.recovery.proofs.Rooming.{room_here, rooms_less}
@@ -35,9 +35,9 @@ loop-unfinished-preserved g c =
     let at' = g.L.LogPort.at c.resume_lane-came.new.ports.log in
     let I = g.S.PortSet.sights c.loop-unfinished.ports.shards in
     let J = g.S.PortSet.sights c.resume_lane-came.new.ports.shards in
-    let stands : IsUnfinished o.phase K o (logs at) I = stands_here K (logs at) I c.args.lanes.now i o inside c.unfinished-item.is inv.stand in
+    let stands : IsBatchUnfinished o.phase K o (logs at) I = stands_here K (logs at) I c.args.lanes.now i o inside c.unfinished-item.is inv.stand in
     let home : home_of K o.batch.lane < K.coordinators = home_there K o (logs at) I o.phase stands in
-    let one : CameOf K alone o came (logs at) I (logs' at') J = came_of K alone o came (logs at) (logs' at') I J stands told.taken told.resumed told.outcomes told.left told.told told.want in
+    let one : ResumeCameOf K alone o came (logs at) I (logs' at') J = came_of K alone o came (logs at) (logs' at') I J stands told.taken told.resumed told.outcomes told.left told.told told.want in
     let made : Made K [] alone o.batch.lane (view K o.batch.lane (logs at) I) (view K o.batch.lane (logs' at') J) = made_by K alone o came (logs at) (logs' at') I J one in
     let kept = c.keep-first.ensures.kept in
     let before = c.loop-unfinished.batches.items in
@@ -53,7 +53,7 @@ loop-unfinished-preserved g c =
       resumed = λ none.
           let k = kept_none before after c.loop-unfinished.first c.keep-first.result came kept none in
           subst (λ batches. AreResumed (take (i + 1) c.args.lanes.now) batches) (sym k.3)
-          (resumed_more c.args.lanes.now before i o k.1 inside c.unfinished-item.is (inv.resumed k.0) (subst (λ x. IfOk x (IsResumed o)) k.2 told.resumed));
+          (resumed_more c.args.lanes.now before i o k.1 inside c.unfinished-item.is (inv.resumed k.0) (subst (λ x. IfOk x (IsBatchResumed o)) k.2 told.resumed));
       came = came_more c.args.lanes.now i o inside c.unfinished-item.is K alone before after c.loop-unfinished.first c.keep-first.result came
           (g.L.LogPort.sights c.args.ports.now.log (g.L.LogPort.at c.args.ports.now.log)) (logs at) (logs' at') (g.S.PortSet.sights c.args.ports.now.shards) I J inv.came one kept;
       caused = caused_more K before after c.loop-unfinished.first c.keep-first.result came logs logs' I J

@@ -1,6 +1,6 @@
 use Rattle.std.proofs.Common.{ℕ, sym, subst}
 use Rattle.lane_driver.specs.Readied.{ReadyOf}
-use Rattle.lane_driver.specs.Stops.{IsBatchStoppedAt, IsSettled}
+use Rattle.lane_driver.specs.Stops.{IsBatchStoppedAt, IsLaneSettled}
 use Rattle.lane_driver.specs.Causes.{IsCausedFault}
 use Rattle.lane_driver.specs.Wanting.{IsBatchWant}
 use Rattle.lane_driver.proofs.Batching.{at_granted, at_stops}
@@ -9,7 +9,7 @@ use Rattle.lane_driver.proofs.made_ready.Ready.go.Goals as goal
 
 pub lane_fault-requires : goal.lane_fault-requires
 lane_fault-requires g c =
-    let settled = subst (λ (r : ReadyOf). IsSettled r.shape r.lane (g.L.LogPort.sights c.args.ports.now.log (g.L.LogPort.at c.args.ports.now.log)) (g.S.PortSet.sights c.args.ports.now.shards)) (sym c.self.view_is) c.requires.settled in
+    let settled = subst (λ (r : ReadyOf). IsLaneSettled r.shape r.lane (g.L.LogPort.sights c.args.ports.now.log (g.L.LogPort.at c.args.ports.now.log)) (g.S.PortSet.sights c.args.ports.now.shards)) (sym c.self.view_is) c.requires.settled in
     at_granted c.self.inside.shape g.L.LogPort.alone c.self.inside.lane c.self.inside.txs.now (g.L.LogPort.sights c.args.ports.now.log (g.L.LogPort.at c.args.ports.now.log)) (g.L.LogPort.sights c.drive_batch.new.ports.log (g.L.LogPort.at c.drive_batch.new.ports.log)) (g.S.PortSet.sights c.args.ports.now.shards) (g.S.PortSet.sights c.drive_batch.new.ports.shards) c.in-Err.stop c.in-Err.ensures.stopped settled.0 settled.1
 
 pub returns-in-Err-clause-stopped : goal.returns-in-Err-clause-stopped
