@@ -21,7 +21,7 @@ use Rattle.lane_laws.proofs.Dues.{ok, err, lock_unbroken, late_unbroken, stamp_u
 use Rattle.lane_laws.proofs.Tellings.{Stopped, told_err}
 use Rattle.lane_laws.proofs.ByShard.{every_any, first_at}
 use Rattle.lane_driver.specs.declared.fault.Stop.{Stop}
-use Rattle.lane_driver.specs.Stops.{IsStopOf, IsStoppedAt}
+use Rattle.lane_driver.specs.Stops.{IsStoppedAt}
 use Rattle.lane_driver.specs.Causes.{DiskHasNoRoom, IsCause, IsLogCause, IsDecideCause, IsShardCause, IsCausedStop}
 use Rattle.lane_driver.specs.Told.{AreShards}
 use Rattle.lane_driver.proofs.Phasing.{fault_inside}
@@ -240,7 +240,7 @@ home_inside : (K : Shape) (lane : ℕ) → lane < K.coordinators * K.lanes → h
 home_inside K lane lt = (row-Below lane K.lanes K.lanes K.coordinators (grind (arith, lt)) (omega arith)).1
 
 -- a call that its coordinator did not do
-pub log_fault : (K : Shape) (lane at : ℕ) (logs shards : ℕ → Sight) (f : NodeFault) (e : Stop) → lane < K.coordinators * K.lanes → at ≡ home_of K lane → IsStopOf e (home_of K lane) f
-    → IsLogCause f (logs at) → IsCausedStop K logs shards e.node e.fault
-log_fault K lane at logs shards f e lt home is cause =
-    subst (λ x. IsCausedStop K logs shards x.node x.fault) (sym is) (inr (inl (home_inside K lane lt, subst (λ n. IsLogCause f (logs n)) home cause)))
+pub log_fault : (K : Shape) (lane at : ℕ) (logs shards : ℕ → Sight) (node : ℕ) (f : NodeFault) → lane < K.coordinators * K.lanes → at ≡ home_of K lane → node ≡ home_of K lane
+    → IsLogCause f (logs at) → IsCausedStop K logs shards node f
+log_fault K lane at logs shards node f lt home is cause =
+    subst (λ n. IsCausedStop K logs shards n f) (sym is) (inr (inl (home_inside K lane lt, subst (λ n. IsLogCause f (logs n)) home cause)))

@@ -14,6 +14,7 @@ use Rattle.lane_driver.specs.Stops.{IsLaneSettled, IsLaneStopped}
 use Rattle.lane_driver.specs.Reports.{IsReported, AreDone}
 use Rattle.lane_driver.specs.declared.fault.LaneFault.{LaneFault}
 use Rattle.lane_driver.specs.declared.fault.LaneReport.{LaneReport}
+use Rattle.lane_driver.proofs.Outcomes.{lane_so, lane_left}
 use Rattle.ledger_runs.specs.Lanes.{LaneOf}
 use Rattle.node_lock.specs.declared.views.Hand.{Hand}
 use Rattle.node_lock.specs.declared.lock.Guarded.{Guarded}
@@ -31,7 +32,7 @@ use Rattle.port_sets.proofs.Seating.{seen_here}
 use Rattle.thread_laws.specs.Closing.{IsHand}
 use Rattle.thread_laws.specs.Running.{LaneRan}
 use Rattle.thread_laws.specs.Whole.{LaneHasEnded}
-use Rattle.lane_waves.specs.Held.{TakeCallsOf, RunBegins, RunEnds, HasRun, log_of, logs_of, shards_of}
+use Rattle.lane_waves.specs.Held.{TakeCallsOf, RunBegins, RunEnds, HasRun, log_of, logs_of, shards_of, sights_of}
 use Rattle.lane_waves.specs.Ports.{seats_of}
 use Rattle.lane_waves.specs.declared.runs.LaneRun.{LaneRun}
 use Rattle.lane_waves.proofs.Returning.{all_home}
@@ -104,9 +105,10 @@ module _ {W D S B X : Type 0} {G : Ghosts B} (sight : S → Sight) (tables : ℕ
         e.txs,
         inl (
           record {
-            so = subst (λ n. LaneSo K false n y.txs [] log shards log' shards') l (subst (λ ts. LaneSo K false r.lane ts [] log shards log' shards') txs (k.done settled.0 settled.1));
+            so = subst (λ n. LaneSo K false n y.txs [] log shards log' shards') l (subst (λ ts. LaneSo K false r.lane ts [] log shards log' shards') txs
+                (lane_so K false r.lane settled.0 r.work.txs log shards settled.1 (reverse report.batches) [] log' shards' k.outcome));
             batches = report.batches;
-            done = subst (λ n. AreDone K false n y.txs log shards (reverse report.batches) [] log' shards') l (subst (λ ts. AreDone K false r.lane ts log shards (reverse report.batches) [] log' shards') txs (k.batches settled.0 settled.1));
+            done = subst (λ n. AreDone K false n y.txs log shards (reverse report.batches) [] log' shards') l (subst (λ ts. AreDone K false r.lane ts log shards (reverse report.batches) [] log' shards') txs k.outcome);
             reported = subst (λ n. IsReported n K.batch y.txs [] report.batches) l (subst (λ ts. IsReported r.lane K.batch ts [] report.batches) txs k.named);
           },
           (none, λ a b. (e.kept, e.count)),
@@ -122,7 +124,8 @@ module _ {W D S B X : Type 0} {G : Ghosts B} (sight : S → Sight) (tables : ℕ
         e.0,
         inr (
           fault,
-          subst (λ n. IsLaneStopped K false n y.txs log shards log' shards' fault) l (subst (λ ts. IsLaneStopped K false r.lane ts log shards log' shards' fault) txs k.stopped),
+          subst (λ n. IsLaneStopped K false n y.txs log shards log' shards' fault) l (subst (λ ts. IsLaneStopped K false r.lane ts log shards log' shards' fault) txs
+              (lane_left K false r.lane r.work.txs r.work.repeats (sights_of sight tables K r) (sights_of sight tables K q) fault k.outcome)),
           ((λ none. let z : None ≡ Some fault = sym none ∙ is in cc), λ z. is),
         ),
       )

@@ -6,10 +6,7 @@ use Rattle.cbdc_types.specs.declared.batch.OpenLane.{OpenLane}
 use Rattle.cbdc_model.specs.Records.{Header, Compact}
 use Rattle.cbdc_model.specs.Slots.{Phase}
 use Rattle.lane_driver.specs.Told.{KeepsOtherLanes}
-use Rattle.std.proofs.lemmas.List.{take_more}
-use Rattle.std.proofs.lemmas.Slice.Zip.{all_zipped_more}
-use Rattle.recovery.specs.declared.resumed.ResumedBatch.{ResumedBatch}
-use Rattle.recovery.specs.Open.{IsLaneOpen, LanesAbove, LanesRise, IsBatchResumed, AreResumed}
+use Rattle.recovery.specs.Open.{IsLaneOpen, LanesAbove, LanesRise}
 
 pub still_open : (h k : Header) (n : ℕ) (p q : ℕ → Phase) (t u : ℕ → List Compact) (o : OpenLane) → k ≡ h → KeepsOtherLanes h n p q t u → n < o.batch.lane → IsLaneOpen h p t o → IsLaneOpen k q u o
 still_open h k n p q t u o e keeps lt is =
@@ -64,9 +61,3 @@ open_rest h k p q t u os i o lt e rise all same keeps = rest (drop (i + 1) os) r
     rest : (xs : List OpenLane) → drop (i + 1) os ≡ xs → All (IsLaneOpen k q u) (drop (i + 1) os)
     rest [] d = let P : List OpenLane → Type 0 = λ ys. All (IsLaneOpen k q u) ys in subst P (sym d) (All-nil (IsLaneOpen k q u))
     rest (x ∷ xs) d = all_still_open h k o.batch.lane p q t u (drop (i + 1) os) same (keeps (more_behind os i x xs d)) (subst LanesRise split rise).0 here
-
-pub resumed_more : (os : List OpenLane) (rs : List ResumedBatch) (i : ℕ) (o : OpenLane) (r : ResumedBatch) → i < length os → o ≡ get_or os i o
-    → AreResumed (take i os) rs → IsBatchResumed o r → AreResumed (take (i + 1) os) (rs ++ r ∷ [])
-resumed_more os rs i o r lt e so is =
-    subst (λ xs. AreResumed xs (rs ++ r ∷ [])) (sym (take_more os i o lt))
-    (all_zipped_more IsBatchResumed (take i os) rs (get_or os i o) r so (subst (λ x. IsBatchResumed x r) e is))
