@@ -1,5 +1,5 @@
 -- What comes of a list of one lane is what comes of the lane.
-use Rattle.std.proofs.Common.{◌≡◌, ◌≢◌, ℕ, Bool, List, [], ◌∷◌, ◌++◌, length, get_or, Result, Ok, Err, IfOk, IfErr, OnOk, refl, sym, ap, subst, arith}
+use Rattle.std.proofs.Common.{◌≡◌, ◌≢◌, ℕ, Bool, true, List, [], ◌∷◌, ◌++◌, length, get_or, Result, Ok, Err, IfOk, OnOk, refl, sym, ap, subst, arith}
 use Rattle.std.specs.List.{All}
 use Rattle.std.proofs.lemmas.List.{length-append}
 use Rattle.std.proofs.lemmas.List.Elements.{All-nil, All-cons, All-head}
@@ -14,7 +14,7 @@ use Rattle.recovery.specs.declared.resumed.ResumedBatch.{ResumedBatch}
 use Rattle.recovery.specs.Open.{KeepsUnlisted, AreResumed, IsResumeStopped, IsOneTaken, AreTakenUp, AreTried, IsStoppedAmong, OpenLanesCame}
 use Rattle.recovery.proofs.InOrder.{taken_resumed}
 use Rattle.recovery.proofs.Taking.{resume_left}
-use Rattle.file_runs.specs.Ones.{IsOneOf}
+use Rattle.file_runs.specs.Ones.{IsOneOf, ResumeLeft}
 
 one_batch : (o : OpenLane) (rs : List ResumedBatch) → AreResumed (o ∷ []) rs → (b : ResumedBatch) × (rs ≡ b ∷ [])
 one_batch o [] resumed = absurd resumed
@@ -32,13 +32,6 @@ others_keep h o p q t u keeps lane inside apart = keeps lane inside (All-cons (�
 -- the one of a chain of one
 taken_one : (K : Shape) (alone : Bool) (o : OpenLane) (b : ResumedBatch) (old new : LaneSights) → AreTakenUp K alone (o ∷ []) (b ∷ []) old new → IsOneTaken K alone o old.home old.shards new.home new.shards b
 taken_one K alone o b old new (between, is, same) = subst (λ (x : LaneSights). IsOneTaken K alone o old.home old.shards x.home x.shards b) (sym same) is
-
-pub one_taken : (K : Shape) (alone : Bool) (o : OpenLane) (old new : LaneSights) (came : Result Resumed LaneFault) (one : Result ResumedBatch LaneFault) → IsOneOf came one
-    → OpenLanesCame K alone (o ∷ []) came old new → IfOk one (IsOneTaken K alone o old.home old.shards new.home new.shards)
-one_taken K alone o old new (Ok r) (Ok b) is taken = taken_one K alone o b old new (subst (λ bs. AreTakenUp K alone (o ∷ []) bs old new) is taken)
-one_taken K alone o old new (Ok r) (Err f) is taken = absurd is
-one_taken K alone o old new (Err e) (Ok b) is stop = absurd is
-one_taken K alone o old new (Err e) (Err f) is stop = tt
 
 pub one_idle : (phase : ℕ → Phase) (o : OpenLane) (came : Result Resumed LaneFault) (one : Result ResumedBatch LaneFault) → IsOneOf came one → OnOk came (All (λ x. phase x.batch.lane ≡ Idle) (o ∷ [])) → OnOk one (phase o.batch.lane ≡ Idle)
 one_idle phase o (Ok r) (Ok b) is idle = All-head (λ x. phase x.batch.lane ≡ Idle) o [] idle
@@ -67,22 +60,9 @@ stopped_one K alone o old new e among = go among.before among.batches among.behi
     go [] (b ∷ bs) behind came is taken tried = absurd taken
     go (p ∷ ps) bs behind came is taken tried = absurd (omega (arith, ap length is, length-append ps (among.stopped_at ∷ behind)))
 
-pub one_left : (K : Shape) (alone : Bool) (o : OpenLane) (old new : LaneSights) (came : Result Resumed LaneFault) (one : Result ResumedBatch LaneFault) → IsOneOf came one
-    → OpenLanesCame K alone (o ∷ []) came old new → IfErr one (IsResumeStopped K alone o old.home old.shards new.home new.shards)
-one_left K alone o old new (Ok r) (Ok b) is taken = tt
-one_left K alone o old new (Ok r) (Err f) is taken = absurd is
-one_left K alone o old new (Err e) (Ok b) is stop = absurd is
-one_left K alone o old new (Err e) (Err f) is stop = subst (IsResumeStopped K alone o old.home old.shards new.home new.shards) (sym is) (stopped_one K alone o old new e stop)
-
--- what holds anyhow holds on a condition
-pub given_ok : {A E : Type 0} (r : Result A E) (P : A → Type 0) (Q R : Type 0) → IfOk r P → ((a : A) → P a → R) → OnOk r (Q → R)
-given_ok (Ok a) P Q R is so = λ q. so a is
-given_ok (Err e) P Q R is so = tt
-
-pub given_each : {A E : Type 0} (r : Result A E) (P R : A → Type 0) (Q : Type 0) → IfOk r P → ((a : A) → P a → R a) → IfOk r (λ a. Q → R a)
-given_each (Ok a) P R Q is so = λ q. so a is
-given_each (Err e) P R Q is so = tt
-
-pub each_ok : {A E : Type 0} (r : Result A E) (P R : A → Type 0) → IfOk r P → ((a : A) → P a → R a) → IfOk r R
-each_ok (Ok a) P R is so = so a is
-each_ok (Err e) P R is so = tt
+pub one_came : (K : Shape) (o : OpenLane) (old new : LaneSights) (came : Result Resumed LaneFault) (one : Result ResumedBatch LaneFault) → IsOneOf came one
+    → OpenLanesCame K true (o ∷ []) came old new → ResumeLeft K o one old.home old.shards new.home new.shards
+one_came K o old new (Ok r) (Ok b) is taken = taken_one K true o b old new (subst (λ bs. AreTakenUp K true (o ∷ []) bs old new) is taken)
+one_came K o old new (Ok r) (Err f) is taken = absurd is
+one_came K o old new (Err e) (Ok b) is stop = absurd is
+one_came K o old new (Err e) (Err f) is stop = subst (IsResumeStopped K true o old.home old.shards new.home new.shards) (sym is) (stopped_one K true o old new e stop)

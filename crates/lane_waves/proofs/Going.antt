@@ -1,4 +1,4 @@
--- What came of a lane, from what its driver tells.
+-- The result of a lane's run, from what its driver tells.
 use Rattle.std.proofs.Common.{◌≡◌, ℕ, false, List, [], Some, Result, subst}
 use Rattle.std.specs.Prelude.{IfOk, OnOk}
 use Rattle.cbdc_model.specs.Records.{Shape, Compact}

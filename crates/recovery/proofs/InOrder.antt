@@ -1,5 +1,5 @@
 -- Lanes that are resumed one behind the other.
-use Rattle.std.proofs.Common.{◌≡◌, ◌≢◌, inr, ℕ, suc, ◌+◌, ◌<◌, Bool, List, [], ◌∷◌, ◌++◌, length, get_or, take, drop, refl, sym, ap, ◌∙◌, subst, append_assoc, arith, Some, None}
+use Rattle.std.proofs.Common.{◌≡◌, ◌≢◌, inl, inr, ℕ, suc, ◌+◌, ◌<◌, Bool, List, [], ◌∷◌, ◌++◌, length, get_or, take, drop, refl, sym, ap, ◌∙◌, subst, append_assoc, arith, Some, None}
 use Rattle.std.specs.Prelude.{Contains, Option, Result, Ok, Err}
 use Rattle.std.specs.List.{All}
 use Rattle.std.proofs.lemmas.List.{take_more}
@@ -15,6 +15,7 @@ use Rattle.lane_driver.specs.declared.fault.LaneFault.{LaneFault}
 use Rattle.lane_driver.specs.declared.fault.LaneFaultKind.TheVariants.{Memory as NoMemory}
 use Rattle.recovery.specs.Open.{IsLaneOpen, LanesAbove, LanesRise, KeepsUnlisted, AreResumed, HasPreparedLane, IsOneTaken, AreTakenUp, ResumeCameOf, AreTried, HasGoneOn, IsStoppedAmong, OpenLanesCame, ResumingCame, WasCaused, KeepsResumed}
 use Rattle.recovery.proofs.Rest.{split_rest, open_here, more_before}
+use Rattle.lane_driver.proofs.Outcomes.{driver_caused}
 use Rattle.recovery.proofs.Taking.{resume_caused, resume_want}
 use Rattle.recovery.proofs.Onward.{gone_same, gone_on}
 
@@ -121,6 +122,17 @@ module _ (K : Shape) (alone : Bool) (os : List OpenLane) (old new : LaneSights) 
     shards_on = among.shards_on;
     cause = resume_caused K alone among.stopped_at among.there among.since e among.stopped;
   }
+
+-- so had the fault of open batches that were not begun because the driver ran out of memory
+pub resuming_caused : (K : Shape) (alone : Bool) (os : List OpenLane) (old new : LaneSights) (e : LaneFault) → ResumingCame K alone os (Err e) old new → WasCaused K new.logs new.shards e
+resuming_caused K alone os old new e (inl none) = record {
+  logs_then = new.logs;
+  shards_then = new.shards;
+  logs_on = λ n. gone_same (new.logs n);
+  shards_on = λ n. gone_same (new.shards n);
+  cause = driver_caused K new.logs new.shards e none.0;
+}
+resuming_caused K alone os old new e (inr among) = among_caused K alone os old new e among
 
 -- ---- the lanes so far are idle, and below those that are left
 

@@ -11,13 +11,13 @@ use Rattle.cbdc_model.specs.Due.{open_batch}
 use Rattle.node_journal.specs.Nodes.{sight}
 use Rattle.node_ports.specs.Nodes.{sight_at}
 use Rattle.run_laws.proofs.Seen.{seen_log}
-use Rattle.lane_laws.specs.Resuming.{IsTakenUp}
-use Rattle.recovery.specs.Open.{IsLaneOpen, LanesRise, KeepsUnlisted, IsBatchResumed, IsBatchUnfinished, AreUnfinished, HasItsOutcomes, IsResumeStopped, IsOneTaken, OpenLanesCame}
+use Rattle.recovery.specs.Open.{IsLaneOpen, LanesRise, KeepsUnlisted, IsBatchUnfinished, AreUnfinished, OpenLanesCame}
 use Rattle.thread_laws.proofs.OpenThere.{told_lane}
 use Rattle.file_runs.specs.Ledgers.{FliesNext}
 use Rattle.file_runs.proofs.Steps.{is_step, are_shards, at_home, open_at}
 use Rattle.file_runs.proofs.Turns.{is_unfinished}
-use Rattle.file_runs.proofs.Ones.{are_one, others_keep, one_taken, one_idle, one_left, given_ok, given_each, each_ok}
+use Rattle.file_runs.specs.Ones.{ResumeLeft}
+use Rattle.file_runs.proofs.Ones.{are_one, others_keep, one_idle, one_came}
 use Rattle.file_runs.proofs.driving.drive_resume.Goals as goal
 
 pub go-came-requires-clause-is_open : goal.go-came-requires-clause-is_open
@@ -43,31 +43,10 @@ returns-clause-step g c = is_step g.D.Disk c.args.header.now c.args.lane c.home-
     (subst (All FliesNext) c.as_slice.ensures.value c.see_logs.ensures.next) (subst (All FliesNext) c.as_slice-2.ensures.value c.see_shards.ensures.next)
 
 -- it was taken up, as a list of one
-pub returns-clause-taken : goal.returns-clause-taken
-returns-clause-taken g c = at_home (λ x y. OnOk c.one_of.result (IsBatchUnfinished c.args.unfinished.now.phase c.args.header.now.shape c.args.unfinished.now x (λ n. sight_at sight c.args.ports.now.shards.nodes.items n) → IsTakenUp c.args.header.now.shape true c.args.unfinished.now.batch x (λ n. sight_at sight c.args.ports.now.shards.nodes.items n) y (λ n. sight_at sight c.go-came.new.ports.shards.nodes.items n)))
+pub returns-clause-outcome : goal.returns-clause-outcome
+returns-clause-outcome g c = at_home (λ x y. ResumeLeft c.args.header.now.shape c.args.unfinished.now c.one_of.result x (λ n. sight_at sight c.args.ports.now.shards.nodes.items n) y (λ n. sight_at sight c.go-came.new.ports.shards.nodes.items n))
     (λ n. sight_at sight c.args.ports.now.log.logs.items n) (λ n. sight_at sight c.go-came.new.ports.log.logs.items n) c.home-ports.result c.go-came.new.ports.log.at (home_of c.args.header.now.shape c.args.lane) c.home-ports.ensures.place c.go-came.ensures.keeps.to_log.at_same
-    (given_ok c.one_of.result (IsOneTaken c.args.header.now.shape true c.args.unfinished.now (sight_at sight c.args.ports.now.log.logs.items c.home-ports.result) (λ n. sight_at sight c.args.ports.now.shards.nodes.items n) (sight_at sight c.go-came.new.ports.log.logs.items c.go-came.new.ports.log.at) (λ n. sight_at sight c.go-came.new.ports.shards.nodes.items n)) (IsBatchUnfinished c.args.unfinished.now.phase c.args.header.now.shape c.args.unfinished.now (sight_at sight c.args.ports.now.log.logs.items c.home-ports.result) (λ n. sight_at sight c.args.ports.now.shards.nodes.items n))
-    (IsTakenUp c.args.header.now.shape true c.args.unfinished.now.batch (sight_at sight c.args.ports.now.log.logs.items c.home-ports.result) (λ n. sight_at sight c.args.ports.now.shards.nodes.items n) (sight_at sight c.go-came.new.ports.log.logs.items c.go-came.new.ports.log.at) (λ n. sight_at sight c.go-came.new.ports.shards.nodes.items n))
-    (one_taken c.args.header.now.shape true c.args.unfinished.now (record { home = sight_at sight c.args.ports.now.log.logs.items c.home-ports.result; logs = λ n. sight_at sight c.args.ports.now.log.logs.items n; shards = λ n. sight_at sight c.args.ports.now.shards.nodes.items n }) (record { home = sight_at sight c.go-came.new.ports.log.logs.items c.go-came.new.ports.log.at; logs = λ n. sight_at sight c.go-came.new.ports.log.logs.items n; shards = λ n. sight_at sight c.go-came.new.ports.shards.nodes.items n }) c.go-came.result c.one_of.result c.one_of.ensures
-    (subst (λ (p : PlanOf). OpenLanesCame p.shape true p.lanes c.go-came.result (record { home = sight_at sight c.args.ports.now.log.logs.items c.home-ports.result; logs = λ n. sight_at sight c.args.ports.now.log.logs.items n; shards = λ n. sight_at sight c.args.ports.now.shards.nodes.items n }) (record { home = sight_at sight c.go-came.new.ports.log.logs.items c.go-came.new.ports.log.at; logs = λ n. sight_at sight c.go-came.new.ports.log.logs.items n; shards = λ n. sight_at sight c.go-came.new.ports.shards.nodes.items n })) c.requires.plan c.go-came.ensures.outcome)) (λ r is. is.taken))
-
-pub returns-clause-resumed : goal.returns-clause-resumed
-returns-clause-resumed g c =
-    each_ok c.one_of.result (IsOneTaken c.args.header.now.shape true c.args.unfinished.now (sight_at sight c.args.ports.now.log.logs.items c.home-ports.result) (λ n. sight_at sight c.args.ports.now.shards.nodes.items n) (sight_at sight c.go-came.new.ports.log.logs.items c.go-came.new.ports.log.at) (λ n. sight_at sight c.go-came.new.ports.shards.nodes.items n)) (IsBatchResumed c.args.unfinished.now)
-    (one_taken c.args.header.now.shape true c.args.unfinished.now (record { home = sight_at sight c.args.ports.now.log.logs.items c.home-ports.result; logs = λ n. sight_at sight c.args.ports.now.log.logs.items n; shards = λ n. sight_at sight c.args.ports.now.shards.nodes.items n }) (record { home = sight_at sight c.go-came.new.ports.log.logs.items c.go-came.new.ports.log.at; logs = λ n. sight_at sight c.go-came.new.ports.log.logs.items n; shards = λ n. sight_at sight c.go-came.new.ports.shards.nodes.items n }) c.go-came.result c.one_of.result c.one_of.ensures
-    (subst (λ (p : PlanOf). OpenLanesCame p.shape true p.lanes c.go-came.result (record { home = sight_at sight c.args.ports.now.log.logs.items c.home-ports.result; logs = λ n. sight_at sight c.args.ports.now.log.logs.items n; shards = λ n. sight_at sight c.args.ports.now.shards.nodes.items n }) (record { home = sight_at sight c.go-came.new.ports.log.logs.items c.go-came.new.ports.log.at; logs = λ n. sight_at sight c.go-came.new.ports.log.logs.items n; shards = λ n. sight_at sight c.go-came.new.ports.shards.nodes.items n })) c.requires.plan c.go-came.ensures.outcome)) (λ r is. is.resumed)
-
-pub returns-clause-outcomes : goal.returns-clause-outcomes
-returns-clause-outcomes g c = at_home (λ x y. IfOk c.one_of.result (λ r. IsBatchUnfinished c.args.unfinished.now.phase c.args.header.now.shape c.args.unfinished.now x (λ n. sight_at sight c.args.ports.now.shards.nodes.items n) → HasItsOutcomes c.args.unfinished.now.phase c.args.unfinished.now y.seen r))
-    (λ n. sight_at sight c.args.ports.now.log.logs.items n) (λ n. sight_at sight c.go-came.new.ports.log.logs.items n) c.home-ports.result c.go-came.new.ports.log.at (home_of c.args.header.now.shape c.args.lane) c.home-ports.ensures.place c.go-came.ensures.keeps.to_log.at_same
-    (given_each c.one_of.result (IsOneTaken c.args.header.now.shape true c.args.unfinished.now (sight_at sight c.args.ports.now.log.logs.items c.home-ports.result) (λ n. sight_at sight c.args.ports.now.shards.nodes.items n) (sight_at sight c.go-came.new.ports.log.logs.items c.go-came.new.ports.log.at) (λ n. sight_at sight c.go-came.new.ports.shards.nodes.items n)) (λ r. HasItsOutcomes c.args.unfinished.now.phase c.args.unfinished.now (sight_at sight c.go-came.new.ports.log.logs.items c.go-came.new.ports.log.at).seen r) (IsBatchUnfinished c.args.unfinished.now.phase c.args.header.now.shape c.args.unfinished.now (sight_at sight c.args.ports.now.log.logs.items c.home-ports.result) (λ n. sight_at sight c.args.ports.now.shards.nodes.items n))
-    (one_taken c.args.header.now.shape true c.args.unfinished.now (record { home = sight_at sight c.args.ports.now.log.logs.items c.home-ports.result; logs = λ n. sight_at sight c.args.ports.now.log.logs.items n; shards = λ n. sight_at sight c.args.ports.now.shards.nodes.items n }) (record { home = sight_at sight c.go-came.new.ports.log.logs.items c.go-came.new.ports.log.at; logs = λ n. sight_at sight c.go-came.new.ports.log.logs.items n; shards = λ n. sight_at sight c.go-came.new.ports.shards.nodes.items n }) c.go-came.result c.one_of.result c.one_of.ensures
-    (subst (λ (p : PlanOf). OpenLanesCame p.shape true p.lanes c.go-came.result (record { home = sight_at sight c.args.ports.now.log.logs.items c.home-ports.result; logs = λ n. sight_at sight c.args.ports.now.log.logs.items n; shards = λ n. sight_at sight c.args.ports.now.shards.nodes.items n }) (record { home = sight_at sight c.go-came.new.ports.log.logs.items c.go-came.new.ports.log.at; logs = λ n. sight_at sight c.go-came.new.ports.log.logs.items n; shards = λ n. sight_at sight c.go-came.new.ports.shards.nodes.items n })) c.requires.plan c.go-came.ensures.outcome)) (λ r is. is.outcomes))
-
-pub returns-clause-left : goal.returns-clause-left
-returns-clause-left g c = at_home (λ x y. IfErr c.one_of.result (λ e. IsResumeStopped c.args.header.now.shape true c.args.unfinished.now x (λ n. sight_at sight c.args.ports.now.shards.nodes.items n) y (λ n. sight_at sight c.go-came.new.ports.shards.nodes.items n) e))
-    (λ n. sight_at sight c.args.ports.now.log.logs.items n) (λ n. sight_at sight c.go-came.new.ports.log.logs.items n) c.home-ports.result c.go-came.new.ports.log.at (home_of c.args.header.now.shape c.args.lane) c.home-ports.ensures.place c.go-came.ensures.keeps.to_log.at_same
-    (one_left c.args.header.now.shape true c.args.unfinished.now (record { home = sight_at sight c.args.ports.now.log.logs.items c.home-ports.result; logs = λ n. sight_at sight c.args.ports.now.log.logs.items n; shards = λ n. sight_at sight c.args.ports.now.shards.nodes.items n }) (record { home = sight_at sight c.go-came.new.ports.log.logs.items c.go-came.new.ports.log.at; logs = λ n. sight_at sight c.go-came.new.ports.log.logs.items n; shards = λ n. sight_at sight c.go-came.new.ports.shards.nodes.items n }) c.go-came.result c.one_of.result c.one_of.ensures
+    (one_came c.args.header.now.shape c.args.unfinished.now (record { home = sight_at sight c.args.ports.now.log.logs.items c.home-ports.result; logs = λ n. sight_at sight c.args.ports.now.log.logs.items n; shards = λ n. sight_at sight c.args.ports.now.shards.nodes.items n }) (record { home = sight_at sight c.go-came.new.ports.log.logs.items c.go-came.new.ports.log.at; logs = λ n. sight_at sight c.go-came.new.ports.log.logs.items n; shards = λ n. sight_at sight c.go-came.new.ports.shards.nodes.items n }) c.go-came.result c.one_of.result c.one_of.ensures
     (subst (λ (p : PlanOf). OpenLanesCame p.shape true p.lanes c.go-came.result (record { home = sight_at sight c.args.ports.now.log.logs.items c.home-ports.result; logs = λ n. sight_at sight c.args.ports.now.log.logs.items n; shards = λ n. sight_at sight c.args.ports.now.shards.nodes.items n }) (record { home = sight_at sight c.go-came.new.ports.log.logs.items c.go-came.new.ports.log.at; logs = λ n. sight_at sight c.go-came.new.ports.log.logs.items n; shards = λ n. sight_at sight c.go-came.new.ports.shards.nodes.items n })) c.requires.plan c.go-came.ensures.outcome))
 
 pub returns-clause-idle : goal.returns-clause-idle
