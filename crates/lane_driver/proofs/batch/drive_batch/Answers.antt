@@ -36,7 +36,7 @@ pub returns-in-Ok-from_prepared-clause-keeps : goal.returns-in-Ok-from_prepared-
 returns-in-Ok-from_prepared-clause-keeps g c = record {
   to_log = log_on c.in-Ok.ensures.keeps c.in-Ok-from_prepared.ensures.keeps.to_log;
   to_shards = c.in-Ok-from_prepared.ensures.keeps.to_shards;
-  others = λ quiet. others_on _ _ _ _ _ _ _ _ _ c.in-Ok.ensures.keeps.header_same (c.in-Ok.ensures.others quiet) 
+  others = λ quiet. others_on _ _ _ _ _ _ _ _ _ c.in-Ok.ensures.keeps.header_same (c.in-Ok.ensures.others quiet)
       (subst (λ n. KeepsOtherLanes (g.L.LogPort.header c.prepare.new.self) n (g.L.LogPort.phase c.prepare.new.self) (g.L.LogPort.phase c.from_prepared.new.ports.log) (g.L.LogPort.open_txs c.prepare.new.self) (g.L.LogPort.open_txs c.from_prepared.new.ports.log))
       c.in-Ok.ensures.prepared.lane_is (c.in-Ok-from_prepared.ensures.keeps.others quiet));
 }
@@ -45,7 +45,7 @@ pub returns-in-Err-from_prepared-clause-keeps : goal.returns-in-Err-from_prepare
 returns-in-Err-from_prepared-clause-keeps g c = record {
   to_log = log_on c.in-Ok.ensures.keeps c.in-Err-from_prepared.ensures.keeps.to_log;
   to_shards = c.in-Err-from_prepared.ensures.keeps.to_shards;
-  others = λ quiet. others_on _ _ _ _ _ _ _ _ _ c.in-Ok.ensures.keeps.header_same (c.in-Ok.ensures.others quiet) 
+  others = λ quiet. others_on _ _ _ _ _ _ _ _ _ c.in-Ok.ensures.keeps.header_same (c.in-Ok.ensures.others quiet)
       (subst (λ n. KeepsOtherLanes (g.L.LogPort.header c.prepare.new.self) n (g.L.LogPort.phase c.prepare.new.self) (g.L.LogPort.phase c.from_prepared.new.ports.log) (g.L.LogPort.open_txs c.prepare.new.self) (g.L.LogPort.open_txs c.from_prepared.new.ports.log))
       c.in-Ok.ensures.prepared.lane_is (c.in-Err-from_prepared.ensures.keeps.others quiet));
 }
