@@ -19,7 +19,7 @@ use Rattle.lane_driver.specs.Stops.{DriverHasNoMemory}
 use Rattle.lane_driver.specs.Showing.{LaneSights}
 
 -- a batch stopped at this answer of this node: so it was told, call by call; the node is so that it answers this, as it is seen at last; and where the
--- answer is that memory ran out, the node was one whose call takes some
+-- answer is that memory ran out, the call at this node was one that takes some
 pub record IsStop (K : Shape) (new : LaneSights) (told : ℕ → NodeFault → Type 0) (takes : ℕ → Type 0) (e : Stop) : Type 0 where
   pub told_so : told e.node e.fault
   pub cause : IsCausedStop K new.logs new.shards e.node e.fault
@@ -81,7 +81,8 @@ abbrev pub OneBatchCame : Shape → Bool → ℕ → List Compact → ℕ → Re
 OneBatchCame K alone lane txs repeats (Ok r) old new = (one : BatchReport) × (r.batches ≡ one ∷ []) × IsBatchDone K alone lane txs repeats old new one
 OneBatchCame K alone lane txs repeats (Err e) old new = IsBatchEnd K alone lane txs repeats old new e
 
--- a lane stopped: these batches, the newest first, are done, and the batch of the very next piece of what is left came to its end
+-- a lane stopped: these batches, the newest first, are done, and that of the very next piece of what is left stopped, or was not begun because the
+-- driver ran out of memory
 pub record IsLaneStop (K : Shape) (alone : Bool) (lane : ℕ) (txs : List Compact) (repeats : ℕ) (old new : LaneSights) (e : LaneFault) : Type 0 where
   pub reports : List BatchReport
   pub rest : List Compact

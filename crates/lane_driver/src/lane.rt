@@ -1,7 +1,5 @@
 // A lane's transactions, batch by batch.
-ghost use Rattle.std.specs.Prelude.{◌≡◌, ◌≤◌, ◌<◌, [], List, length, IfOk, OnOk, All};
-ghost use Rattle.std.specs.Vec.{vec_capacity};
-ghost use Rattle.cbdc_model.specs.Records.{Compact};
+ghost use Rattle.std.specs.Prelude.{◌≡◌, [], IfOk, OnOk, All};
 ghost use Rattle.cbdc_model.specs.Slots.{Idle};
 ghost use Rattle.cbdc_model.specs.Grammar.{IsCompact};
 ghost use Rattle.cbdc_model.specs.Ranges.{home_of};

@@ -1,5 +1,5 @@
 -- What turns of lanes are at the nodes of a ledger: the nodes' ghost members are one argument.
-use Rattle.std.specs.Prelude.{ℕ, ◌*◌, [], List, Option, OnOk}
+use Rattle.std.specs.Prelude.{ℕ, ◌*◌, [], List, Option}
 use Rattle.cbdc_types.specs.declared.batch.OpenLane.{OpenLane}
 use Rattle.cbdc_model.specs.Waves.{IsResumed}
 use Rattle.lane_driver.specs.declared.fault.LaneFault.{LaneFault}

@@ -52,7 +52,7 @@ pub record IsLaneOpen (h : Header) (phase : ℕ → Phase) (open_txs : ℕ → L
   pub stamp : IsStamp o.stamp
   pub outcomes : HasOutcomes o.phase (length o.outcomes) (length o.txs)
 
--- so it is where the log's port speaks to
+-- the lane is open at the coordinator that the port goes to
 abbrev pub IsOpenThrough : {L : Type 0} → LogGhosts L → L → OpenLane → Type 0
 IsOpenThrough log port o = IsLaneOpen (log.header port) (log.phase port) (log.open_txs port) o
 

@@ -1,6 +1,6 @@
 use Rattle.recovery.specs.Planned.{PlanOf}
 use Rattle.lane_driver.specs.Told.{AreShardsOf}
-use Rattle.std.proofs.Common.{length, ◌≡◌, ◌<◌, [], refl, ap, subst, sym, arith, IfOk, IfErr, OnOk, true}
+use Rattle.std.proofs.Common.{length, ◌≡◌, ◌<◌, [], refl, ap, subst, sym, arith, OnOk, true}
 use Rattle.std.specs.List.{All}
 use Rattle.std.proofs.lemmas.List.Elements.{All-nil, All-cons}
 use Rattle.cbdc_model.specs.After.{IsJournal}

@@ -1,4 +1,4 @@
-use Rattle.std.proofs.Common.{rules, inl, inr, refl, [], ◌≡◌, ◌<◌, ◌+◌, ◌∙◌, ap, sym, subst, length, reverse, take, drop}
+use Rattle.std.proofs.Common.{rules, inl, inr, refl, [], ◌≡◌, ◌<◌, ◌∙◌, ap, sym, subst, length, reverse, take, drop}
 use Rattle.std.specs.Vec.{vec_len, vec_capacity}
 use Rattle.std.specs.List.{All}
 use Rattle.std.proofs.lemmas.List.{length-drop}
