@@ -16,11 +16,11 @@ use Rattle.cbdc_model.specs.History.{header_of}
 use Rattle.cbdc_model.specs.Sights.{Sight}
 use Rattle.node_journal.specs.Nodes.{NodeOf, sight, HoldsJournal}
 use Rattle.node_ports.specs.Nodes.{sight_at, IsNodeHeld, AreNodesHeld}
-use Rattle.lane_driver.specs.Told.{IsLane, KeepsOthers, KeepNodes, AreShardsOf}
+use Rattle.lane_driver.specs.Told.{IsLane, KeepsOtherLanes, KeepNodes, AreShardsOf}
 use Rattle.run_laws.specs.Turns.{Elsewhere}
 use Rattle.run_laws.proofs.Seen.{seen_log}
 use Rattle.coord_log.specs.OpenLanes.{open_lane}
-use Rattle.recovery.specs.Open.{IsOpen}
+use Rattle.recovery.specs.Open.{IsLaneOpen}
 use Rattle.thread_laws.specs.Nodes.{AreNodes, AreNext}
 use Rattle.thread_laws.proofs.OpenThere.{told_is_open}
 use Rattle.ledger_runs.specs.Turning.{IsLaneOf, KeepsLanes}
@@ -98,7 +98,7 @@ module _ {D : Type 0} where
 
   pub open_at : (h : Header) (logs shards : List (NodeOf D)) (lane at : ℕ) (o : OpenLane) → IsLedger h logs shards → IsLaneOf h.shape lane → at ≡ home_of h.shape lane
       → open_lane (sight_at sight logs (home_of h.shape lane)).seen lane ≡ Some o
-      → IsOpen (sight_at sight logs at).header (λ l. (slot (sight_at sight logs at).seen l).phase) (λ l. txs_of (sight_at sight logs at).seen (open_batch (sight_at sight logs at).seen l)) o
+      → IsLaneOpen (sight_at sight logs at).header (λ l. (slot (sight_at sight logs at).seen l).phase) (λ l. txs_of (sight_at sight logs at).seen (open_batch (sight_at sight logs at).seen l)) o
   open_at h logs shards lane at o ledger lt e told =
       told_is_open (sight_at sight logs at).header (sight_at sight logs at).seen lane o
       (journal_at logs ledger.log_journals at (subst (λ n. n < length logs) (sym e) (subst (λ m. home_of h.shape lane < m) (sym ledger.coordinators) (home_inside lane h.shape.coordinators h.shape.lanes lt))))
@@ -108,7 +108,7 @@ module _ {D : Type 0} where
       (ledger : IsLedger h logs shards) (lt : IsLaneOf h.shape lane) (at_is : at ≡ home_of h.shape lane) (at_same : at' ≡ at)
       (named : ℕ) (named_is : named ≡ lane) (log_count : length logs' ≡ length logs) (shard_count : length shards' ≡ length shards)
       (elsewhere : (n : ℕ) → n ≢ at → sight_at sight logs' n ≡ sight_at sight logs n) (log_nodes : KeepNodes (sight_at sight logs) (sight_at sight logs')) (shard_nodes : KeepNodes (sight_at sight shards) (sight_at sight shards'))
-      (others : KeepsOthers (sight_at sight logs at).header named (λ l. (slot (sight_at sight logs at).seen l).phase) (λ l. (slot (sight_at sight logs' at').seen l).phase)
+      (others : KeepsOtherLanes (sight_at sight logs at).header named (λ l. (slot (sight_at sight logs at).seen l).phase) (λ l. (slot (sight_at sight logs' at').seen l).phase)
       (λ l. txs_of (sight_at sight logs at).seen (open_batch (sight_at sight logs at).seen l)) (λ l. txs_of (sight_at sight logs' at').seen (open_batch (sight_at sight logs' at').seen l)))
       (log_holds : AreNodesHeld device logs → AreNodesHeld device logs') (shard_holds : AreNodesHeld device shards → AreNodesHeld device shards')
       (log_later : (n : ℕ) → (sight_at sight logs n).faults ≤ (sight_at sight logs' n).faults)

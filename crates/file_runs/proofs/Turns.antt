@@ -14,9 +14,9 @@ use Rattle.coord_log.specs.OpenLanes.{open_lane, open_phase, batch_in}
 use Rattle.node_ports.specs.Nodes.{sight_at}
 use Rattle.lane_laws.specs.Resuming.{IsTakenUp}
 use Rattle.lane_driver.specs.declared.fault.LaneFault.{LaneFault}
-use Rattle.lane_driver.specs.Stops.{IsSettled}
+use Rattle.lane_driver.specs.Stops.{IsLaneSettled}
 use Rattle.recovery.specs.declared.resumed.ResumedBatch.{ResumedBatch}
-use Rattle.recovery.specs.Open.{IsResumed, IsUnfinished, HasItsOutcomes, IsResumeStopped}
+use Rattle.recovery.specs.Open.{IsBatchResumed, IsBatchUnfinished, HasItsOutcomes, IsResumeStopped}
 use Rattle.run_laws.proofs.Seen.{seen_log}
 use Rattle.ledger_runs.specs.Turning.{lane_phase, IsLaneOf, OfKept, StaysKept, TookUp}
 use Rattle.run_laws.proofs.Rests.{checked_rest_law}
@@ -34,6 +34,7 @@ use Rattle.ledger_runs.specs.Pieces.{HasPreparedPieces}
 use Rattle.ledger_runs.specs.Faults.{IsOpenCause, HaveFailed, MayHoldBytes, Nothing}
 use Rattle.file_runs.specs.Ledgers.{IsLedger, node_journals, flights_of, faults_of, opened_of, capacity_of, HaveCheckedJournals, AreQuiet, KeepsLedgerOf}
 use Rattle.file_runs.specs.Steps.{IsStep}
+use Rattle.file_runs.specs.Ones.{ResumeLeft}
 use Rattle.file_runs.proofs.Steps.{home_inside, are_nodes, are_shards, is_lane, journal_at}
 
 -- the node that was read at a place is what is seen there
@@ -82,21 +83,17 @@ module _ {D : Type 0} (device : Ghosts D) (h : Header) (lane : ℕ) (logs shards
       (subst (λ k. k.node < k.shape.coordinators) (sym (ledger.log_headers (home_of K lane) home)) home) told
 
   -- what the driver wants of checked journals: the lane is settled where it is idle, and else each shard has come as far as its phase lets it
-  pub is_settled : lane_phase K I lane ≡ Idle → HaveCheckedJournals K logs shards → (at : ℕ) → at ≡ home_of K lane → IsSettled K lane (sight_at sight logs at) S
-  is_settled idle c at e = subst (λ n. IsSettled K lane (sight_at sight logs n) S) (sym e)
+  pub is_settled : lane_phase K I lane ≡ Idle → HaveCheckedJournals K logs shards → (at : ℕ) → at ≡ home_of K lane → IsLaneSettled K lane (sight_at sight logs at) S
+  is_settled idle c at e = subst (λ n. IsLaneSettled K lane (sight_at sight logs n) S) (sym e)
       ((slot (L (home_of K lane)).seen lane).number, checked_rest_law K c.0 lane L S some home shape c.1 (ap (λ J. (slot J lane).phase) (sym at_log) ∙ idle))
 
-  pub is_unfinished : (o : OpenLane) → open_lane (L (home_of K lane)).seen lane ≡ Some o → HaveCheckedJournals K logs shards → (at : ℕ) → at ≡ home_of K lane → IsUnfinished o.phase K o (sight_at sight logs at) S
-  is_unfinished o told c at e = subst (λ n. IsUnfinished o.phase K o (sight_at sight logs n) S) (sym e)
+  pub is_unfinished : (o : OpenLane) → open_lane (L (home_of K lane)).seen lane ≡ Some o → HaveCheckedJournals K logs shards → (at : ℕ) → at ≡ home_of K lane → IsBatchUnfinished o.phase K o (sight_at sight logs at) S
+  is_unfinished o told c at e = subst (λ n. IsBatchUnfinished o.phase K o (sight_at sight logs n) S) (sym e)
       (unfinished K lane (L (home_of K lane)) S o told (checked_resume_law K c.0 lane L S some home shape c.1))
 
   -- a batch that was resumed is the one that is open there
-  is_opened : (o : OpenLane) → open_lane (L (home_of K lane)).seen lane ≡ Some o → (r : ResumedBatch) → IsResumed o r → r.batch ≡ open_batch (I (home_of K lane)) lane
+  is_opened : (o : OpenLane) → open_lane (L (home_of K lane)).seen lane ≡ Some o → (r : ResumedBatch) → IsBatchResumed o r → r.batch ≡ open_batch (I (home_of K lane)) lane
   is_opened o told r resumed = resumed.batch ∙ batch_of (L (home_of K lane)).seen lane (open_phase (slot (L (home_of K lane)).seen lane).phase) o told ∙ ap (λ J. open_batch J lane) (sym at_log)
-
-  pub all_opened : (o : OpenLane) → open_lane (L (home_of K lane)).seen lane ≡ Some o → (came : Result ResumedBatch LaneFault) → IfOk came (IsResumed o) → IfOk came (λ r. IsLanesOpenBatch K lane I (Some r))
-  all_opened o told (Ok r) resumed = is_opened o told r resumed
-  all_opened o told (Err e) resumed = tt
 
   module _ (at : ℕ) (x : NodeOf D) (at_is : at ≡ home_of K lane) (is : x ≡ get_or logs at x) where
     here : L (home_of K lane) ≡ sight x
@@ -147,68 +144,66 @@ module _ {D : Type 0} (device : Ghosts D) (h : Header) (lane : ℕ) (logs shards
       idle_there = ap (λ J. (slot J lane).phase) (sym at_log) ∙ idle
 
     module _ (o : OpenLane) (told : open_lane (L (home_of K lane)).seen lane ≡ Some o) where
-      pub resumed_keeps : (came : Result ResumedBatch LaneFault) → OnOk came (IsUnfinished o.phase K o (L (home_of K lane)) S → IsTakenUp K true o.batch (L (home_of K lane)) S (L' (home_of K lane)) S')
-          → IfErr came (IsResumeStopped K true o (L (home_of K lane)) S (L' (home_of K lane)) S') → OfKept K I (StaysKept K I J)
-      resumed_keeps (Ok r) taken stop =
-          resume_keeps K lane L S L' S' some home shape step.elsewhere (are_nodes h logs shards ledger) (are_nodes h logs' shards' step.ledger) step.log_nodes step.shard_nodes o told taken
-      resumed_keeps (Err e) taken stop =
-          left_keeps K lane L S L' S' some home shape step.elsewhere (are_nodes h logs shards ledger) (are_nodes h logs' shards' step.ledger) step.log_nodes step.shard_nodes o told e stop
+      pub resumed_keeps : (came : Result ResumedBatch LaneFault) → ResumeLeft K o came (L (home_of K lane)) S (L' (home_of K lane)) S' → OfKept K I (StaysKept K I J)
+      resumed_keeps (Ok r) is =
+          resume_keeps K lane L S L' S' some home shape step.elsewhere (are_nodes h logs shards ledger) (are_nodes h logs' shards' step.ledger) step.log_nodes step.shard_nodes o told (λ stands. is.taken)
+      resumed_keeps (Err e) is =
+          left_keeps K lane L S L' S' some home shape step.elsewhere (are_nodes h logs shards ledger) (are_nodes h logs' shards' step.ledger) step.log_nodes step.shard_nodes o told e is
 
-      pub resumed_flies : (came : Result ResumedBatch LaneFault) → OnOk came (IsUnfinished o.phase K o (L (home_of K lane)) S → IsTakenUp K true o.batch (L (home_of K lane)) S (L' (home_of K lane)) S')
-          → IfErr came (IsResumeStopped K true o (L (home_of K lane)) S (L' (home_of K lane)) S') → OfKept K I (FliesOn K I J (flights_of K logs shards) (flights_of K logs' shards'))
-      resumed_flies (Ok r) taken stop =
-          resume_flies K lane L S L' S' some home shape step.elsewhere (are_nodes h logs shards ledger) (are_nodes h logs' shards' step.ledger) step.log_nodes step.shard_nodes step.next o told taken
-      resumed_flies (Err e) taken stop =
-          left_flies K lane L S L' S' some home shape step.elsewhere (are_nodes h logs shards ledger) (are_nodes h logs' shards' step.ledger) step.log_nodes step.shard_nodes step.next o told e stop
+      pub resumed_flies : (came : Result ResumedBatch LaneFault) → ResumeLeft K o came (L (home_of K lane)) S (L' (home_of K lane)) S' → OfKept K I (FliesOn K I J (flights_of K logs shards) (flights_of K logs' shards'))
+      resumed_flies (Ok r) is =
+          resume_flies K lane L S L' S' some home shape step.elsewhere (are_nodes h logs shards ledger) (are_nodes h logs' shards' step.ledger) step.log_nodes step.shard_nodes step.next o told (λ stands. is.taken)
+      resumed_flies (Err e) is =
+          left_flies K lane L S L' S' some home shape step.elsewhere (are_nodes h logs shards ledger) (are_nodes h logs' shards' step.ledger) step.log_nodes step.shard_nodes step.next o told e is
 
-      pub resumed_checked : (came : Result ResumedBatch LaneFault) → OnOk came (IsUnfinished o.phase K o (L (home_of K lane)) S → IsTakenUp K true o.batch (L (home_of K lane)) S (L' (home_of K lane)) S')
-          → IfErr came (IsResumeStopped K true o (L (home_of K lane)) S (L' (home_of K lane)) S') → (c : HaveCheckedJournals K logs shards) → IsCheckedTurn K c.0 lane I J
-      resumed_checked (Ok r) taken stop c =
-          taken_checked K lane L S L' S' ledger.limits home shape shard_shapes step.elsewhere (are_nodes h logs shards ledger) (are_nodes h logs' shards' step.ledger) step.log_nodes step.shard_nodes c.0 c.1 o told taken
-      resumed_checked (Err e) taken stop c =
-          left_checked K lane L S L' S' ledger.limits home shape shard_shapes step.elsewhere (are_nodes h logs shards ledger) (are_nodes h logs' shards' step.ledger) step.log_nodes step.shard_nodes c.0 c.1 o told e stop
+      pub resumed_checked : (came : Result ResumedBatch LaneFault) → ResumeLeft K o came (L (home_of K lane)) S (L' (home_of K lane)) S' → (c : HaveCheckedJournals K logs shards) → IsCheckedTurn K c.0 lane I J
+      resumed_checked (Ok r) is c =
+          taken_checked K lane L S L' S' ledger.limits home shape shard_shapes step.elsewhere (are_nodes h logs shards ledger) (are_nodes h logs' shards' step.ledger) step.log_nodes step.shard_nodes c.0 c.1 o told (λ stands. is.taken)
+      resumed_checked (Err e) is c =
+          left_checked K lane L S L' S' ledger.limits home shape shard_shapes step.elsewhere (are_nodes h logs shards ledger) (are_nodes h logs' shards' step.ledger) step.log_nodes step.shard_nodes c.0 c.1 o told e is
 
-      pub resumed_unprepared : (came : Result ResumedBatch LaneFault) → OnOk came (IsUnfinished o.phase K o (L (home_of K lane)) S → IsTakenUp K true o.batch (L (home_of K lane)) S (L' (home_of K lane)) S')
-          → IfErr came (IsResumeStopped K true o (L (home_of K lane)) S (L' (home_of K lane)) S') → HaveCheckedJournals K logs shards → HasPreparedPieces K lane [] I J
-      resumed_unprepared (Ok r) taken stop c =
-          taken_unprepared K lane L S L' S' ledger.limits home shape shard_shapes step.elsewhere (are_nodes h logs shards ledger) (are_nodes h logs' shards' step.ledger) step.log_nodes step.shard_nodes c.0 c.1 o told taken
-      resumed_unprepared (Err e) taken stop c =
-          left_unprepared K lane L S L' S' ledger.limits home shape shard_shapes step.elsewhere (are_nodes h logs shards ledger) (are_nodes h logs' shards' step.ledger) step.log_nodes step.shard_nodes c.0 c.1 o told e stop
+      pub resumed_unprepared : (came : Result ResumedBatch LaneFault) → ResumeLeft K o came (L (home_of K lane)) S (L' (home_of K lane)) S' → HaveCheckedJournals K logs shards → HasPreparedPieces K lane [] I J
+      resumed_unprepared (Ok r) is c =
+          taken_unprepared K lane L S L' S' ledger.limits home shape shard_shapes step.elsewhere (are_nodes h logs shards ledger) (are_nodes h logs' shards' step.ledger) step.log_nodes step.shard_nodes c.0 c.1 o told (λ stands. is.taken)
+      resumed_unprepared (Err e) is c =
+          left_unprepared K lane L S L' S' ledger.limits home shape shard_shapes step.elsewhere (are_nodes h logs shards ledger) (are_nodes h logs' shards' step.ledger) step.log_nodes step.shard_nodes c.0 c.1 o told e is
 
       resumed_cause : (e : LaneFault) → IsResumeStopped K true o (L (home_of K lane)) S (L' (home_of K lane)) S' e → HaveCheckedJournals K logs shards
           → IsOpenCause K lane I J (HaveFailed (opened_of K logs' shards') (faults_of K logs' shards')) (MayHoldBytes (capacity_of K logs' shards')) e
       resumed_cause e stop c =
           left_cause K lane L S L' S' ledger.limits home shape shard_shapes step.elsewhere (are_nodes h logs shards ledger) (are_nodes h logs' shards' step.ledger) step.log_nodes step.shard_nodes c.0 c.1 o told e stop
 
-      pub resumed_fault : (came : Result ResumedBatch LaneFault) → IfErr came (IsResumeStopped K true o (L (home_of K lane)) S (L' (home_of K lane)) S') → HaveCheckedJournals K logs shards
+      pub resumed_fault : (came : Result ResumedBatch LaneFault) → ResumeLeft K o came (L (home_of K lane)) S (L' (home_of K lane)) S' → HaveCheckedJournals K logs shards
           → IfErr came (IsOpenCause K lane I J (HaveFailed (opened_of K logs' shards') (faults_of K logs' shards')) (MayHoldBytes (capacity_of K logs' shards')))
-      resumed_fault (Ok r) stop c = tt
-      resumed_fault (Err e) stop c = resumed_cause e stop c
+      resumed_fault (Ok r) is c = tt
+      resumed_fault (Err e) is c = resumed_cause e is c
 
-      quiet_behind : (IsUnfinished o.phase K o (L (home_of K lane)) S → IsTakenUp K true o.batch (L (home_of K lane)) S (L' (home_of K lane)) S') → HaveCheckedJournals K logs shards → AreQuiet logs shards → AreQuiet logs' shards'
+      quiet_behind : (IsBatchUnfinished o.phase K o (L (home_of K lane)) S → IsTakenUp K true o.batch (L (home_of K lane)) S (L' (home_of K lane)) S') → HaveCheckedJournals K logs shards → AreQuiet logs shards → AreQuiet logs' shards'
       quiet_behind taken c = quiet_on (resume_same K lane L S L' S' ledger.limits home shape shard_shapes step.elsewhere (are_nodes h logs shards ledger) (are_nodes h logs' shards' step.ledger) step.log_nodes step.shard_nodes step.next c.0 c.1 o told taken)
 
-      pub resumed_quiet : (came : Result ResumedBatch LaneFault) → OnOk came (IsUnfinished o.phase K o (L (home_of K lane)) S → IsTakenUp K true o.batch (L (home_of K lane)) S (L' (home_of K lane)) S') → HaveCheckedJournals K logs shards
+      pub resumed_quiet : (came : Result ResumedBatch LaneFault) → ResumeLeft K o came (L (home_of K lane)) S (L' (home_of K lane)) S' → HaveCheckedJournals K logs shards
           → OnOk came (AreQuiet logs shards → AreQuiet logs' shards')
-      resumed_quiet (Ok r) taken c = quiet_behind taken c
-      resumed_quiet (Err e) taken c = tt
+      resumed_quiet (Ok r) is c = quiet_behind (λ stands. is.taken) c
+      resumed_quiet (Err e) is c = tt
 
-      pub resumed_launches : (came : Result ResumedBatch LaneFault) → OnOk came (IsUnfinished o.phase K o (L (home_of K lane)) S → IsTakenUp K true o.batch (L (home_of K lane)) S (L' (home_of K lane)) S')
-          → IfErr came (IsResumeStopped K true o (L (home_of K lane)) S (L' (home_of K lane)) S') → HaveCheckedJournals K logs shards → Launches K (λ _. Nothing) I J (flights_of K logs shards) (flights_of K logs' shards')
-      resumed_launches (Ok r) taken stop c = resume_launches K lane L S L' S' ledger.limits home shape shard_shapes step.elsewhere (are_nodes h logs shards ledger) (are_nodes h logs' shards' step.ledger) step.log_nodes step.shard_nodes step.next c.0 c.1 o told taken
-      resumed_launches (Err e) taken stop c = left_launches K lane L S L' S' ledger.limits home shape shard_shapes step.elsewhere (are_nodes h logs shards ledger) (are_nodes h logs' shards' step.ledger) step.log_nodes step.shard_nodes step.next c.0 c.1 o told e stop
+      pub resumed_launches : (came : Result ResumedBatch LaneFault) → ResumeLeft K o came (L (home_of K lane)) S (L' (home_of K lane)) S' → HaveCheckedJournals K logs shards → Launches K (λ _. Nothing) I J (flights_of K logs shards) (flights_of K logs' shards')
+      resumed_launches (Ok r) is c = resume_launches K lane L S L' S' ledger.limits home shape shard_shapes step.elsewhere (are_nodes h logs shards ledger) (are_nodes h logs' shards' step.ledger) step.log_nodes step.shard_nodes step.next c.0 c.1 o told (λ stands. is.taken)
+      resumed_launches (Err e) is c = left_launches K lane L S L' S' ledger.limits home shape shard_shapes step.elsewhere (are_nodes h logs shards ledger) (are_nodes h logs' shards' step.ledger) step.log_nodes step.shard_nodes step.next c.0 c.1 o told e is
 
-      took_behind : (r : ResumedBatch) → IsResumed o r → (IsUnfinished o.phase K o (L (home_of K lane)) S → IsTakenUp K true o.batch (L (home_of K lane)) S (L' (home_of K lane)) S')
-          → (IsUnfinished o.phase K o (L (home_of K lane)) S → HasItsOutcomes o.phase o (L' (home_of K lane)).seen r) → OfKept K I (λ _ _. TookUp K lane I J (Some r))
+      took_behind : (r : ResumedBatch) → IsBatchResumed o r → (IsBatchUnfinished o.phase K o (L (home_of K lane)) S → IsTakenUp K true o.batch (L (home_of K lane)) S (L' (home_of K lane)) S')
+          → (IsBatchUnfinished o.phase K o (L (home_of K lane)) S → HasItsOutcomes o.phase o (L' (home_of K lane)).seen r) → OfKept K I (λ _ _. TookUp K lane I J (Some r))
       took_behind r resumed taken has =
           resume_took K lane L S L' S' some home shape step.elsewhere (are_nodes h logs shards ledger) (are_nodes h logs' shards' step.ledger) step.log_nodes step.shard_nodes o told r resumed taken has
 
-      pub resumed_took : (came : Result ResumedBatch LaneFault) → IfOk came (IsResumed o) → OnOk came (IsUnfinished o.phase K o (L (home_of K lane)) S → IsTakenUp K true o.batch (L (home_of K lane)) S (L' (home_of K lane)) S')
-          → IfOk came (λ r. IsUnfinished o.phase K o (L (home_of K lane)) S → HasItsOutcomes o.phase o (L' (home_of K lane)).seen r) → IfOk came (λ r. OfKept K I (λ _ _. TookUp K lane I J (Some r)))
-      resumed_took (Ok r) resumed taken has = took_behind r resumed taken has
-      resumed_took (Err e) resumed taken has = tt
+      pub resumed_took : (came : Result ResumedBatch LaneFault) → ResumeLeft K o came (L (home_of K lane)) S (L' (home_of K lane)) S' → IfOk came (λ r. OfKept K I (λ _ _. TookUp K lane I J (Some r)))
+      resumed_took (Ok r) is = took_behind r is.resumed (λ stands. is.taken) (λ stands. is.outcomes)
+      resumed_took (Err e) is = tt
 
--- nothing is said of memory that was wanting
+      pub all_opened : (came : Result ResumedBatch LaneFault) → ResumeLeft K o came (L (home_of K lane)) S (L' (home_of K lane)) S' → IfOk came (λ r. IsLanesOpenBatch K lane I (Some r))
+      all_opened (Ok r) is = is_opened o told r is.resumed
+      all_opened (Err e) is = tt
+
+-- nothing is said of memory that ran out
 pub any_want : (came : Result ResumedBatch LaneFault) → IfErr came (λ e. e.fault ≡ NoMemory → Unit {0})
 any_want (Ok r) = tt
 any_want (Err e) = λ want. tt

@@ -12,7 +12,7 @@ use Rattle.cbdc_model.specs.Sights.{Sight}
 use Rattle.node_journal.specs.Nodes.{NodeOf, sight, HoldsJournal}
 use Rattle.node_ports.specs.Nodes.{sight_at, IsNodeHeld}
 use Rattle.run_laws.specs.Flights.{flying}
-use Rattle.lane_driver.specs.Stops.{IsSettled}
+use Rattle.lane_driver.specs.Stops.{IsLaneSettled}
 use Rattle.ledger_runs.specs.Waving.{AreWithin}
 use Rattle.ledger_runs.specs.Lanes.{LaneOf}
 use Rattle.thread_laws.specs.Running.{WaveNodes, WaveRan, AllSays}
@@ -152,7 +152,7 @@ module _ {D : Type 0} (h : Header) (logs shards : List (NodeOf D)) (ledger : IsL
   }
 
   pub all_settled : HaveCheckedJournals h.shape logs shards → AreIdle h.shape (node_journals h.shape logs shards) → (lane : ℕ) → lane < h.shape.coordinators * h.shape.lanes
-      → IsSettled h.shape lane (sight_at sight logs (home_of h.shape lane)) (sight_at sight shards)
+      → IsLaneSettled h.shape lane (sight_at sight logs (home_of h.shape lane)) (sight_at sight shards)
   all_settled c idle lane lt = fresh_settled_law h.shape c.0 (sight_at sight logs) (sight_at sight shards) lane (sight_at sight logs (home_of h.shape lane)) (sight_at sight shards)
       ledger.limits lt (λ n low. (nodes_of.logs_are n low).0) c.1 idle (refl, refl) (λ s. refl)
 

@@ -1,17 +1,15 @@
 // A lane's driver at the nodes of a ledger.
-ghost use Rattle.std.specs.Prelude.{◌≡◌, ◌<◌, ◌/◌, true, [], ◌∷◌, All, Some, IfOk, IfErr, OnOk};
+ghost use Rattle.std.specs.Prelude.{◌≡◌, ◌<◌, ◌/◌, [], ◌∷◌, All, Some, IfOk, OnOk};
 ghost use Rattle.cbdc_model.specs.After.{IsJournal};
 ghost use Rattle.cbdc_model.specs.Ranges.{home_of};
 ghost use Rattle.cbdc_model.specs.Slots.{Idle};
 ghost use Rattle.node_journal.specs.Nodes.{sight};
 ghost use Rattle.coord_log.specs.OpenLanes.{open_lane};
 ghost use Rattle.node_ports.specs.Nodes.{sight_at};
-ghost use Rattle.lane_laws.specs.Resuming.{IsTakenUp};
-ghost use Rattle.recovery.specs.Open.{IsResumed, IsUnfinished, HasItsOutcomes, IsResumeStopped};
 ghost use Rattle.ledger_runs.specs.Turning.{lane_phase, IsLaneOf};
 ghost use Rattle.file_runs.specs.Ledgers.{IsLedger, FliesNext, node_journals, HaveCheckedJournals};
 ghost use Rattle.file_runs.specs.Steps.{IsStep};
-ghost use Rattle.file_runs.specs.Ones.{IsOneOf};
+ghost use Rattle.file_runs.specs.Ones.{IsOneOf, LaneResumes};
 ghost use Rattle.recovery.specs.declared.resumed.ResumedBatch.{ResumedBatch as BatchOf};
 
 use cbdc_types::{Header, LaneId, OpenLane, Shape};
@@ -82,18 +80,8 @@ pub(crate) fn drive_resume<W: Wait, D: Disk, G: Gate>(
     requires plan { plan ≡ record { shape = header.now.shape; lanes = unfinished.now ∷ [] } }
     requires checked { HaveCheckedJournals header.now.shape ports.old.log.logs.items ports.old.shards.nodes.items }
     ensures step { IsStep D.Disk header.now lane ports.old.log.logs.items ports.old.shards.nodes.items ports.new.log.logs.items ports.new.shards.nodes.items }
-    ensures taken { OnOk result (IsUnfinished unfinished.now.phase header.now.shape unfinished.now
-        (sight_at sight ports.old.log.logs.items (home_of header.now.shape lane)) (sight_at sight ports.old.shards.nodes.items)
-        → IsTakenUp header.now.shape true unfinished.now.batch
-        (sight_at sight ports.old.log.logs.items (home_of header.now.shape lane)) (sight_at sight ports.old.shards.nodes.items)
-        (sight_at sight ports.new.log.logs.items (home_of header.now.shape lane)) (sight_at sight ports.new.shards.nodes.items)) }
-    ensures resumed { IfOk result (IsResumed unfinished.now) }
-    ensures outcomes { IfOk result (λ r. IsUnfinished unfinished.now.phase header.now.shape unfinished.now
-        (sight_at sight ports.old.log.logs.items (home_of header.now.shape lane)) (sight_at sight ports.old.shards.nodes.items)
-        → HasItsOutcomes unfinished.now.phase unfinished.now (sight_at sight ports.new.log.logs.items (home_of header.now.shape lane)).seen r) }
-    ensures left { IfErr result (IsResumeStopped header.now.shape true unfinished.now
-        (sight_at sight ports.old.log.logs.items (home_of header.now.shape lane)) (sight_at sight ports.old.shards.nodes.items)
-        (sight_at sight ports.new.log.logs.items (home_of header.now.shape lane)) (sight_at sight ports.new.shards.nodes.items)) }
+    ensures outcome { LaneResumes header.now.shape lane unfinished.now result
+        ports.old.log.logs.items ports.old.shards.nodes.items ports.new.log.logs.items ports.new.shards.nodes.items }
     ensures idle { OnOk result (lane_phase header.now.shape (node_journals header.now.shape ports.new.log.logs.items ports.new.shards.nodes.items) lane ≡ Idle) }
 {
     ports.log.at = home(&header.shape, lane);

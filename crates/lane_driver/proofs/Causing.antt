@@ -21,8 +21,8 @@ use Rattle.lane_laws.proofs.Dues.{ok, err, lock_unbroken, late_unbroken, stamp_u
 use Rattle.lane_laws.proofs.Tellings.{Stopped, told_err}
 use Rattle.lane_laws.proofs.ByShard.{every_any, first_at}
 use Rattle.lane_driver.specs.declared.fault.Stop.{Stop}
-use Rattle.lane_driver.specs.Stops.{IsStopOf, IsStoppedAt}
-use Rattle.lane_driver.specs.Causes.{HasNoRoom, IsCause, IsLogCause, IsDecideCause, IsShardCause, IsCausedStop}
+use Rattle.lane_driver.specs.Stops.{IsStoppedAt}
+use Rattle.lane_driver.specs.Causes.{DiskHasNoRoom, IsCause, IsLogCause, IsDecideCause, IsShardCause, IsCausedStop}
 use Rattle.lane_driver.specs.Told.{AreShards}
 use Rattle.lane_driver.proofs.Phasing.{fault_inside}
 
@@ -66,7 +66,7 @@ module _ {A : Type 0} (stamp used need capacity : ℕ) (a : A) (r : Record) wher
       two false true e = let z : err {A = A} (Full used need capacity) ≡ err (Refuses why) = e in cc
       two false false e = let z : Writes a r ≡ err (Refuses why) = e in cc
 
-no_room : (K : Shape) (J : List Record) (limit u n c : ℕ) (r : Record) → (c ≡ limit) × (u ≡ used_of J) × (n ≡ need_of K J r) × (limit < used_of J + need_of K J r) → HasNoRoom K limit J u n c
+no_room : (K : Shape) (J : List Record) (limit u n c : ℕ) (r : Record) → (c ≡ limit) × (u ≡ used_of J) × (n ≡ need_of K J r) × (limit < used_of J + need_of K J r) → DiskHasNoRoom K limit J u n c
 no_room K J limit u n c r h = record {
   limit_is = h.0;
   above = omega (arith, h.0, h.1, h.2, h.3);
@@ -80,7 +80,7 @@ lock_end K capacity J c (Kept q) end e = absurd (let z : ok (replied_of q) ≡ e
 lock_end K capacity J c (Refuse why) end e = absurd (let z : err {A = Replied} (Refuses why) ≡ err (ClockEnd end) = e in cc)
 lock_end K capacity J c (Append q) end e = roomy_end q.at (used_of J) (need_of K J (lock_record J c)) capacity (replied_of q) (lock_record J c) end e
 
-lock_full : (K : Shape) (capacity : ℕ) (J : List Record) (c : LockCall) (p : Plan RepliesAt) (u n m : ℕ) → lock_by p K capacity J c ≡ Answers (Err (Full u n m)) → HasNoRoom K capacity J u n m
+lock_full : (K : Shape) (capacity : ℕ) (J : List Record) (c : LockCall) (p : Plan RepliesAt) (u n m : ℕ) → lock_by p K capacity J c ≡ Answers (Err (Full u n m)) → DiskHasNoRoom K capacity J u n m
 lock_full K capacity J c (Kept q) u n m e = absurd (let z : ok (replied_of q) ≡ err (Full u n m) = e in cc)
 lock_full K capacity J c (Refuse why) u n m e = absurd (let z : err {A = Replied} (Refuses why) ≡ err (Full u n m) = e in cc)
 lock_full K capacity J c (Append q) u n m e =
@@ -95,14 +95,14 @@ early end h = omega (arith, h)
 record IsOwing {A : Type 0} (K : Shape) (limit : ℕ) (by : List Record → Due A) : Type 0 where
   unbroken : (J : List Record) (s : ℕ) → by J ≡ Answers (Err (Broken s)) → ⊥
   ends : (J : List Record) (stamp : ℕ) → by J ≡ Answers (Err (ClockEnd stamp)) → 2 ^ 62 < stamp
-  fills : (J : List Record) (used need capacity : ℕ) → by J ≡ Answers (Err (Full used need capacity)) → HasNoRoom K limit J used need capacity
+  fills : (J : List Record) (used need capacity : ℕ) → by J ≡ Answers (Err (Full used need capacity)) → DiskHasNoRoom K limit J used need capacity
 
 module _ {A : Type 0} (alone : Bool) (lane : ℕ) (memory : Bool) (by : List Record → Due A) (old new : Sight) (owing : IsOwing old.header.shape old.capacity by) where
-  room_now : (f : NodeFault) (st : Stopped alone lane memory by old new f) (u n c : ℕ) → HasNoRoom old.header.shape old.capacity st.found u n c → HasNoRoom new.header.shape new.capacity new.seen u n c
+  room_now : (f : NodeFault) (st : Stopped alone lane memory by old new f) (u n c : ℕ) → DiskHasNoRoom old.header.shape old.capacity st.found u n c → DiskHasNoRoom new.header.shape new.capacity new.seen u n c
   room_now f st u n c h =
-      subst (λ J. HasNoRoom new.header.shape new.capacity J u n c) (sym st.seen)
-      (subst (λ m. HasNoRoom new.header.shape m st.found u n c) (sym st.node.capacity)
-      (subst (λ k. HasNoRoom k.shape old.capacity st.found u n c) (sym st.node.header) h))
+      subst (λ J. DiskHasNoRoom new.header.shape new.capacity J u n c) (sym st.seen)
+      (subst (λ m. DiskHasNoRoom new.header.shape m st.found u n c) (sym st.node.capacity)
+      (subst (λ k. DiskHasNoRoom k.shape old.capacity st.found u n c) (sym st.node.header) h))
 
   because : (f : NodeFault) → Stopped alone lane memory by old new f → IsCause f new
   because (Broken since) st = st.risen
@@ -240,7 +240,7 @@ home_inside : (K : Shape) (lane : ℕ) → lane < K.coordinators * K.lanes → h
 home_inside K lane lt = (row-Below lane K.lanes K.lanes K.coordinators (grind (arith, lt)) (omega arith)).1
 
 -- a call that its coordinator did not do
-pub log_fault : (K : Shape) (lane at : ℕ) (logs shards : ℕ → Sight) (f : NodeFault) (e : Stop) → lane < K.coordinators * K.lanes → at ≡ home_of K lane → IsStopOf e (home_of K lane) f
-    → IsLogCause f (logs at) → IsCausedStop K logs shards e.node e.fault
-log_fault K lane at logs shards f e lt home is cause =
-    subst (λ x. IsCausedStop K logs shards x.node x.fault) (sym is) (inr (inl (home_inside K lane lt, subst (λ n. IsLogCause f (logs n)) home cause)))
+pub log_fault : (K : Shape) (lane at : ℕ) (logs shards : ℕ → Sight) (node : ℕ) (f : NodeFault) → lane < K.coordinators * K.lanes → at ≡ home_of K lane → node ≡ home_of K lane
+    → IsLogCause f (logs at) → IsCausedStop K logs shards node f
+log_fault K lane at logs shards node f lt home is cause =
+    subst (λ n. IsCausedStop K logs shards n f) (sym is) (inr (inl (home_inside K lane lt, subst (λ n. IsLogCause f (logs n)) home cause)))

@@ -6,7 +6,7 @@ use Rattle.std.proofs.lemmas.Slice.Zip.{all_zipped_more}
 use Rattle.std.proofs.lemmas.Grind.{reverse_onto}
 use Rattle.cbdc_model.specs.Records.{Compact}
 use Rattle.lane_driver.specs.declared.fault.BatchReport.{BatchReport}
-use Rattle.lane_driver.specs.Reports.{IsReported, AreReports}
+use Rattle.lane_driver.specs.Reports.{IsReported, AreBatchReports}
 
 -- a piece more needs no more room than there is
 pub room_after : (r b n c m k d : ℕ) → 0 < r → r + b * n ≤ b * c → m ≡ r - b → n < c → k ≡ n + 1 → d ≡ c → m + b * k ≤ b * d
@@ -21,6 +21,6 @@ pub reported_more : (lane n : ℕ) (txs rest piece more : List Compact) (reports
 reported_more lane n txs rest piece more reports r so some p m is = (
   piece ∷ so.0,
   (rest, so.1, some, p, m),
-  subst (λ pieces. AreReports lane (reports ++ r ∷ []) pieces) (sym (reverse_onto so.0 piece []))
+  subst (λ pieces. AreBatchReports lane (reports ++ r ∷ []) pieces) (sym (reverse_onto so.0 piece []))
       (all_zipped_more (λ (r : BatchReport) (piece : List Compact). (r.batch.lane ≡ lane) × (length r.outcomes ≡ length piece)) reports (reverse so.0) r piece so.2 is),
 )

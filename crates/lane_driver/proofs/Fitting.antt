@@ -17,7 +17,7 @@ use Rattle.lane_laws.specs.Parts.{IsFitPart}
 use Rattle.lane_laws.proofs.PartCalls.{part_fits}
 use Rattle.lane_driver.specs.Calls.{shard, lock_of, finish_of, forget_of}
 use Rattle.cbdc_model.specs.Slots.{Phase}
-use Rattle.lane_driver.specs.Told.{IsLane, KeepsOthers, AreShards, AreShardsOf, KeepNodes, AreLockCalls, AreFinishCalls, AreForgetCalls, AreFitParts, IsStamp}
+use Rattle.lane_driver.specs.Told.{IsLane, KeepsOtherLanes, AreShards, AreShardsOf, KeepNodes, AreLockCalls, AreFinishCalls, AreForgetCalls, AreFitParts, IsStamp}
 
 -- ---- what stays
 
@@ -45,7 +45,7 @@ ledger_kept K I J a k = λ s lt. subst (λ h. (h.shape ≡ K) × (h.node ≡ sha
 pub calls_kept : {C : Type 0} (P : Header → C → Type 0) (I J : ℕ → Sight) → KeepNodes I J → (cs : List (ℕ × C)) → All (λ c. P (I c.0).header c.1) cs → All (λ c. P (J c.0).header c.1) cs
 calls_kept P I J k cs all = All-weaker (λ c. P (I c.0).header c.1) (λ c. P (J c.0).header c.1) (λ c h. subst (λ x. P x c.1) (sym (k c.0).header) h) cs all
 
-pub others_on : (h k : Header) (lane : ℕ) (p q r : ℕ → Phase) (t u v : ℕ → List Compact) → k ≡ h → KeepsOthers h lane p q t u → KeepsOthers k lane q r u v → KeepsOthers h lane p r t v
+pub others_on : (h k : Header) (lane : ℕ) (p q r : ℕ → Phase) (t u v : ℕ → List Compact) → k ≡ h → KeepsOtherLanes h lane p q t u → KeepsOtherLanes k lane q r u v → KeepsOtherLanes h lane p r t v
 others_on h k lane p q r t u v e a b l is ne =
     let one = a l is ne in
     let more = b l (subst (λ h. IsLane h l) (sym e) is) ne in

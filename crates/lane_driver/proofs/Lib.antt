@@ -13,3 +13,4 @@ pub mod Causing
 pub mod Serving
 pub mod Keeping
 pub mod Wanting
+pub mod Outcomes

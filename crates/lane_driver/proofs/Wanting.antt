@@ -1,21 +1,20 @@
 -- Which calls of a batch can want memory.
-use Rattle.std.proofs.Common.{◌≡◌, ◌≢◌, ℕ, Bool, true, false, List, map, Option, Result, Ok, Err, sym, ◌∙◌, ap, refl, subst}
+use Rattle.std.proofs.Common.{◌≡◌, ◌≢◌, ℕ, Bool, true, false, List, map, Option, Result, Err, sym, ◌∙◌, ap, refl, subst}
 use Rattle.cbdc_types.specs.declared.calls.NodeFault.{NodeFault}
 use Rattle.cbdc_types.specs.declared.calls.LockCall.{LockCall}
 use Rattle.cbdc_types.specs.declared.calls.NodeFault.TheVariants.{Broken, Refused as Refuses, ClockEnd, Full, DiskFault, Memory}
-use Rattle.cbdc_model.specs.Records.{Shape, Batch, Compact, Entry, Record}
-use Rattle.cbdc_model.specs.Ranges.{home_of}
-use Rattle.cbdc_model.specs.Due.{Due, prepare_due}
+use Rattle.cbdc_model.specs.Records.{Shape, Batch, Entry, Record}
+use Rattle.cbdc_model.specs.Due.{Due}
 use Rattle.cbdc_model.specs.Sights.{Sight, MeetsFault, Told}
-use Rattle.lane_laws.specs.Calls.{AreParts, lock_of}
+use Rattle.lane_laws.specs.Calls.{lock_of}
 use Rattle.lane_laws.specs.Answers.{LockAnswer, StoppedAt}
 use Rattle.lane_laws.proofs.ByShard.{every_any, first_at}
 use Rattle.lane_driver.specs.declared.fault.LaneFault.{LaneFault}
 use Rattle.lane_driver.specs.declared.fault.Stop.{Stop}
 use Rattle.lane_driver.specs.declared.fault.LaneFaultKind.TheVariants.{DiskFault as DiskStopped, Full as NoRoom, ClockEnd as NoStamp, Memory as NoMemory}
-use Rattle.lane_driver.specs.Stops.{IsFaultOf, IsStopOf, IsStoppedAt}
+use Rattle.lane_driver.specs.Stops.{IsLaneFaultOf, IsStoppedAt}
 use Rattle.lane_driver.specs.Causes.{IsDecideCause}
-use Rattle.lane_driver.specs.Wanting.{IsLockWant, IsBatchWant, wants_at_prepare, wants_at_lock}
+use Rattle.lane_driver.specs.Wanting.{IsLockWant}
 use Rattle.lane_driver.proofs.Turning.{turn_stopped}
 
 -- a call that takes no memory wants none
@@ -45,8 +44,8 @@ lock_want K a a' b cause parts cs log I J e same is (s, f, at, stop) want = reco
   node_is = ap (λ (x : Stop). x.node) at;
 }
 
--- the lane's fault is want of memory where the node's is
-pub fault_want : (e : LaneFault) (n : ℕ) (f : NodeFault) → IsFaultOf e n f → e.fault ≡ NoMemory → f ≡ Memory
+-- the lane's fault is that memory ran out where the node's is
+pub fault_want : (e : LaneFault) (n : ℕ) (f : NodeFault) → IsLaneFaultOf e n f → e.fault ≡ NoMemory → f ≡ Memory
 fault_want e n (Broken since) is w = let z : DiskStopped ≡ NoMemory = sym (ap (λ (x : LaneFault). x.fault) is) ∙ w in cc
 fault_want e n (Refuses why) is w = absurd is
 fault_want e n (ClockEnd stamp) is w = let z : NoStamp stamp ≡ NoMemory = sym (ap (λ (x : LaneFault). x.fault) is) ∙ w in cc
@@ -55,22 +54,10 @@ fault_want e n DiskFault is w = let z : DiskStopped ≡ NoMemory = sym (ap (λ (
 fault_want e n Memory is w = refl
 
 -- and at the same node
-pub fault_node : (e : LaneFault) (n : ℕ) (f : NodeFault) → IsFaultOf e n f → e.node ≡ n
+pub fault_node : (e : LaneFault) (n : ℕ) (f : NodeFault) → IsLaneFaultOf e n f → e.node ≡ n
 fault_node e n (Broken since) is = ap (λ (x : LaneFault). x.node) is
 fault_node e n (Refuses why) is = absurd is
 fault_node e n (ClockEnd stamp) is = ap (λ (x : LaneFault). x.node) is
 fault_node e n (Full used need capacity) is = ap (λ (x : LaneFault). x.node) is
 fault_node e n DiskFault is = ap (λ (x : LaneFault). x.node) is
 fault_node e n Memory is = ap (λ (x : LaneFault). x.node) is
-
-module _ (K : Shape) (alone : Bool) (lane : ℕ) (txs : List Compact) (log log1 : Sight) (I : ℕ → Sight) (parts : List (ℕ × List Entry)) (are : AreParts K txs parts) where
-  pub prepare_want : (f : NodeFault) (e : Stop) → IsStopOf e (home_of K lane) f → Told alone lane true (prepare_due log.header.shape log.capacity lane txs) log log1 (Err f) → e.fault ≡ Memory → IsBatchWant K alone lane txs log I log1 I e.node
-  prepare_want f e at told want = (
-    parts,
-    are,
-    wants_at_prepare (subst (λ f. Told alone lane true (prepare_due log.header.shape log.capacity lane txs) log log1 (Err f)) (sym (ap (λ (x : Stop). x.fault) at) ∙ want) told) (λ s. refl) (ap (λ (x : Stop). x.node) at),
-  )
-
-  pub prepared_want : (b : Batch) (t : ℕ) → Told alone lane true (prepare_due log.header.shape log.capacity lane txs) log log1 (Ok (b, t)) → (log' : Sight) (J : ℕ → Sight) (node : ℕ) → IsLockWant K alone b t parts log1 log' I J node
-      → IsBatchWant K alone lane txs log I log' J node
-  prepared_want b t told log' J node want = (parts, are, wants_at_lock b log1 t told want)

@@ -9,3 +9,5 @@ pub mod Causes
 pub mod Keeping
 pub mod Wanting
 pub mod Readied
+pub mod Showing
+pub mod Outcomes

@@ -1,21 +1,17 @@
 // A batch of a lane, phase by phase.
-ghost use Rattle.std.specs.Prelude.{◌≡◌, ◌≢◌, ◌≤◌, ◌<◌, true, [], ◌∷◌, length, map, IfOk, IfErr, OnOk, All, ℕ};
+ghost use Rattle.std.specs.Prelude.{◌≡◌, ◌≤◌, ◌<◌, [], ◌∷◌, length, map, IfOk, OnOk, All};
 ghost use Rattle.std.specs.Vec.{vec_capacity};
-ghost use Rattle.cbdc_types.specs.declared.calls.NodeFault.TheVariants.{Memory};
 ghost use Rattle.cbdc_model.specs.Slots.{Idle, InPrepare, InCommit, InDiscard};
 ghost use Rattle.cbdc_model.specs.Ranges.{home_of};
 ghost use Rattle.cbdc_model.specs.Grammar.{HasSize, IsBatchOf, IsCompact};
-ghost use Rattle.lane_driver.specs.Calls.{shard, forget_of, AreParts};
-ghost use Rattle.lane_driver.specs.Keeping.{KeepsLog, KeepsShards};
-ghost use Rattle.lane_driver.specs.Told.{IsLane, KeepsOthers, AreShardsOf, AreLockCalls, AreFitParts, IsStamp, AreShards};
+ghost use Rattle.lane_driver.specs.Calls.{shard, forget_of};
+ghost use Rattle.lane_driver.specs.Told.{IsLane, AreShardsOf, AreLockCalls, AreFitParts, IsStamp, AreShards};
 ghost use Rattle.lane_driver.specs.Rooms.{IsBatchRoom, IsLaterRoom};
-ghost use Rattle.lane_driver.specs.Reports.{AreReports};
-ghost use Rattle.lane_driver.specs.Causes.{IsCausedStop, IsCausedFault};
-ghost use Rattle.lane_driver.specs.Stops.{IsDiscardedStopped, IsCommittedStopped, IsPreparedStopped, IsOneStopped, IsOneTold, IsOneStoppedAt, IsOneToldAt, IsBatchStopped, IsBatchTold, IsOneBatch, IsSettled};
+ghost use Rattle.lane_driver.specs.Reports.{AreBatchReports};
+ghost use Rattle.lane_driver.specs.Stops.{IsLaneSettled};
 ghost use Rattle.lane_driver.specs.Readied.{IsReadied};
-ghost use Rattle.lane_driver.specs.Wanting.{IsLockWant, IsBatchWant};
-ghost use Rattle.lane_laws.specs.Batches.{Settled, BatchDone};
-ghost use Rattle.lane_laws.specs.Traces.{ToldDiscarded, ToldCommitted, ToldPrepared};
+ghost use Rattle.lane_driver.specs.Showing.{PortsShow, PortsTell, KeepsLanePorts};
+ghost use Rattle.lane_driver.specs.Outcomes.{DiscardedCame, CommittedCame, PreparedCame, DriveCame, OneBatchCame};
 
 use crate::fault::{BatchReport, LaneFault, LaneReport, Stop, no_memory};
 use crate::making::ready;
@@ -40,7 +36,7 @@ fn home(shape: &Shape, lane: LaneId) -> NodeId
 }
 
 /// Takes a discarded batch to its end: the shards forget it, and it is done. Its forget calls are made so many times
-/// more after their phase. There is room for the calls, and no memory is wanted.
+/// more after their phase. There is room for the calls, and it takes no memory.
 pub fn from_discarded<S: PortSet<G>, L: LogPort, G: Gate>(
     shape: &Shape,
     batch: &BatchId,
@@ -65,14 +61,10 @@ pub fn from_discarded<S: PortSet<G>, L: LogPort, G: Gate>(
     requires empty { forgets.old.items ≡ [] }
     requires room { length locks.now ≤ vec_capacity forgets.old }
     requires answers { length locks.now ≤ vec_capacity stamped.old }
-    ensures told { OnOk result (ToldDiscarded L.alone batch.now cause repeats locks.now (L.sights ports.old.log (L.at ports.old.log)) (L.sights ports.new.log (L.at ports.new.log)) (S.sights ports.old.shards) (S.sights ports.new.shards)) }
-    ensures stopped { IfErr result (IsDiscardedStopped shape.now L.alone batch.now cause repeats locks.now (L.sights ports.old.log (L.at ports.old.log)) (L.sights ports.new.log (L.at ports.new.log)) (S.sights ports.old.shards) (S.sights ports.new.shards)) }
-    ensures fault { IfErr result (λ e. IsCausedStop shape.now (L.sights ports.new.log) (S.sights ports.new.shards) e.node e.fault) }
-    ensures no_want { IfErr result (λ e. e.fault ≢ Memory) }
+    ensures outcome { PortsTell L.LogPort S.PortSet ports.old ports.new
+        (DiscardedCame shape.now L.alone batch.now cause repeats locks.now result) }
     ensures phase { OnOk result (L.phase ports.new.log batch.now.lane ≡ Idle) }
-    ensures others { L.alone ≡ true → KeepsOthers (L.header ports.old.log) batch.now.lane (L.phase ports.old.log) (L.phase ports.new.log) (L.open_txs ports.old.log) (L.open_txs ports.new.log) }
-    ensures keeps_log { KeepsLog L.at L.header L.count L.sights L.faults L.holds ports.old.log ports.new.log }
-    ensures keeps_shards { KeepsShards S.count S.sights S.faults S.holds S.serves ports.old.shards ports.new.shards }
+    ensures keeps { KeepsLanePorts L.LogPort S.PortSet batch.now.lane ports.old ports.new }
     ensures calls { forgets.new.items ≡ map (forget_of batch.now cause) locks.now }
     ensures capacity { vec_capacity stamped.new ≡ vec_capacity stamped.old }
 {
@@ -92,7 +84,7 @@ pub fn from_discarded<S: PortSet<G>, L: LogPort, G: Gate>(
 }
 
 /// Takes a committed batch to its end: the shards apply it, it is discarded, and the shards forget it. Its finish and
-/// forget calls are made so many times more after their phase, and all its calls after it is done. No memory is wanted.
+/// forget calls are made so many times more after their phase, and all its calls after it is done. It takes no memory.
 pub fn from_committed<S: PortSet<G>, L: LogPort, G: Gate>(
     shape: &Shape,
     batch: &BatchId,
@@ -120,14 +112,10 @@ pub fn from_committed<S: PortSet<G>, L: LogPort, G: Gate>(
     requires cause { IsStamp cause }
     requires again { length locks.now ≤ vec_capacity again.old }
     requires room { IsLaterRoom (length locks.now) (length outcomes.now) room }
-    ensures told { OnOk result (ToldCommitted L.alone batch.now cause outcomes.now repeats locks.now (L.sights ports.old.log (L.at ports.old.log)) (L.sights ports.new.log (L.at ports.new.log)) (S.sights ports.old.shards) (S.sights ports.new.shards)) }
-    ensures stopped { IfErr result (IsCommittedStopped shape.now L.alone batch.now cause outcomes.now repeats locks.now (L.sights ports.old.log (L.at ports.old.log)) (L.sights ports.new.log (L.at ports.new.log)) (S.sights ports.old.shards) (S.sights ports.new.shards)) }
-    ensures fault { IfErr result (λ e. IsCausedStop shape.now (L.sights ports.new.log) (S.sights ports.new.shards) e.node e.fault) }
-    ensures no_want { IfErr result (λ e. e.fault ≢ Memory) }
+    ensures outcome { PortsTell L.LogPort S.PortSet ports.old ports.new
+        (CommittedCame shape.now L.alone batch.now cause outcomes.now repeats locks.now result) }
     ensures phase { OnOk result (L.phase ports.new.log batch.now.lane ≡ Idle) }
-    ensures others { L.alone ≡ true → KeepsOthers (L.header ports.old.log) batch.now.lane (L.phase ports.old.log) (L.phase ports.new.log) (L.open_txs ports.old.log) (L.open_txs ports.new.log) }
-    ensures keeps_log { KeepsLog L.at L.header L.count L.sights L.faults L.holds ports.old.log ports.new.log }
-    ensures keeps_shards { KeepsShards S.count S.sights S.faults S.holds S.serves ports.old.shards ports.new.shards }
+    ensures keeps { KeepsLanePorts L.LogPort S.PortSet batch.now.lane ports.old ports.new }
 {
     let LaterRoom {
         mut finishes,
@@ -171,8 +159,8 @@ pub fn from_committed<S: PortSet<G>, L: LogPort, G: Gate>(
 }
 
 /// Takes a prepared batch to its end: its shards lock their parts, it is decided by their replies, and what follows
-/// a Commit. Each shard call is made so many times more after its phase, and all its calls after it is done. Memory is
-/// wanted only at a Lock.
+/// a Commit. Each shard call is made so many times more after its phase, and all its calls after it is done. Memory runs
+/// out only at a Lock.
 pub fn from_prepared<S: PortSet<G>, L: LogPort, G: Gate>(
     shape: &Shape,
     batch: &BatchId,
@@ -194,14 +182,10 @@ pub fn from_prepared<S: PortSet<G>, L: LogPort, G: Gate>(
     requires cause { IsStamp cause }
     requires parts { AreFitParts (S.sights ports.old.shards) room.parts }
     requires room { IsBatchRoom shape.now.shards (length (L.open_txs ports.old.log batch.now.lane)) room }
-    ensures told { IfOk result (ToldPrepared L.alone batch.now cause repeats room.parts (L.sights ports.old.log (L.at ports.old.log)) (L.sights ports.new.log (L.at ports.new.log)) (S.sights ports.old.shards) (S.sights ports.new.shards)) }
-    ensures stopped { IfErr result (IsPreparedStopped shape.now L.alone batch.now cause repeats room.parts (L.sights ports.old.log (L.at ports.old.log)) (L.sights ports.new.log (L.at ports.new.log)) (S.sights ports.old.shards) (S.sights ports.new.shards)) }
-    ensures fault { IfErr result (λ e. IsCausedStop shape.now (L.sights ports.new.log) (S.sights ports.new.shards) e.node e.fault) }
-    ensures want { IfErr result (λ e. e.fault ≡ Memory → IsLockWant shape.now L.alone batch.now cause room.parts (L.sights ports.old.log (L.at ports.old.log)) (L.sights ports.new.log (L.at ports.new.log)) (S.sights ports.old.shards) (S.sights ports.new.shards) e.node) }
+    ensures outcome { PortsTell L.LogPort S.PortSet ports.old ports.new
+        (PreparedCame shape.now L.alone batch.now cause repeats room.parts result) }
     ensures phase { OnOk result (L.phase ports.new.log batch.now.lane ≡ Idle) }
-    ensures others { L.alone ≡ true → KeepsOthers (L.header ports.old.log) batch.now.lane (L.phase ports.old.log) (L.phase ports.new.log) (L.open_txs ports.old.log) (L.open_txs ports.new.log) }
-    ensures keeps_log { KeepsLog L.at L.header L.count L.sights L.faults L.holds ports.old.log ports.new.log }
-    ensures keeps_shards { KeepsShards S.count S.sights S.faults S.holds S.serves ports.old.shards ports.new.shards }
+    ensures keeps { KeepsLanePorts L.LogPort S.PortSet batch.now.lane ports.old ports.new }
     ensures outcomes { IfOk result (λ os. length os ≡ length (L.open_txs ports.old.log batch.now.lane)) }
 {
     let BatchRoom {
@@ -257,15 +241,10 @@ pub(crate) fn drive_batch<S: PortSet<G>, L: LogPort, G: Gate>(
     requires size { HasSize shape.now txs.now }
     requires limits { All IsCompact txs.now }
     requires readied { IsReadied shape.now txs.now room }
-    ensures done { IfOk result (λ r. (k : ℕ) → Settled shape.now lane k (L.sights ports.old.log (L.at ports.old.log)) (S.sights ports.old.shards) → BatchDone shape.now L.alone lane k txs.now (L.sights ports.old.log (L.at ports.old.log)) (S.sights ports.old.shards) (L.sights ports.new.log (L.at ports.new.log)) (S.sights ports.new.shards) r.batch r.outcomes) }
-    ensures stopped { IfErr result (IsOneStoppedAt shape.now L.alone lane txs.now (L.sights ports.old.log (L.at ports.old.log)) (S.sights ports.old.shards) (L.sights ports.new.log (L.at ports.new.log)) (S.sights ports.new.shards)) }
-    ensures told { IfErr result (IsOneToldAt shape.now L.alone lane txs.now repeats (L.sights ports.old.log (L.at ports.old.log)) (S.sights ports.old.shards) (L.sights ports.new.log (L.at ports.new.log)) (S.sights ports.new.shards)) }
-    ensures fault { IfErr result (λ e. IsCausedStop shape.now (L.sights ports.new.log) (S.sights ports.new.shards) e.node e.fault) }
-    ensures want { IfErr result (λ e. e.fault ≡ Memory → IsBatchWant shape.now L.alone lane txs.now (L.sights ports.old.log (L.at ports.old.log)) (S.sights ports.old.shards) (L.sights ports.new.log (L.at ports.new.log)) (S.sights ports.new.shards) e.node) }
+    ensures outcome { PortsTell L.LogPort S.PortSet ports.old ports.new
+        (DriveCame shape.now L.alone lane txs.now repeats result) }
     ensures idle { OnOk result (L.phase ports.new.log lane ≡ Idle) }
-    ensures others { L.alone ≡ true → KeepsOthers (L.header ports.old.log) lane (L.phase ports.old.log) (L.phase ports.new.log) (L.open_txs ports.old.log) (L.open_txs ports.new.log) }
-    ensures keeps_log { KeepsLog L.at L.header L.count L.sights L.faults L.holds ports.old.log ports.new.log }
-    ensures keeps_shards { KeepsShards S.count S.sights S.faults S.holds S.serves ports.old.shards ports.new.shards }
+    ensures keeps { KeepsLanePorts L.LogPort S.PortSet lane ports.old ports.new }
     ensures report { IfOk result (λ r. (r.batch.lane ≡ lane) × (length r.outcomes ≡ length txs.now)) }
 {
     let _limit = shape.batch();
@@ -281,46 +260,6 @@ pub(crate) fn drive_batch<S: PortSet<G>, L: LogPort, G: Gate>(
     match from_prepared(shape, &batch, prepared, room, ports, repeats, gate) {
         Ok(outcomes) => Ok(BatchReport { batch, outcomes }),
         Err(fault) => Err(fault),
-    }
-}
-
-// One batch of an idle lane, from its Prepare to its end: all its driver's memory is taken first.
-pub(crate) fn one_batch<S: PortSet<G>, L: LogPort, G: Gate>(
-    alloc: Global,
-    shape: &Shape,
-    lane: LaneId,
-    txs: &[CompactTx],
-    ports: &mut Ports<S, L>,
-    repeats: u32,
-    gate: &G,
-) -> Result<BatchReport, Stop>
-    requires same { S.alone ≡ L.alone }
-    requires at { L.at ports.old.log ≡ home_of shape.now lane }
-    requires home { IsLane (L.header ports.old.log) lane }
-    requires shape { (L.header ports.old.log).shape ≡ shape.now }
-    requires idle { L.phase ports.old.log lane ≡ Idle }
-    requires count { S.count ports.old.shards ≡ shape.now.shards }
-    requires ledger { AreShardsOf shape.now (S.sights ports.old.shards) }
-    requires mine { S.serves ports.old.shards lane }
-    requires size { HasSize shape.now txs.now }
-    requires limits { All IsCompact txs.now }
-    ensures done { IfOk result (λ r. (k : ℕ) → Settled shape.now lane k (L.sights ports.old.log (L.at ports.old.log)) (S.sights ports.old.shards) → BatchDone shape.now L.alone lane k txs.now (L.sights ports.old.log (L.at ports.old.log)) (S.sights ports.old.shards) (L.sights ports.new.log (L.at ports.new.log)) (S.sights ports.new.shards) r.batch r.outcomes) }
-    ensures stopped { IfErr result (IsOneStopped shape.now L.alone lane txs.now (L.sights ports.old.log (L.at ports.old.log)) (S.sights ports.old.shards) (L.sights ports.new.log (L.at ports.new.log)) (S.sights ports.new.shards)) }
-    ensures told { IfErr result (IsOneTold shape.now L.alone lane txs.now repeats (L.sights ports.old.log (L.at ports.old.log)) (S.sights ports.old.shards) (L.sights ports.new.log (L.at ports.new.log)) (S.sights ports.new.shards)) }
-    ensures fault { IfErr result (λ e. IsCausedStop shape.now (L.sights ports.new.log) (S.sights ports.new.shards) e.node e.fault) }
-    ensures idle { OnOk result (L.phase ports.new.log lane ≡ Idle) }
-    ensures others { L.alone ≡ true → KeepsOthers (L.header ports.old.log) lane (L.phase ports.old.log) (L.phase ports.new.log) (L.open_txs ports.old.log) (L.open_txs ports.new.log) }
-    ensures keeps_log { KeepsLog L.at L.header L.count L.sights L.faults L.holds ports.old.log ports.new.log }
-    ensures keeps_shards { KeepsShards S.count S.sights S.faults S.holds S.serves ports.old.shards ports.new.shards }
-    ensures report { IfOk result (λ r. (r.batch.lane ≡ lane) × (length r.outcomes ≡ length txs.now)) }
-{
-    let _limit = shape.batch();
-    match BatchRoom::take(alloc, shape, txs) {
-        Ok(room) => drive_batch(shape, lane, txs, room, ports, repeats, gate),
-        Err(_) => Err(Stop {
-            node: NodeId(0),
-            fault: NodeFault::Memory,
-        }),
     }
 }
 
@@ -346,18 +285,14 @@ pub fn run_batch<S: PortSet<G>, L: LogPort, G: Gate>(
     requires count { S.count ports.old.shards ≡ shape.now.shards }
     requires ledger { AreShardsOf shape.now (S.sights ports.old.shards) }
     requires mine { S.serves ports.old.shards lane }
-    requires settled { IsSettled shape.now lane (L.sights ports.old.log (L.at ports.old.log)) (S.sights ports.old.shards) }
+    requires settled { PortsShow L.LogPort S.PortSet ports.old (IsLaneSettled shape.now lane) }
     requires size { HasSize shape.now txs.now }
     requires limits { All IsCompact txs.now }
-    ensures done { IfOk result (λ r. IsOneBatch shape.now L.alone lane txs.now (L.sights ports.old.log (L.at ports.old.log)) (S.sights ports.old.shards) (L.sights ports.new.log (L.at ports.new.log)) (S.sights ports.new.shards) r.batches) }
-    ensures stopped { IfErr result (IsBatchStopped shape.now L.alone lane txs.now (L.sights ports.old.log (L.at ports.old.log)) (S.sights ports.old.shards) (L.sights ports.new.log (L.at ports.new.log)) (S.sights ports.new.shards)) }
-    ensures told { IfErr result (IsBatchTold shape.now L.alone lane txs.now repeats (L.sights ports.old.log (L.at ports.old.log)) (S.sights ports.old.shards) (L.sights ports.new.log (L.at ports.new.log)) (S.sights ports.new.shards)) }
-    ensures fault { IfErr result (IsCausedFault shape.now (L.sights ports.new.log) (S.sights ports.new.shards)) }
+    ensures outcome { PortsTell L.LogPort S.PortSet ports.old ports.new
+        (OneBatchCame shape.now L.alone lane txs.now repeats result) }
     ensures idle { OnOk result (L.phase ports.new.log lane ≡ Idle) }
-    ensures others { L.alone ≡ true → KeepsOthers (L.header ports.old.log) lane (L.phase ports.old.log) (L.phase ports.new.log) (L.open_txs ports.old.log) (L.open_txs ports.new.log) }
-    ensures keeps_log { KeepsLog L.at L.header L.count L.sights L.faults L.holds ports.old.log ports.new.log }
-    ensures keeps_shards { KeepsShards S.count S.sights S.faults S.holds S.serves ports.old.shards ports.new.shards }
-    ensures report { IfOk result (λ r. AreReports lane r.batches (txs.now ∷ [])) }
+    ensures keeps { KeepsLanePorts L.LogPort S.PortSet lane ports.old ports.new }
+    ensures report { IfOk result (λ r. AreBatchReports lane r.batches (txs.now ∷ [])) }
 {
     let mut batches = match Vec::with_capacity(alloc, 1) {
         Ok(batches) => batches,

@@ -1,7 +1,7 @@
 // What a lane reports, and why it stopped.
 ghost use Rattle.std.specs.Prelude.{◌≡◌, ◌/◌};
 ghost use Rattle.lane_laws.specs.Faults.{IsNoRefusal};
-ghost use Rattle.lane_driver.specs.Faults.{IsFaultOf};
+ghost use Rattle.lane_driver.specs.Faults.{IsLaneFaultOf};
 
 use cbdc_types::{BatchId, List, NodeFault, NodeId, Outcomes, Stamp};
 use thiserror::Error;
@@ -54,7 +54,7 @@ pub struct Stop {
 /// The lane's fault where its batch stopped so. A broken node is one whose disk failed.
 pub fn lane_fault(stop: Stop) -> LaneFault
     requires { IsNoRefusal stop.fault }
-    ensures { IsFaultOf result stop.node stop.fault }
+    ensures { IsLaneFaultOf result stop.node stop.fault }
 {
     let Stop { node, fault } = stop;
     let fault = match fault {

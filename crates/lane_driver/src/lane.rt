@@ -1,19 +1,16 @@
 // A lane's transactions, batch by batch.
-ghost use Rattle.std.specs.Prelude.{◌≡◌, ◌≤◌, ◌<◌, true, [], List, length, reverse, IfOk, IfErr, OnOk, All, ℕ};
-ghost use Rattle.std.specs.Vec.{vec_capacity};
-ghost use Rattle.cbdc_model.specs.Records.{Compact};
+ghost use Rattle.std.specs.Prelude.{◌≡◌, [], IfOk, OnOk, All};
 ghost use Rattle.cbdc_model.specs.Slots.{Idle};
 ghost use Rattle.cbdc_model.specs.Grammar.{IsCompact};
 ghost use Rattle.cbdc_model.specs.Ranges.{home_of};
-ghost use Rattle.lane_laws.specs.Batches.{Settled, LaneSo};
-ghost use Rattle.lane_driver.specs.Causes.{IsCausedFault};
-ghost use Rattle.lane_driver.specs.Stops.{IsLaneStopped, IsLaneTold, IsSettled};
-ghost use Rattle.lane_driver.specs.Keeping.{KeepsLog, KeepsShards};
-ghost use Rattle.lane_driver.specs.Told.{IsLane, KeepsOthers, AreShardsOf};
-ghost use Rattle.lane_driver.specs.Reports.{IsReported, AreDone};
+ghost use Rattle.lane_driver.specs.Stops.{IsLaneSettled};
+ghost use Rattle.lane_driver.specs.Told.{IsLane, AreShardsOf};
+ghost use Rattle.lane_driver.specs.Reports.{IsReported};
+ghost use Rattle.lane_driver.specs.Showing.{PortsShow, PortsTell, KeepsLanePorts};
+ghost use Rattle.lane_driver.specs.Outcomes.{LaneCame};
 
-use crate::batch::one_batch;
-use crate::fault::{LaneFault, LaneReport, lane_fault, no_memory};
+use crate::fault::{LaneFault, LaneReport, no_memory};
+use crate::making::ready;
 use crate::port::{LogPort, PortSet, Ports};
 use crate::source::Source;
 use cbdc_types::{LaneId, List, Shape};
@@ -48,21 +45,16 @@ pub fn run_lane<S: PortSet<G>, L: LogPort, X: Source, G: Gate>(
     requires count { S.count ports.old.shards ≡ shape.now.shards }
     requires ledger { AreShardsOf shape.now (S.sights ports.old.shards) }
     requires mine { S.serves ports.old.shards lane }
-    requires settled { IsSettled shape.now lane (L.sights ports.old.log (L.at ports.old.log)) (S.sights ports.old.shards) }
+    requires settled { PortsShow L.LogPort S.PortSet ports.old (IsLaneSettled shape.now lane) }
     requires limits { All IsCompact (X.all source.old) }
     ensures same { X.all source.new ≡ X.all source.old }
-    ensures done { OnOk result ((k : ℕ) → Settled shape.now lane k (L.sights ports.old.log (L.at ports.old.log)) (S.sights ports.old.shards) → LaneSo shape.now L.alone lane (X.all source.old) [] (L.sights ports.old.log (L.at ports.old.log)) (S.sights ports.old.shards) (L.sights ports.new.log (L.at ports.new.log)) (S.sights ports.new.shards)) }
-    ensures stopped { IfErr result (IsLaneStopped shape.now L.alone lane (X.all source.old) (L.sights ports.old.log (L.at ports.old.log)) (S.sights ports.old.shards) (L.sights ports.new.log (L.at ports.new.log)) (S.sights ports.new.shards)) }
-    ensures told { IfErr result (IsLaneTold shape.now L.alone lane (X.all source.old) repeats (L.sights ports.old.log (L.at ports.old.log)) (S.sights ports.old.shards) (L.sights ports.new.log (L.at ports.new.log)) (S.sights ports.new.shards)) }
-    ensures fault { IfErr result (IsCausedFault shape.now (L.sights ports.new.log) (S.sights ports.new.shards)) }
-    ensures idle { OnOk result (L.phase ports.new.log lane ≡ Idle) }
-    ensures others { L.alone ≡ true → KeepsOthers (L.header ports.old.log) lane (L.phase ports.old.log) (L.phase ports.new.log) (L.open_txs ports.old.log) (L.open_txs ports.new.log) }
-    ensures keeps_log { KeepsLog L.at L.header L.count L.sights L.faults L.holds ports.old.log ports.new.log }
-    ensures keeps_shards { KeepsShards S.count S.sights S.faults S.holds S.serves ports.old.shards ports.new.shards }
-    ensures report { IfOk result (λ r. IsReported lane shape.now.batch (X.all source.old) [] r.batches) }
 
-    // Each reported batch was done behind the one before it, with the outcomes of its Commit.
-    ensures batches { IfOk result (λ r. (k : ℕ) → Settled shape.now lane k (L.sights ports.old.log (L.at ports.old.log)) (S.sights ports.old.shards) → AreDone shape.now L.alone lane (X.all source.old) (L.sights ports.old.log (L.at ports.old.log)) (S.sights ports.old.shards) (reverse r.batches) [] (L.sights ports.new.log (L.at ports.new.log)) (S.sights ports.new.shards)) }
+    // All its batches are done, one behind the other, each with the outcomes of its Commit; or it stopped, with those before it done.
+    ensures outcome { PortsTell L.LogPort S.PortSet ports.old ports.new
+        (LaneCame shape.now L.alone lane (X.all source.old) repeats result) }
+    ensures idle { OnOk result (L.phase ports.new.log lane ≡ Idle) }
+    ensures keeps { KeepsLanePorts L.LogPort S.PortSet lane ports.old ports.new }
+    ensures report { IfOk result (λ r. IsReported lane shape.now.batch (X.all source.old) [] r.batches) }
 {
     let size = shape.batch() as usize;
     let mut batches = match Vec::with_capacity(alloc, source.begin().div_ceil(size)) {
@@ -78,9 +70,13 @@ pub fn run_lane<S: PortSet<G>, L: LogPort, X: Source, G: Gate>(
         if piece.is_empty() {
             break;
         }
-        match one_batch(alloc, shape, lane, piece, ports, repeats, gate) {
+        let ready = match ready(alloc, shape, lane, piece) {
+            Ok(ready) => ready,
+            Err(_) => return Err(no_memory()),
+        };
+        match ready.go(ports, repeats, gate) {
             Ok(report) => batches.push_reserved(report),
-            Err(stop) => return Err(lane_fault(stop)),
+            Err(fault) => return Err(fault),
         }
     }
     Ok(LaneReport {

@@ -13,8 +13,9 @@
 //!   where the batch lacks its Prepare or a Lock. The calls of a phase are made at all concerned shards, whatever one answers, and the fault is that
 //!   of the least shard that had one. `run_lane` stops with something left to do, or had no memory before its first call. The lane is settled before:
 //!   so no shard refuses a call of it, and its fault is a disk's, Full, ClockEnd or Memory. Each node is the one that it was, and where the ports are
-//!   alone other lanes are as before, whatever came (done, batches, stopped, told, report, idle, others, fault, keeps_log (`KeepsLog`), keeps_shards
-//!   (`KeepsShards`)). Tested in `node_rows` (`lanes.rows`, `repeats.rows`).
+//!   alone other lanes are as before, whatever came (outcome, report, idle, keeps (`KeepsLanePorts`)). The outcome is told call by call; what a batch
+//!   and a lane leave, the cause of the fault and where memory ran out follow from it (proofs/Outcomes.antt). Tested in `node_rows` (`lanes.rows`,
+//!   `repeats.rows`).
 //! - Open: how often a call is repeated is tested, since a repeated call leaves nothing that a clause could count; so is, for the same reason, in
 //!   which order the calls of a batch are made; a Lock that a shard was not asked could be told as one for which it had no memory, since neither
 //!   leaves anything.

@@ -1,15 +1,12 @@
 // A batch for which all memory is taken.
-ghost use Rattle.std.specs.Prelude.{◌≡◌, true, length, IfOk, IfErr, OnOk, All, ℕ};
+ghost use Rattle.std.specs.Prelude.{◌≡◌, length, IfOk, OnOk, All};
 ghost use Rattle.cbdc_model.specs.Slots.{Idle};
 ghost use Rattle.cbdc_model.specs.Ranges.{home_of};
 ghost use Rattle.cbdc_model.specs.Grammar.{HasSize, IsCompact};
-ghost use Rattle.lane_laws.specs.Batches.{Settled, BatchDone};
-ghost use Rattle.lane_driver.specs.Keeping.{KeepsLog, KeepsShards};
-ghost use Rattle.lane_driver.specs.Told.{IsLane, KeepsOthers, AreShardsOf};
-ghost use Rattle.lane_driver.specs.Causes.{IsCausedFault};
-ghost use Rattle.lane_driver.specs.Stops.{IsBatchStoppedAt, IsBatchToldAt, IsSettled};
-ghost use Rattle.lane_driver.specs.Wanting.{IsBatchWant};
-ghost use Rattle.lane_driver.specs.declared.fault.LaneFaultKind.TheVariants.{Memory as NoMemory};
+ghost use Rattle.lane_driver.specs.Told.{IsLane, AreShardsOf};
+ghost use Rattle.lane_driver.specs.Stops.{IsLaneSettled};
+ghost use Rattle.lane_driver.specs.Showing.{PortsShow, PortsTell, KeepsLanePorts};
+ghost use Rattle.lane_driver.specs.Outcomes.{BatchCame};
 
 use crate::batch::drive_batch;
 use crate::fault::{BatchReport, LaneFault, lane_fault};
@@ -44,7 +41,7 @@ impl<'a> Ready<'a> {
     /// times more after its phase, and all its shard calls after it is done. It takes no memory of its own: it answers out of
     /// memory only where a node did, at the Prepare or at a Lock.
     ///
-    /// Out of memory: where a node ran out of it, its coordinator at the Prepare or a shard at a Lock (`want`). Nothing of the batch stands at its
+    /// Out of memory: where a node ran out of it, its coordinator at the Prepare or a shard at a Lock (`outcome`). Nothing of the batch stands at its
     /// coordinator and the shards then; or its Prepare does, and what the other shards answered to their Locks, and behind the Locks nothing was
     /// asked.
     pub fn go<S: PortSet<G>, L: LogPort, G: Gate>(
@@ -61,20 +58,16 @@ impl<'a> Ready<'a> {
         requires count { S.count ports.old.shards ≡ self.shape.shards }
         requires ledger { AreShardsOf self.shape (S.sights ports.old.shards) }
         requires mine { S.serves ports.old.shards self.lane }
-        requires settled { IsSettled self.shape self.lane (L.sights ports.old.log (L.at ports.old.log)) (S.sights ports.old.shards) }
+        requires settled { PortsShow L.LogPort S.PortSet ports.old (IsLaneSettled self.shape self.lane) }
         requires size { HasSize self.shape self.txs }
         requires limits { All IsCompact self.txs }
-        ensures done { IfOk result (λ r. (k : ℕ) → Settled self.entry.shape self.entry.lane k (L.sights ports.old.log (L.at ports.old.log)) (S.sights ports.old.shards) → BatchDone self.entry.shape L.alone self.entry.lane k self.entry.txs (L.sights ports.old.log (L.at ports.old.log)) (S.sights ports.old.shards) (L.sights ports.new.log (L.at ports.new.log)) (S.sights ports.new.shards) r.batch r.outcomes) }
-        ensures stopped { IfErr result (IsBatchStoppedAt self.entry.shape L.alone self.entry.lane self.entry.txs (L.sights ports.old.log (L.at ports.old.log)) (S.sights ports.old.shards) (L.sights ports.new.log (L.at ports.new.log)) (S.sights ports.new.shards)) }
-        ensures told { IfErr result (IsBatchToldAt self.entry.shape L.alone self.entry.lane self.entry.txs repeats (L.sights ports.old.log (L.at ports.old.log)) (S.sights ports.old.shards) (L.sights ports.new.log (L.at ports.new.log)) (S.sights ports.new.shards)) }
-        ensures fault { IfErr result (IsCausedFault self.entry.shape (L.sights ports.new.log) (S.sights ports.new.shards)) }
 
-        // It answers out of memory only where a node did: its coordinator at the Prepare, or a shard at a Lock.
-        ensures want { IfErr result (λ e. e.fault ≡ NoMemory → IsBatchWant self.entry.shape L.alone self.entry.lane self.entry.txs (L.sights ports.old.log (L.at ports.old.log)) (S.sights ports.old.shards) (L.sights ports.new.log (L.at ports.new.log)) (S.sights ports.new.shards) e.node) }
+        // It is done, or it stopped at a call, with that node's answer: out of memory only where the node was its coordinator at the Prepare, or a
+        // shard at a Lock.
+        ensures outcome { PortsTell L.LogPort S.PortSet ports.old ports.new
+            (BatchCame self.entry.shape L.alone self.entry.lane self.entry.txs repeats result) }
         ensures idle { OnOk result (L.phase ports.new.log self.entry.lane ≡ Idle) }
-        ensures others { L.alone ≡ true → KeepsOthers (L.header ports.old.log) self.entry.lane (L.phase ports.old.log) (L.phase ports.new.log) (L.open_txs ports.old.log) (L.open_txs ports.new.log) }
-        ensures keeps_log { KeepsLog L.at L.header L.count L.sights L.faults L.holds ports.old.log ports.new.log }
-        ensures keeps_shards { KeepsShards S.count S.sights S.faults S.holds S.serves ports.old.shards ports.new.shards }
+        ensures keeps { KeepsLanePorts L.LogPort S.PortSet self.entry.lane ports.old ports.new }
         ensures report { IfOk result (λ r. (r.batch.lane ≡ self.entry.lane) × (length r.outcomes ≡ length self.entry.txs)) }
     {
         let Ready {

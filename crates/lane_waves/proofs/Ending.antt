@@ -10,10 +10,11 @@ use Rattle.cbdc_model.specs.Ranges.{home_of}
 use Rattle.cbdc_model.specs.Sights.{Sight}
 use Rattle.lane_laws.specs.Batches.{LaneSo}
 use Rattle.lane_driver.specs.Told.{IsStillNode}
-use Rattle.lane_driver.specs.Stops.{IsSettled, IsLaneStopped}
+use Rattle.lane_driver.specs.Stops.{IsLaneSettled, IsLaneStopped}
 use Rattle.lane_driver.specs.Reports.{IsReported, AreDone}
 use Rattle.lane_driver.specs.declared.fault.LaneFault.{LaneFault}
 use Rattle.lane_driver.specs.declared.fault.LaneReport.{LaneReport}
+use Rattle.lane_driver.proofs.Outcomes.{lane_so, lane_left}
 use Rattle.ledger_runs.specs.Lanes.{LaneOf}
 use Rattle.node_lock.specs.declared.views.Hand.{Hand}
 use Rattle.node_lock.specs.declared.lock.Guarded.{Guarded}
@@ -31,7 +32,7 @@ use Rattle.port_sets.proofs.Seating.{seen_here}
 use Rattle.thread_laws.specs.Closing.{IsHand}
 use Rattle.thread_laws.specs.Running.{LaneRan}
 use Rattle.thread_laws.specs.Whole.{LaneHasEnded}
-use Rattle.lane_waves.specs.Held.{TakeCallsOf, RunBegins, RunEnds, HasRun, log_of, logs_of, shards_of}
+use Rattle.lane_waves.specs.Held.{TakeCallsOf, RunBegins, RunEnds, HasRun, log_of, logs_of, shards_of, sights_of}
 use Rattle.lane_waves.specs.Ports.{seats_of}
 use Rattle.lane_waves.specs.declared.runs.LaneRun.{LaneRun}
 use Rattle.lane_waves.proofs.Returning.{all_home}
@@ -90,7 +91,7 @@ module _ {W D S B X : Type 0} {G : Ghosts B} (sight : S → Sight) (tables : ℕ
   may_keep r q e (Some (Err fault)) k = tt
 
   -- how a lane ended
-  ended_of : (lane : ℕ) (x y : LaneOf) (r q : LaneRun W D S B X G) → r.lane ≡ lane → IsSettled K r.lane (log_of sight tables K r) (shards_of sight tables K r) → q.work ≡ r.work
+  ended_of : (lane : ℕ) (x y : LaneOf) (r q : LaneRun W D S B X G) → r.lane ≡ lane → IsLaneSettled K r.lane (log_of sight tables K r) (shards_of sight tables K r) → q.work ≡ r.work
       → (o : Option (Result LaneReport LaneFault)) → HasRun sight tables K r q o → IsLaneEnd q.work o y
       → (y.txs ≡ q.work.txs) × LaneHasEnded K lane (log_of sight tables K r) (shards_of sight tables K r) (log_of sight tables K q) (shards_of sight tables K q) x y
   ended_of lane x y r q l settled w None k e = absurd k
@@ -104,9 +105,10 @@ module _ {W D S B X : Type 0} {G : Ghosts B} (sight : S → Sight) (tables : ℕ
         e.txs,
         inl (
           record {
-            so = subst (λ n. LaneSo K false n y.txs [] log shards log' shards') l (subst (λ ts. LaneSo K false r.lane ts [] log shards log' shards') txs (k.done settled.0 settled.1));
+            so = subst (λ n. LaneSo K false n y.txs [] log shards log' shards') l (subst (λ ts. LaneSo K false r.lane ts [] log shards log' shards') txs
+                (lane_so K false r.lane settled.0 r.work.txs log shards settled.1 (reverse report.batches) [] log' shards' k.outcome));
             batches = report.batches;
-            done = subst (λ n. AreDone K false n y.txs log shards (reverse report.batches) [] log' shards') l (subst (λ ts. AreDone K false r.lane ts log shards (reverse report.batches) [] log' shards') txs (k.batches settled.0 settled.1));
+            done = subst (λ n. AreDone K false n y.txs log shards (reverse report.batches) [] log' shards') l (subst (λ ts. AreDone K false r.lane ts log shards (reverse report.batches) [] log' shards') txs k.outcome);
             reported = subst (λ n. IsReported n K.batch y.txs [] report.batches) l (subst (λ ts. IsReported r.lane K.batch ts [] report.batches) txs k.named);
           },
           (none, λ a b. (e.kept, e.count)),
@@ -122,7 +124,8 @@ module _ {W D S B X : Type 0} {G : Ghosts B} (sight : S → Sight) (tables : ℕ
         e.0,
         inr (
           fault,
-          subst (λ n. IsLaneStopped K false n y.txs log shards log' shards' fault) l (subst (λ ts. IsLaneStopped K false r.lane ts log shards log' shards' fault) txs k.stopped),
+          subst (λ n. IsLaneStopped K false n y.txs log shards log' shards' fault) l (subst (λ ts. IsLaneStopped K false r.lane ts log shards log' shards' fault) txs
+              (lane_left K false r.lane r.work.txs r.work.repeats (sights_of sight tables K r) (sights_of sight tables K q) fault k.outcome)),
           ((λ none. let z : None ≡ Some fault = sym none ∙ is in cc), λ z. is),
         ),
       )
@@ -195,7 +198,7 @@ module _ {W D S B X : Type 0} {G : Ghosts B} (sight : S → Sight) (tables : ℕ
         let shards = shards_of sight tables K r in
         let log' = log_of sight tables K q in
         let shards' = shards_of sight tables K q in
-        let settled : IsSettled K lane log shards = subst (λ l. IsSettled K l log shards) k.set_up.lane_is begins.settled in
+        let settled : IsLaneSettled K lane log shards = subst (λ l. IsLaneSettled K l log shards) k.set_up.lane_is begins.settled in
         let first : Sight = log_at gs (home_of K lane) in
         let last_is : log' ≡ seat_sight log_sight q.ports.log.seat = seen_here q.ports.log.node (seat_sight log_sight q.ports.log.seat) in
         let still : IsStillNode log log' = subst (λ n. IsStillNode log (logs_of sight tables K q n)) (sym k.ends.at) (k.ends.log_nodes r.ports.log.node) in

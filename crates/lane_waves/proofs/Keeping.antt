@@ -2,7 +2,7 @@
 use Rattle.std.proofs.Common.{◌≡◌, ℕ, zero, suc, ◌+◌, ◌<◌, List, [], ◌∷◌, ◌++◌, map, length, reverse, drop, get_or, set, min, ◌-◌, refl, sym, ap, ◌∙◌, arith}
 use Rattle.std.proofs.lemmas.List.{length-take, length-drop, drop_more}
 use Rattle.cbdc_model.specs.Records.{Compact, Batch, Outcome}
-use Rattle.lane_driver.specs.Reports.{CutFrom, AreReports, IsReported}
+use Rattle.lane_driver.specs.Reports.{CutFrom, AreBatchReports, IsReported}
 use Rattle.lane_driver.specs.declared.fault.BatchReport.{BatchReport}
 use Rattle.ledger_runs.specs.Telling.{decided_in}
 use Rattle.thread_laws.specs.Telling.{told_in}
@@ -41,7 +41,7 @@ cut_sum n txs (p ∷ ps) rest (before, cut, some, p_is, rest_is) =
     let whole : min n (length before) + (length before - n) ≡ length before = omega arith in
     omega (arith, all, front, back, whole)
 
-told_sum : (lane : ℕ) (reports : List BatchReport) (ps : List (List Compact)) → AreReports lane reports ps → length (told_in reports) ≡ summed ps
+told_sum : (lane : ℕ) (reports : List BatchReport) (ps : List (List Compact)) → AreBatchReports lane reports ps → length (told_in reports) ≡ summed ps
 told_sum lane [] [] k = refl
 told_sum lane [] (p ∷ ps) k = absurd k
 told_sum lane (r ∷ rs) [] k = absurd k

@@ -8,7 +8,7 @@ use Rattle.cbdc_types.specs.Limits.{IsWithinLimits}
 use Rattle.cbdc_model.specs.Records.{Shape}
 use Rattle.cbdc_model.specs.Ranges.{home_of, shard_node}
 use Rattle.cbdc_model.specs.Sights.{Sight}
-use Rattle.lane_driver.specs.Stops.{IsSettled}
+use Rattle.lane_driver.specs.Stops.{IsLaneSettled}
 use Rattle.node_lock.specs.declared.lock.Guarded.{Guarded}
 use Rattle.node_lock.specs.declared.seat.Seat.{Seat}
 use Rattle.node_lock.specs.Seats.{TableId, AreFresh, opening_of, table_of, lanes_of}
@@ -147,7 +147,7 @@ module _ {D S : Type 0} (sight : S → Sight) (K : Shape) (gs : List (Guarded (S
 
     pub are_open : IsWithinLimits K → length ns ≡ K.coordinators → length ms ≡ K.shards → AreNodesOf K (sight_at log_sight ns) (sight_at (shard_sight sight) ms)
         → All (λ l. (log_sight l).opened ≤ (log_sight l).faults) ns → All (λ s. (shard_sight sight s).opened ≤ (shard_sight sight s).faults) ms
-        → ((lane : ℕ) → lane < K.coordinators * K.lanes → IsSettled K lane (sight_at log_sight ns (home_of K lane)) (sight_at (shard_sight sight) ms))
+        → ((lane : ℕ) → lane < K.coordinators * K.lanes → IsLaneSettled K lane (sight_at log_sight ns (home_of K lane)) (sight_at (shard_sight sight) ms))
         → AllFrom (λ n g. lanes_of g ≡ home_lanes K n) 0 gs → AllFrom (λ s h. lanes_of h ≡ all_lanes K) 0 hs → AreLocksOpen sight (tables_of K.coordinators gs hs) K gs hs
     are_open limits logs_many shards_many ledger logs_since shards_since settled log_lanes shard_lanes =
         let gs_many : length gs ≡ length ns = sym (map_many opening_of gs) ∙ ap (λ (xs : List (SharedLog D)). length xs) logs_are in
@@ -174,7 +174,7 @@ module _ {D S : Type 0} (sight : S → Sight) (K : Shape) (gs : List (Guarded (S
               let zero_more : i ≡ 0 + i = omega arith in
               let at = ledger.shards_are i low in
               subst (λ s. IsOpenNodeAt K (shard_node K (0 + i)) s) is (record { shape = at.0; node = at.1 ∙ ap (λ (j : ℕ). shard_node K j) zero_more; since = since_at (shard_sight sight) ms i shards_since within }));
-          settled = λ lane lt. subst (λ f. IsSettled K lane (f (home_of K lane)) (shard_at sight hs)) (sym logs_at) (subst (λ f. IsSettled K lane (sight_at log_sight ns (home_of K lane)) f) (sym shards_at) (settled lane lt));
+          settled = λ lane lt. subst (λ f. IsLaneSettled K lane (f (home_of K lane)) (shard_at sight hs)) (sym logs_at) (subst (λ f. IsLaneSettled K lane (sight_at log_sight ns (home_of K lane)) f) (sym shards_at) (settled lane lt));
           log_lanes = log_lanes;
           shard_lanes = shard_lanes;
           log_tables = log_tables (gs_many ∙ logs_many);

@@ -8,7 +8,7 @@ use Rattle.cbdc_model.specs.Slots.{slot, slot_stamp, InLock}
 use Rattle.cbdc_model.specs.Ranges.{home_of, shard_node}
 use Rattle.cbdc_model.specs.Sights.{Sight}
 use Rattle.lane_driver.specs.Told.{IsLane}
-use Rattle.lane_driver.specs.Stops.{IsSettled}
+use Rattle.lane_driver.specs.Stops.{IsLaneSettled}
 use Rattle.ledger_runs.specs.Lanes.{LaneOf}
 use Rattle.node_lock.specs.declared.lock.Guarded.{Guarded}
 use Rattle.node_lock.specs.declared.seat.Seat.{Seat}
@@ -42,7 +42,7 @@ module _ {N : Type 0} (sight : N → Sight) where
   seat_started s n lane e f = ap (λ o. viewed (opening_sight sight o) (knows s)) e ∙ ap (λ (h : Hand). viewed (sight n) h) f
 
 -- what a lane is settled by
-pub settled_like : (K : Shape) (lane : ℕ) (log log' : Sight) (I J : ℕ → Sight) → log'.header ≡ log.header → log'.seen ≡ log.seen → ((s : ℕ) → (J s).seen ≡ (I s).seen) → IsSettled K lane log I → IsSettled K lane log' J
+pub settled_like : (K : Shape) (lane : ℕ) (log log' : Sight) (I J : ℕ → Sight) → log'.header ≡ log.header → log'.seen ≡ log.seen → ((s : ℕ) → (J s).seen ≡ (I s).seen) → IsLaneSettled K lane log I → IsLaneSettled K lane log' J
 settled_like K lane log log' I J eh es f k =
     let n = k.0 in let s = k.1 in (
       n,
@@ -138,7 +138,7 @@ module _ {W D S B X : Type 0} {G : Ghosts B} (sight : S → Sight) (tables : ℕ
       ap (λ q. seen_at q.node (seat_sight (log_sight {D = D}) q.seat) q.node) log_is ∙ (seen_here p.node (seat_sight log_sight p.seat) ∙ (seat_seen ∙ ap (started lane) (sym at_home))) in
       let r_seen : seat_sight (log_sight {D = D}) r.ports.log.seat ≡ started lane (log_sight (opening_of g)) = ap (λ q. seat_sight (log_sight {D = D}) q.seat) log_is ∙ seat_seen in
       let shards_seen : (s : ℕ) → shards_of sight tables K r s ≡ started lane (shard_at sight hs s) = ports_started sight lane hs ss r.ports.shards.each.ports.items dealt ports in
-      let rest : IsSettled K lane (log_at gs (home_of K lane)) (shard_at sight hs) = open_.settled lane lane_low in
+      let rest : IsLaneSettled K lane (log_at gs (home_of K lane)) (shard_at sight hs) = open_.settled lane lane_low in
       let my_lane : r.lane ≡ (knows r.ports.log.seat).lane = lane_is ∙ sym (ap (λ q. (knows q.seat).lane) log_is ∙ ap (λ (h : Hand). h.lane) knew) in
       let r_node : r.ports.log.node ≡ home = ap (λ q. q.node) log_is ∙ node in
       record {
@@ -162,7 +162,7 @@ module _ {W D S B X : Type 0} {G : Ghosts B} (sight : S → Sight) (tables : ℕ
               let at = all_here (λ n x. IsOpenNodeAt K (shard_node K n) (shard_sight sight (opening_of x))) hs s got.0 open_.shards got.1 in
               let is : shards_of sight tables K r s ≡ started lane (shard_sight sight (opening_of got.0)) = shards_seen s ∙ ap (started lane) (seen_get (λ x. shard_sight sight (opening_of x)) hs s got.0 got.1).0 in
               (ap (λ (v : Sight). v.header.shape) is ∙ at.shape, ap (λ (v : Sight). v.header.node) is ∙ at.node);
-          settled = subst (λ l. IsSettled K l (log_of sight tables K r) (shards_of sight tables K r)) (sym lane_is)
+          settled = subst (λ l. IsLaneSettled K l (log_of sight tables K r) (shards_of sight tables K r)) (sym lane_is)
               (settled_like K lane (log_at gs (home_of K lane)) (log_of sight tables K r) (shard_at sight hs) (shards_of sight tables K r)
               (ap (λ (v : Sight). v.header) log_seen) (ap (λ (v : Sight). v.seen) log_seen) (λ s. ap (λ (v : Sight). v.seen) (shards_seen s)) rest);
           ours = subst (λ l. TakeCallsOf sight l r.ports.shards.each.ports.items) (sym lane_is) (ports_ours sight K lane 0 hs ss r.ports.shards.each.ports.items dealt ports open_.shards);

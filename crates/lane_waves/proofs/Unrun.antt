@@ -4,7 +4,7 @@ use Rattle.std.specs.Prelude.{slice_get}
 use Rattle.cbdc_model.specs.Records.{Shape}
 use Rattle.cbdc_model.specs.Ranges.{home_of}
 use Rattle.cbdc_model.specs.Sights.{Sight}
-use Rattle.lane_driver.specs.Stops.{IsSettled}
+use Rattle.lane_driver.specs.Stops.{IsLaneSettled}
 use Rattle.ledger_runs.specs.Lanes.{LaneOf}
 use Rattle.node_lock.specs.declared.views.Hand.{Hand}
 use Rattle.node_lock.specs.Tickets.{times, total, lane_at, fresh, AllHands}
@@ -72,7 +72,7 @@ still_ran first last ls apart still = record {
 
 -- a lane that was not run
 pub unrun : (K : Shape) (logs shards : ℕ → Sight) (log_hands shard_hands : ℕ → List Hand) (lane : ℕ) (x y : LaneOf)
-    → IsSettled K lane (logs (home_of K lane)) shards → IsHand (fresh (logs (home_of K lane)) lane) (log_hands (home_of K lane)) → ((s : ℕ) → s < K.shards → IsHand (fresh (shards s) lane) (shard_hands s))
+    → IsLaneSettled K lane (logs (home_of K lane)) shards → IsHand (fresh (logs (home_of K lane)) lane) (log_hands (home_of K lane)) → ((s : ℕ) → s < K.shards → IsHand (fresh (shards s) lane) (shard_hands s))
     → ((s : ℕ) → K.shards ≤ s → shards s ≡ no_node) → y.txs ≡ x.txs → HasStoppedForMemory y → LaneRan K logs shards log_hands shard_hands lane x y
 unrun K logs shards log_hands shard_hands lane x y settled at_home at_shards past txs stopped = record {
   log = started lane (logs (home_of K lane));

@@ -9,7 +9,7 @@ use Rattle.cbdc_model.specs.Records.{Shape}
 use Rattle.cbdc_model.specs.Grammar.{IsCompact}
 use Rattle.cbdc_model.specs.Ranges.{home_of}
 use Rattle.cbdc_model.specs.Sights.{Sight}
-use Rattle.lane_driver.specs.Stops.{IsSettled}
+use Rattle.lane_driver.specs.Stops.{IsLaneSettled}
 use Rattle.ledger_runs.specs.Turning.{IsLaneOf}
 use Rattle.ledger_runs.specs.Lanes.{LaneOf}
 use Rattle.node_lock.specs.declared.lock.Guarded.{Guarded}
@@ -112,7 +112,7 @@ at_shard K first lane lt = let is : 0 + lane ≡ lane = omega arith in subst (λ
 
 -- nodes that were asked nothing, and lanes that have stopped for want of memory
 pub unrun_wave : (K : Shape) (logs shards logs' shards' : ℕ → Sight) (old new : List LaneOf) → IsWithinLimits K → ((n : ℕ) → n < K.coordinators → IsStillSight (logs n) (logs' n)) → ((s : ℕ) → s < K.shards → IsStillSight (shards s) (shards' s))
-    → ((s : ℕ) → K.shards ≤ s → shards s ≡ no_node) → ((lane : ℕ) → lane < K.coordinators * K.lanes → IsSettled K lane (logs (home_of K lane)) shards) → length old ≡ K.coordinators * K.lanes
+    → ((s : ℕ) → K.shards ≤ s → shards s ≡ no_node) → ((lane : ℕ) → lane < K.coordinators * K.lanes → IsLaneSettled K lane (logs (home_of K lane)) shards) → length old ≡ K.coordinators * K.lanes
     → map (λ z. z.txs) new ≡ map (λ z. z.txs) old → All HasStoppedForMemory new → WaveRan K logs shards logs' shards' old new
 unrun_wave K logs shards logs' shards' old new limits still_logs still_shards past settled many same stopped = record {
   log_lanes = home_lanes K;

@@ -6,7 +6,7 @@ use Rattle.cbdc_model.specs.Records.{Shape}
 use Rattle.cbdc_model.specs.Grammar.{IsCompact}
 use Rattle.cbdc_model.specs.Ranges.{home_of, shard_node}
 use Rattle.cbdc_model.specs.Sights.{Sight}
-use Rattle.lane_driver.specs.Stops.{IsSettled}
+use Rattle.lane_driver.specs.Stops.{IsLaneSettled}
 use Rattle.ledger_runs.specs.Lanes.{LaneOf}
 use Rattle.node_lock.specs.declared.lock.Guarded.{Guarded}
 use Rattle.node_lock.specs.declared.seat.Seat.{Seat}
@@ -112,7 +112,7 @@ module _ {D S : Type 0} (sight : S → Sight) (tables : ℕ → TableId) (K : Sh
     pub shards_many : length hs ≡ K.shards
     pub logs : AllFrom (λ n g. IsOpenNodeAt K n (log_sight (opening_of g))) 0 gs
     pub shards : AllFrom (λ s h. IsOpenNodeAt K (shard_node K s) (shard_sight sight (opening_of h))) 0 hs
-    pub settled : (lane : ℕ) → lane < K.coordinators * K.lanes → IsSettled K lane (log_at gs (home_of K lane)) (shard_at sight hs)
+    pub settled : (lane : ℕ) → lane < K.coordinators * K.lanes → IsLaneSettled K lane (log_at gs (home_of K lane)) (shard_at sight hs)
     pub log_lanes : AllFrom (λ n g. lanes_of g ≡ home_lanes K n) 0 gs
     pub shard_lanes : AllFrom (λ s h. lanes_of h ≡ all_lanes K) 0 hs
     pub log_tables : AllFrom (λ n g. tables n ≡ table_of g) 0 gs

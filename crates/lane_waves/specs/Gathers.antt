@@ -44,7 +44,7 @@ abbrev pub MayKeep : LaneOf → Option (Result LaneReport LaneFault) → Type 0
 MayKeep x None = ⊥
 MayKeep x (Some came) = IfOk came (λ report. length (told_in report.batches) ≤ length x.txs)
 
--- the older list is what the newer one began as
+-- what a lane became when its run ended: its result is known, and is kept with it
 abbrev pub IsLaneEnd : LaneOf → Option (Result LaneReport LaneFault) → LaneOf → Type 0
 IsLaneEnd x None y = ⊥
 IsLaneEnd x (Some came) y = IsResultKept x came y

@@ -1,15 +1,15 @@
 -- A lane of a wave before and behind its run: what it says of itself, and that its seats are those of the wave's locks.
-use Rattle.std.specs.Prelude.{◌≡◌, ℕ, false, List, [], length, reverse, All, Option, Some, None, Result, Ok, Err}
+use Rattle.std.specs.Prelude.{◌≡◌, ℕ, false, List, [], length, All, Option, Some, None, Result, IfOk, OnOk}
 use Rattle.cbdc_model.specs.Records.{Shape}
 use Rattle.cbdc_model.specs.Slots.{Idle}
 use Rattle.cbdc_model.specs.Grammar.{IsCompact}
 use Rattle.cbdc_model.specs.Ranges.{home_of}
 use Rattle.cbdc_model.specs.Sights.{Sight}
-use Rattle.lane_laws.specs.Batches.{Settled, LaneSo}
 use Rattle.lane_driver.specs.Told.{IsLane, AreShardsOf, KeepNodes}
-use Rattle.lane_driver.specs.Stops.{IsSettled, IsLaneStopped, IsLaneTold}
-use Rattle.lane_driver.specs.Causes.{IsCausedFault}
-use Rattle.lane_driver.specs.Reports.{IsReported, AreDone}
+use Rattle.lane_driver.specs.Stops.{IsLaneSettled}
+use Rattle.lane_driver.specs.Reports.{IsReported}
+use Rattle.lane_driver.specs.Showing.{LaneSights}
+use Rattle.lane_driver.specs.Outcomes.{LaneCame}
 use Rattle.lane_driver.specs.declared.fault.LaneFault.{LaneFault}
 use Rattle.lane_driver.specs.declared.fault.LaneReport.{LaneReport}
 use Rattle.node_lock.specs.Seats.{TableId, knows, table_of}
@@ -40,6 +40,10 @@ module _ {W D S B X : Type 0} {G : Ghosts B} (sight : S → Sight) (tables : ℕ
   abbrev pub shards_of : LaneRun W D S B X G → ℕ → Sight
   shards_of r = sight_at (λ p. seat_sight (shard_sight sight) p.seat) r.ports.shards.each.ports.items
 
+  -- all of that
+  abbrev pub sights_of : LaneRun W D S B X G → LaneSights
+  sights_of r = record { home = log_of r; logs = logs_of r; shards = shards_of r }
+
   -- a run before its first call: seats of the wave's locks, of its own lane, at the nodes of the ledger; an idle, settled lane; transactions within
   -- the limits
   pub record RunBegins (r : LaneRun W D S B X G) : Type 0 where
@@ -50,28 +54,20 @@ module _ {W D S B X : Type 0} {G : Ghosts B} (sight : S → Sight) (tables : ℕ
     pub idle : seat_phase (knows r.ports.log.seat).lane (seat_sight (log_sight {D = D}) r.ports.log.seat) r.lane ≡ Idle
     pub count_is : length r.ports.shards.each.ports.items ≡ K.shards
     pub ledger : AreShardsOf K (shards_of r)
-    pub settled : IsSettled K r.lane (log_of r) (shards_of r)
+    pub settled : IsLaneSettled K r.lane (log_of r) (shards_of r)
     pub ours : TakeCallsOf sight r.lane r.ports.shards.each.ports.items
     pub limits : All IsCompact r.work.txs
 
-  -- where it came to its end it has done all, and else it tells at what it stopped
-  pub record RanAll (r q : LaneRun W D S B X G) (report : LaneReport) : Type 0 where
-    pub done : (k : ℕ) → Settled K r.lane k (log_of r) (shards_of r) → LaneSo K false r.lane r.work.txs [] (log_of r) (shards_of r) (log_of q) (shards_of q)
-    pub idle : seat_phase (knows q.ports.log.seat).lane (seat_sight (log_sight {D = D}) q.ports.log.seat) r.lane ≡ Idle
-    pub named : IsReported r.lane K.batch r.work.txs [] report.batches
-    pub batches : (k : ℕ) → Settled K r.lane k (log_of r) (shards_of r) → AreDone K false r.lane r.work.txs (log_of r) (shards_of r) (reverse report.batches) [] (log_of q) (shards_of q)
+  -- what a run came to; where it has done all its lane is idle, and it reports an outcome for each transaction
+  pub record HasCome (r q : LaneRun W D S B X G) (came : Result LaneReport LaneFault) : Type 0 where
+    pub outcome : LaneCame K false r.lane r.work.txs r.work.repeats came (sights_of r) (sights_of q)
+    pub idle : OnOk came (seat_phase (knows q.ports.log.seat).lane (seat_sight (log_sight {D = D}) q.ports.log.seat) r.lane ≡ Idle)
+    pub named : IfOk came (λ report. IsReported r.lane K.batch r.work.txs [] report.batches)
 
-  -- it stopped, with what is told of that and its cause
-  pub record RanUntil (r q : LaneRun W D S B X G) (fault : LaneFault) : Type 0 where
-    pub stopped : IsLaneStopped K false r.lane r.work.txs (log_of r) (shards_of r) (log_of q) (shards_of q) fault
-    pub told : IsLaneTold K false r.lane r.work.txs r.work.repeats (log_of r) (shards_of r) (log_of q) (shards_of q) fault
-    pub cause : IsCausedFault K (logs_of q) (shards_of q) fault
-
-  -- one of these, by what came
+  -- it has run, and that is known
   abbrev pub HasRun : LaneRun W D S B X G → LaneRun W D S B X G → Option (Result LaneReport LaneFault) → Type 0
   HasRun r q None = ⊥
-  HasRun r q (Some (Ok report)) = RanAll r q report
-  HasRun r q (Some (Err fault)) = RanUntil r q fault
+  HasRun r q (Some came) = HasCome r q came
 
   -- a run behind its last call: the same lane, transactions, locks and nodes, and `HasRun`
   pub record RunEnds (r q : LaneRun W D S B X G) : Type 0 where

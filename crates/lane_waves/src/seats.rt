@@ -1,18 +1,16 @@
 // The shards of a ledger through a lane's seats, and a lane over them.
-ghost use Rattle.std.specs.Prelude.{◌≡◌, ℕ, [], length, reverse, All, IfOk, IfErr, OnOk};
+ghost use Rattle.std.specs.Prelude.{◌≡◌, [], length, All, IfOk, OnOk};
 ghost use denote.Param.Send.{IsSync, IsSend};
 ghost use Rattle.cbdc_model.specs.Slots.{Idle};
 ghost use Rattle.cbdc_model.specs.Grammar.{IsCompact};
 ghost use Rattle.cbdc_model.specs.Ranges.{home_of};
-ghost use Rattle.lane_laws.specs.Batches.{Settled, LaneSo};
-ghost use Rattle.lane_driver.specs.Causes.{IsCausedFault};
-ghost use Rattle.lane_driver.specs.Stops.{IsLaneStopped, IsLaneTold, IsSettled};
-ghost use Rattle.lane_driver.specs.Keeping.{KeepsLog};
+ghost use Rattle.lane_driver.specs.Stops.{IsLaneSettled};
 ghost use Rattle.lane_driver.specs.Told.{IsLane, AreShardsOf};
-ghost use Rattle.lane_driver.specs.Reports.{IsReported, AreDone};
+ghost use Rattle.lane_driver.specs.Reports.{IsReported};
+ghost use Rattle.lane_driver.specs.Outcomes.{LaneCame};
 ghost use Rattle.node_ports.specs.Nodes.{sight_at};
 ghost use Rattle.port_sets.specs.Phase.{MakesAll, AsksLocks, AsksFinishes, AsksForgets, Locks, Finishes, Forgets, IsToldAtOnce};
-ghost use Rattle.lane_waves.specs.Phases.{KeepsPorts};
+ghost use Rattle.lane_waves.specs.Phases.{SeatsShow, SeatsTell, KeepsSeats};
 
 use cbdc_types::{FinishCall, ForgetCall, LaneId, LockCall, NodeFault, Replied, Shape, Stamp};
 use lane_driver::{LaneFault, LaneReport, LogPort, PortSet, Ports, ShardPort, Source, run_lane};
@@ -107,20 +105,16 @@ pub(crate) fn run_over<
     requires count { length ports.old.shards.each.ports.items ≡ shape.now.shards }
     requires ledger { AreShardsOf shape.now (sight_at P.sight ports.old.shards.each.ports.items) }
     requires mine { All (λ p. P.serves p lane) ports.old.shards.each.ports.items }
-    requires settled { IsSettled shape.now lane (L.sights ports.old.log (L.at ports.old.log)) (sight_at P.sight ports.old.shards.each.ports.items) }
+    requires settled { SeatsShow L.LogPort P.ShardPort ports.old (IsLaneSettled shape.now lane) }
     requires limits { All IsCompact (Y.all source.old) }
     ensures same { Y.all source.new ≡ Y.all source.old }
-    ensures done { OnOk result ((k : ℕ) → Settled shape.now lane k (L.sights ports.old.log (L.at ports.old.log)) (sight_at P.sight ports.old.shards.each.ports.items) → LaneSo shape.now L.alone lane (Y.all source.old) [] (L.sights ports.old.log (L.at ports.old.log)) (sight_at P.sight ports.old.shards.each.ports.items) (L.sights ports.new.log (L.at ports.new.log)) (sight_at P.sight ports.new.shards.each.ports.items)) }
-    ensures stopped { IfErr result (IsLaneStopped shape.now L.alone lane (Y.all source.old) (L.sights ports.old.log (L.at ports.old.log)) (sight_at P.sight ports.old.shards.each.ports.items) (L.sights ports.new.log (L.at ports.new.log)) (sight_at P.sight ports.new.shards.each.ports.items)) }
-    ensures told { IfErr result (IsLaneTold shape.now L.alone lane (Y.all source.old) repeats (L.sights ports.old.log (L.at ports.old.log)) (sight_at P.sight ports.old.shards.each.ports.items) (L.sights ports.new.log (L.at ports.new.log)) (sight_at P.sight ports.new.shards.each.ports.items)) }
-    ensures fault { IfErr result (IsCausedFault shape.now (L.sights ports.new.log) (sight_at P.sight ports.new.shards.each.ports.items)) }
-    ensures idle { OnOk result (L.phase ports.new.log lane ≡ Idle) }
-    ensures keeps_log { KeepsLog L.at L.header L.count L.sights L.faults L.holds ports.old.log ports.new.log }
-    ensures keeps_shards { KeepsPorts P.sight P.holds P.serves ports.old.shards.each.ports.items ports.new.shards.each.ports.items }
-    ensures report { IfOk result (λ r. IsReported lane shape.now.batch (Y.all source.old) [] r.batches) }
 
-    // Each reported batch was done behind the one before it, with the outcomes of its Commit.
-    ensures batches { IfOk result (λ r. (k : ℕ) → Settled shape.now lane k (L.sights ports.old.log (L.at ports.old.log)) (sight_at P.sight ports.old.shards.each.ports.items) → AreDone shape.now L.alone lane (Y.all source.old) (L.sights ports.old.log (L.at ports.old.log)) (sight_at P.sight ports.old.shards.each.ports.items) (reverse r.batches) [] (L.sights ports.new.log (L.at ports.new.log)) (sight_at P.sight ports.new.shards.each.ports.items)) }
+    // All its batches are done, one behind the other, each with the outcomes of its Commit; or it stopped, with those before it done.
+    ensures outcome { SeatsTell L.LogPort P.ShardPort ports.old ports.new
+        (LaneCame shape.now L.alone lane (Y.all source.old) repeats result) }
+    ensures idle { OnOk result (L.phase ports.new.log lane ≡ Idle) }
+    ensures keeps { KeepsSeats L.LogPort P.ShardPort ports.old ports.new }
+    ensures report { IfOk result (λ r. IsReported lane shape.now.batch (Y.all source.old) [] r.batches) }
 {
     let rt = ports.shards.rt;
     let lock = |calls: &[(u32, LockCall)], out: &mut Vec<

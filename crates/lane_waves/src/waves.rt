@@ -5,7 +5,7 @@ ghost use Rattle.cbdc_model.specs.Grammar.{IsCompact};
 ghost use Rattle.cbdc_model.specs.Ranges.{home_of};
 ghost use Rattle.node_journal.specs.Nodes.{sight};
 ghost use Rattle.node_ports.specs.Nodes.{sight_at, IsNodeHeld};
-ghost use Rattle.lane_driver.specs.Stops.{IsSettled};
+ghost use Rattle.lane_driver.specs.Stops.{IsLaneSettled};
 ghost use Rattle.port_sets.specs.Nodes.{log_sight, shard_sight};
 ghost use Rattle.lane_waves.specs.NodeRows.{AreRows, AreLocked, AreStill, AreLeft};
 ghost use Rattle.lane_waves.specs.Held.{RunBegins};
@@ -328,7 +328,7 @@ fn wave_shared<
     requires ledger { AreNodesOf shape.now (sight_at log_sight nodes.logs.items) (sight_at (shard_sight S.sight) nodes.shards.items) }
     requires logs_since { All (λ l. (log_sight l).opened ≤ (log_sight l).faults) nodes.logs.items }
     requires shards_since { All (λ s. (shard_sight S.sight s).opened ≤ (shard_sight S.sight s).faults) nodes.shards.items }
-    requires settled { (lane : ℕ) → lane < shape.now.coordinators * shape.now.lanes → IsSettled shape.now lane (sight_at log_sight nodes.logs.items (home_of shape.now lane)) (sight_at (shard_sight S.sight) nodes.shards.items) }
+    requires settled { (lane : ℕ) → lane < shape.now.coordinators * shape.now.lanes → IsLaneSettled shape.now lane (sight_at log_sight nodes.logs.items (home_of shape.now lane)) (sight_at (shard_sight S.sight) nodes.shards.items) }
     requires home_rows { AllFrom (IsHomeRow shape.now) 0 home_rows.items }
     requires home_rows_many { length home_rows.items ≡ shape.now.coordinators }
     requires shard_rows { AllFrom (IsShardRow shape.now) 0 shard_rows.items }
@@ -406,7 +406,7 @@ pub fn wave<
     requires logs_many { length nodes.logs.items ≡ shape.now.coordinators }
     requires shards_many { length nodes.shards.items ≡ shape.now.shards }
     requires ledger { AreNodesOf shape.now (sight_at sight nodes.logs.items) (sight_at S.sight nodes.shards.items) }
-    requires settled { (lane : ℕ) → lane < shape.now.coordinators * shape.now.lanes → IsSettled shape.now lane (sight_at sight nodes.logs.items (home_of shape.now lane)) (sight_at S.sight nodes.shards.items) }
+    requires settled { (lane : ℕ) → lane < shape.now.coordinators * shape.now.lanes → IsLaneSettled shape.now lane (sight_at sight nodes.logs.items (home_of shape.now lane)) (sight_at S.sight nodes.shards.items) }
     requires limits { All (λ x. All IsCompact x.txs) lanes.old.items }
     requires lanes_many { length lanes.old.items ≡ shape.now.coordinators * shape.now.lanes }
     ensures ran { WaveRan shape.now (sight_at sight nodes.logs.items) (sight_at S.sight nodes.shards.items) (sight_at sight result.logs.items) (sight_at S.sight result.shards.items) lanes.old.items lanes.new.items }

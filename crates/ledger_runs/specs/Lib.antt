@@ -8,3 +8,4 @@ pub mod Flying
 pub mod Least
 pub mod Keeping
 pub mod Planning
+pub mod Turns

@@ -2,7 +2,8 @@
 ghost use Rattle.std.specs.Prelude.{◌≡◌, length, reverse, IfOk, IfSome, All};
 ghost use Rattle.std.specs.List.{AllZip};
 ghost use Rattle.cbdc_model.specs.Grammar.{HasSize};
-ghost use Rattle.ledger_runs.specs.Planning.{AreFound, IsPlanOf};
+ghost use Rattle.ledger_runs.specs.Planning.{IsPlanOf};
+ghost use Rattle.ledger_runs.specs.Turns.{FindsOpen};
 
 use crate::Turns;
 use cbdc_types::{LaneId, OpenLane, Shape};
@@ -15,7 +16,7 @@ pub(crate) fn open_lanes<L: Turns>(
     alloc: Global,
     ledger: &L,
 ) -> Result<Vec<Option<OpenLane>>, AllocError>
-    ensures { IfOk result (λ found. AreFound (L.shape ledger.now) (L.journals ledger.now) (L.opens ledger.now) found.items) }
+    ensures { IfOk result (λ found. FindsOpen L.Turns ledger.now found.items) }
 {
     let count = ledger.shape().lane_count();
     let mut found = Vec::with_capacity(alloc, count as usize)?;

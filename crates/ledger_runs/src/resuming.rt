@@ -1,19 +1,17 @@
 // Batches that an earlier run left open.
-ghost use Rattle.std.specs.Prelude.{◌≡◌, ◌⊎◌, ◌≤◌, ◌<◌, ◌+◌, ◌*◌, ℕ, [], IfOk, IfErr, OnOk};
+ghost use Rattle.std.specs.Prelude.{◌≡◌, ◌⊎◌, ◌≤◌, ◌<◌, ◌+◌, ℕ, IfOk, IfErr, OnOk};
 ghost use Rattle.std.specs.Vec.{vec_len, vec_capacity};
 ghost use Rattle.cbdc_model.specs.Lanes.{IsEnd};
 ghost use Rattle.lane_driver.specs.declared.fault.LaneFaultKind.TheVariants.{Memory};
 ghost use Rattle.cbdc_model.specs.World.{AreIdle};
-ghost use Rattle.cbdc_model.specs.Waves.{IsResumed};
 ghost use Rattle.cbdc_model.specs.Slots.{Idle};
 ghost use Rattle.ledger_runs.specs.Keeping.{KeepsLedger};
-ghost use Rattle.ledger_runs.specs.Turning.{lane_phase, IsLaneOf, KeepsLanes, OfKept, StaysKept, TookUpOne};
+ghost use Rattle.ledger_runs.specs.Turning.{lane_phase, IsLaneOf, KeepsLanes};
 ghost use Rattle.ledger_runs.specs.Planning.{IsFound, IsPlanOf, KeepsOpens};
-ghost use Rattle.ledger_runs.specs.Flying.{FliesOn, Launches};
-ghost use Rattle.ledger_runs.specs.Least.{IsUnbegunForMemory, IsLeastOpen};
-ghost use Rattle.ledger_runs.specs.Telling.{TakesUp, TellResumed, SamePrepared};
-ghost use Rattle.ledger_runs.specs.Pieces.{HasPreparedPieces};
-ghost use Rattle.ledger_runs.specs.Faults.{GrowBy, TakesInOrder, IsOpenCause, IsRunCause, AllRestOrWait, HaveFailed, MayHoldBytes, Nothing};
+ghost use Rattle.ledger_runs.specs.Least.{IsUnbegunForMemory};
+ghost use Rattle.ledger_runs.specs.Telling.{SamePrepared};
+ghost use Rattle.ledger_runs.specs.Faults.{GrowBy, TakesInOrder};
+ghost use Rattle.ledger_runs.specs.Turns.{TurnsStayKept, TurnsFlyOn, TurnsLaunchNone, TurnPreparesNone, TookUpIn, TakesUpIn, IsTurnCaused, AreTurnsCaused, IsTurnsLeast, TurnsRest, TurnsResume, TurnsTell};
 
 use crate::Turns;
 use crate::openings::{open_lanes, plan_lanes};
@@ -43,19 +41,16 @@ fn resume_next<L: Turns, G: Gate>(
     ensures idle { OnOk result (lane_phase (L.shape ledger.old) (L.journals ledger.new) lane ≡ Idle) }
     ensures others { KeepsLanes (L.shape ledger.old) lane (L.journals ledger.old) (L.journals ledger.new) }
     ensures opens_same { KeepsOpens (L.shape ledger.old) lane (L.opens ledger.old) (L.opens ledger.new) }
-    ensures keeps { OfKept (L.shape ledger.old) (L.journals ledger.old) (StaysKept (L.shape ledger.old) (L.journals ledger.old) (L.journals ledger.new)) }
-    ensures took { OnOk result (OfKept (L.shape ledger.old) (L.journals ledger.old)
-        (λ _ _. TookUpOne (L.shape ledger.old) lane (L.journals ledger.old) (L.journals ledger.new) batches.old.items batches.new.items)) }
-    ensures told { OnOk result (OfKept (L.shape ledger.old) (L.journals ledger.old)
-        (λ _ _. TakesUp (L.shape ledger.old) lane (L.journals ledger.old) (L.journals ledger.new) batches.old.items batches.new.items)) }
+    ensures keeps { TurnsStayKept L.Turns ledger.old ledger.new }
+    ensures took { OnOk result (TookUpIn L.Turns lane ledger.old ledger.new batches.old.items batches.new.items) }
+    ensures told { OnOk result (TakesUpIn L.Turns lane ledger.old ledger.new batches.old.items batches.new.items) }
     ensures quiet { OnOk result (L.quiet ledger.old → L.quiet ledger.new) }
-    ensures flies { OfKept (L.shape ledger.old) (L.journals ledger.old) (FliesOn (L.shape ledger.old) (L.journals ledger.old) (L.journals ledger.new) (L.flights ledger.old) (L.flights ledger.new)) }
-    ensures launches { Launches (L.shape ledger.old) (λ _. Nothing) (L.journals ledger.old) (L.journals ledger.new) (L.flights ledger.old) (L.flights ledger.new) }
+    ensures flies { TurnsFlyOn L.Turns ledger.old ledger.new }
+    ensures launches { TurnsLaunchNone L.Turns ledger.old ledger.new }
     ensures checked { L.checked ledger.new }
     ensures grows { GrowBy lane (L.journals ledger.old) (L.journals ledger.new) }
-    ensures unprepared { HasPreparedPieces (L.shape ledger.old) lane [] (L.journals ledger.old) (L.journals ledger.new) }
-    ensures fault { IfErr result (IsOpenCause (L.shape ledger.old) lane (L.journals ledger.old) (L.journals ledger.new)
-        (HaveFailed (L.opened ledger.new) (L.faults ledger.new)) (MayHoldBytes (L.capacity ledger.new))) }
+    ensures unprepared { TurnPreparesNone L.Turns lane ledger.old ledger.new }
+    ensures fault { IfErr result (IsTurnCaused L.Turns lane ledger.old ledger.new) }
     ensures wanting { IfErr result (λ e. e.fault ≡ Memory → L.wanting ledger.new lane) }
     ensures wanting_same { (n : ℕ) → L.wanting ledger.old n → L.wanting ledger.new n }
 {
@@ -95,16 +90,15 @@ pub fn resume_all<L: Turns, G: Gate>(
     requires { L.checked ledger.old }
     ensures keeps_ledger { KeepsLedger L.shape L.opened L.faults L.capacity L.holds ledger.old ledger.new }
     ensures idle { OnOk result (AreIdle (L.shape ledger.old) (L.journals ledger.new)) }
-    ensures keeps { OfKept (L.shape ledger.old) (L.journals ledger.old) (StaysKept (L.shape ledger.old) (L.journals ledger.old) (L.journals ledger.new)) }
-    ensures resumed { OnOk result (OfKept (L.shape ledger.old) (L.journals ledger.old) (λ _ _. IsResumed (L.shape ledger.old) (L.journals ledger.old) (L.journals ledger.new))) }
+    ensures keeps { TurnsStayKept L.Turns ledger.old ledger.new }
+    ensures resumed { OnOk result (TurnsResume L.Turns ledger.old ledger.new) }
 
     // The batches that were open, in order, each with the phase in which it stood and what is decided of it; and none was prepared.
-    ensures told { IfOk result (λ rs. OfKept (L.shape ledger.old) (L.journals ledger.old)
-        (λ _ _. TellResumed (L.shape ledger.old) (L.journals ledger.old) (L.journals ledger.new) ((L.shape ledger.old).coordinators * (L.shape ledger.old).lanes) rs.items)) }
+    ensures told { IfOk result (λ rs. TurnsTell L.Turns ledger.old ledger.new rs.items) }
     ensures prepares { SamePrepared (L.shape ledger.old) (L.journals ledger.old) (L.journals ledger.new) }
     ensures quiet { OnOk result (L.quiet ledger.old → L.quiet ledger.new) }
-    ensures flies { OfKept (L.shape ledger.old) (L.journals ledger.old) (FliesOn (L.shape ledger.old) (L.journals ledger.old) (L.journals ledger.new) (L.flights ledger.old) (L.flights ledger.new)) }
-    ensures launches { Launches (L.shape ledger.old) (λ _. Nothing) (L.journals ledger.old) (L.journals ledger.new) (L.flights ledger.old) (L.flights ledger.new) }
+    ensures flies { TurnsFlyOn L.Turns ledger.old ledger.new }
+    ensures launches { TurnsLaunchNone L.Turns ledger.old ledger.new }
     ensures checked { L.checked ledger.new }
     ensures grows { (n : ℕ) → IsEnd (L.journals ledger.old n) (L.journals ledger.new n) }
 
@@ -112,17 +106,16 @@ pub fn resume_all<L: Turns, G: Gate>(
     ensures order { TakesInOrder (L.shape ledger.old) (L.journals ledger.old) (L.journals ledger.new) }
 
     // Its fault has its cause.
-    ensures fault { IfErr result (IsRunCause (L.shape ledger.old) (λ _. Nothing) (L.journals ledger.old) (L.journals ledger.new)
-        (HaveFailed (L.opened ledger.new) (L.faults ledger.new)) (MayHoldBytes (L.capacity ledger.new))) }
+    ensures fault { IfErr result (AreTurnsCaused L.Turns ledger.old ledger.new) }
 
     // It is that of the least lane that met one: all lesser lanes are idle. Only where memory ran out before the first was taken up
     // is nothing done.
-    ensures least { IfErr result (IsLeastOpen (L.shape ledger.old) (L.journals ledger.old) (L.journals ledger.new) (HaveFailed (L.opened ledger.new) (L.faults ledger.new)) (MayHoldBytes (L.capacity ledger.new))) }
+    ensures least { IfErr result (IsTurnsLeast L.Turns ledger.old ledger.new) }
 
     // Behind the fault of a lane each lane was taken up: it is between batches, or its batch lacks a Lock, or the disk of a node that it
     // asks has failed; or memory was wanting for its Locks, and it is prepared still.
-    ensures rests { IfErr result (λ e. IsUnbegunForMemory (L.journals ledger.old) (L.journals ledger.new) e ⊎ AllRestOrWait (L.shape ledger.old) (L.journals ledger.old) (L.journals ledger.new)
-        (HaveFailed (L.opened ledger.new) (L.faults ledger.new)) (L.wanting ledger.new)) }
+    ensures rests { IfErr result (λ e. IsUnbegunForMemory (L.journals ledger.old) (L.journals ledger.new) e
+        ⊎ TurnsRest L.Turns ledger.old ledger.new) }
 {
     let count = ledger.shape().lane_count();
     let Ok(mut batches) = Vec::with_capacity(alloc, count as usize) else {

@@ -13,7 +13,7 @@ use Rattle.cbdc_model.specs.Due.{Due, used_of, last_early, last_late, open_batch
 use Rattle.cbdc_model.specs.After.{IsJournal}
 use Rattle.cbdc_model.specs.Sights.{Sight, IsBrokenSince, MeetsFault, Meets, Told}
 use Rattle.lane_laws.specs.Answers.{DecideAnswer}
-use Rattle.lane_driver.specs.Told.{IsPrepared, IsStamp, AreReplies}
+use Rattle.lane_driver.specs.Told.{IsPreparedBatch, IsStamp, AreReplies}
 use Rattle.lane_driver.specs.Causes.{IsDecideCause}
 use Rattle.lane_driver.proofs.Causing.{commit_caused}
 use Rattle.coord_core.specs.Decided.{AreRepliesTo}
@@ -108,15 +108,15 @@ module _ (lane : ℕ) (txs : List Compact) (broken : Option ℕ) (old new : Sigh
       wrote_room true broken last_early first_stamp (used_of old.seen) (need_of old.header.shape old.seen fresh) old.capacity (new_batch old.seen lane, first_stamp) fresh old new old.seen a
       (subst (λ r. Meets true (prepare_due old.header.shape old.capacity lane txs broken old.seen) old new old.seen r) e meets)
 
-  named_batch : (J : List Record) → new.seen ≡ fresh ∷ J → IsJournal new.header new.seen → new.header ≡ old.header → first_stamp ≤ last_early → IsPrepared old.header.shape lane (new_batch old.seen lane, first_stamp)
+  named_batch : (J : List Record) → new.seen ≡ fresh ∷ J → IsJournal new.header new.seen → new.header ≡ old.header → first_stamp ≤ last_early → IsPreparedBatch old.header.shape lane (new_batch old.seen lane, first_stamp)
   named_batch J seen journal header within =
       let after = newest new.header fresh J (subst (λ x. IsJournal new.header x) seen journal) in
       record { lane_is = refl; batch = subst (λ h. (lane < h.shape.coordinators * h.shape.lanes) × (1 ≤ suc (slot old.seen lane).number) × (suc (slot old.seen lane).number ≤ 2 ^ 62)) header after.0.1; stamp = omega arith }
 
-  pub prepare_named : IsJournal new.header new.seen → IfOk result (IsPrepared old.header.shape lane)
-  prepare_named journal = on_ok result (IsPrepared old.header.shape lane) (λ a e.
+  pub prepare_named : IsJournal new.header new.seen → IfOk result (IsPreparedBatch old.header.shape lane)
+  prepare_named journal = on_ok result (IsPreparedBatch old.header.shape lane) (λ a e.
       (let w = prepare_wrote a e in
-      subst (λ a. IsPrepared old.header.shape lane a) (sym w.is)
+      subst (λ a. IsPreparedBatch old.header.shape lane a) (sym w.is)
       (named_batch old.seen w.seen journal (header_of true (prepare_due old.header.shape old.capacity lane txs broken old.seen) old new result meets) w.within)))
 
   pub prepare_phase : OnOk result ((slot new.seen lane).phase ≡ InPrepare)

@@ -6,7 +6,7 @@ use Rattle.cbdc_model.specs.Slots.{slot}
 use Rattle.cbdc_model.specs.Due.{open_batch}
 use Rattle.cbdc_model.specs.After.{IsJournal}
 use Rattle.cbdc_model.specs.Sights.{Sight}
-use Rattle.lane_driver.specs.Told.{KeepsOthers}
+use Rattle.lane_driver.specs.Told.{KeepsOtherLanes}
 use Rattle.node_journal.specs.Nodes.{NodeOf, HoldsJournal}
 
 -- a node that isn't there: its ledger has no lanes
@@ -38,4 +38,4 @@ AreNodesHeld device nodes = All (IsNodeHeld device) nodes
 -- the coordinator's other lanes are as before
 abbrev pub KeepsRest : Sight → Sight → ℕ → Type 0
 KeepsRest old new lane =
-    KeepsOthers old.header lane (λ l. (slot old.seen l).phase) (λ l. (slot new.seen l).phase) (λ l. txs_of old.seen (open_batch old.seen l)) (λ l. txs_of new.seen (open_batch new.seen l))
+    KeepsOtherLanes old.header lane (λ l. (slot old.seen l).phase) (λ l. (slot new.seen l).phase) (λ l. txs_of old.seen (open_batch old.seen l)) (λ l. txs_of new.seen (open_batch new.seen l))

@@ -6,7 +6,7 @@ ghost use Rattle.cbdc_model.specs.Due.{open_batch, prepare_due, discard_due, don
 ghost use Rattle.cbdc_model.specs.Slots.{slot, Idle, InPrepare, InCommit, InDiscard};
 ghost use Rattle.cbdc_model.specs.Sights.{Told};
 ghost use Rattle.lane_laws.specs.Answers.{DecideAnswer};
-ghost use Rattle.lane_driver.specs.Told.{IsLane, IsPrepared, IsStamp, AreReplies, IsStillNode};
+ghost use Rattle.lane_driver.specs.Told.{IsLane, IsPreparedBatch, IsStamp, AreReplies, IsStillNode};
 ghost use Rattle.lane_driver.specs.Causes.{IsDecideCause};
 ghost use Rattle.node_journal.specs.Nodes.{sight};
 ghost use Rattle.node_ports.specs.Nodes.{sight_at, KeepsRest, IsNodeHeld, AreNodesHeld};
@@ -62,7 +62,7 @@ pub fn prepare_at<D: Disk>(
     requires size { HasSize log.old.header.shape txs.now }
     requires limits { All IsCompact txs.now }
     ensures told { Told true lane true (prepare_due log.old.header.shape log.old.capacity lane txs.now) (sight log.old) (sight log.new) result }
-    ensures prepared { IfOk result (IsPrepared log.old.header.shape lane) }
+    ensures prepared { IfOk result (IsPreparedBatch log.old.header.shape lane) }
     ensures phase { OnOk result ((slot log.new.journal lane).phase ≡ InPrepare) }
     ensures txs { OnOk result (txs_of log.new.journal (open_batch log.new.journal lane) ≡ txs.now) }
     ensures others { KeepsRest (sight log.old) (sight log.new) lane }

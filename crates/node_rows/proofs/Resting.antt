@@ -8,7 +8,7 @@ use Rattle.cbdc_model.specs.Slots.{slot, slot_stamp, Idle}
 use Rattle.cbdc_model.specs.Sights.{Sight}
 use Rattle.lane_laws.specs.Batches.{Settled}
 use Rattle.lane_driver.specs.Told.{IsLane, AreShardsOf}
-use Rattle.lane_driver.specs.Stops.{IsSettled}
+use Rattle.lane_driver.specs.Stops.{IsLaneSettled}
 use Rattle.node_journal.specs.Nodes.{NodeOf, sight}
 use Rattle.node_ports.specs.Nodes.{sight_at}
 use Rattle.node_rows.specs.Resting.{number_of_lane, AllRest, LogRests, MayRunOver}
@@ -96,7 +96,7 @@ rests K lane k at l logs nodes inside stands log as_many rest = record {
   idle = subst (λ (I : Sight). (slot I.seen lane).phase ≡ Idle) here (ap (λ s. s.phase) log.idle);
   as_many = as_many;
   ledger = are_shards K lane k l nodes log rest as_many;
-  settled = subst (λ (I : Sight). IsSettled K lane I (sight_at sight nodes)) here (k, settled K lane k l nodes log rest);
+  settled = subst (λ (I : Sight). IsLaneSettled K lane I (sight_at sight nodes)) here (k, settled K lane k l nodes log rest);
 }
   where
     here : sight l ≡ sight_at sight logs at

@@ -4,7 +4,7 @@ use Rattle.cbdc_model.specs.Records.{Shape, Record, Genesis, Lock, Finish, Forge
 use Rattle.cbdc_model.specs.Slots.{slot, slot_stamp, Idle}
 use Rattle.cbdc_model.specs.Ranges.{home_of}
 use Rattle.lane_driver.specs.Told.{IsLane, AreShardsOf}
-use Rattle.lane_driver.specs.Stops.{IsSettled}
+use Rattle.lane_driver.specs.Stops.{IsLaneSettled}
 use Rattle.node_journal.specs.Nodes.{NodeOf, sight}
 use Rattle.node_ports.specs.Nodes.{sight_at}
 
@@ -50,4 +50,4 @@ pub record MayRunOver {D : Type 0} (K : Shape) (lane at : ℕ) (logs nodes : Lis
   pub idle : (slot (sight_at sight logs at).seen lane).phase ≡ Idle
   pub as_many : length nodes ≡ K.shards
   pub ledger : AreShardsOf K (sight_at sight nodes)
-  pub settled : IsSettled K lane (sight_at sight logs at) (sight_at sight nodes)
+  pub settled : IsLaneSettled K lane (sight_at sight logs at) (sight_at sight nodes)

@@ -10,7 +10,7 @@ use Rattle.cbdc_model.specs.Due.{Due, open_batch, prepare_due, discard_due, done
 use Rattle.cbdc_model.specs.After.{IsJournal}
 use Rattle.cbdc_model.specs.Sights.{Sight}
 use Rattle.lane_laws.specs.Answers.{DecideAnswer}
-use Rattle.lane_driver.specs.Told.{IsLane, IsPrepared, IsStamp, AreReplies}
+use Rattle.lane_driver.specs.Told.{IsLane, IsPreparedBatch, IsStamp, AreReplies}
 use Rattle.lane_driver.specs.Causes.{IsDecideCause}
 use Rattle.port_sets.specs.Giving.{NodeGives}
 use Rattle.port_sets.specs.declared.coordinators.LogCall.{LogCall}
@@ -49,7 +49,7 @@ done_owed lane cause h capacity = done_due lane cause
 -- `good_prepare`, `good_discard`, `good_done`: what is good of a coordinator's answers: stamps, hashes and batches within their limits, and the
 -- phase in which the lane is then
 abbrev pub good_prepare : ℕ → List Compact → Header → List Record → Batch × ℕ → Type 0
-good_prepare lane txs h J p = IsPrepared h.shape lane p × ((slot J lane).phase ≡ InPrepare) × (txs_at J lane ≡ txs)
+good_prepare lane txs h J p = IsPreparedBatch h.shape lane p × ((slot J lane).phase ≡ InPrepare) × (txs_at J lane ≡ txs)
 
 abbrev pub good_discard : ℕ → Header → List Record → ℕ → Type 0
 good_discard lane h J t = IsStamp t × ((slot J lane).phase ≡ InDiscard)

@@ -1,122 +1,138 @@
 -- Lanes that are resumed one behind the other.
-use Rattle.std.proofs.Common.{◌≡◌, ◌≢◌, ℕ, suc, ◌+◌, ◌<◌, Bool, List, [], ◌∷◌, ◌++◌, length, get_or, take, drop, refl, sym, ap, ◌∙◌, subst, append_assoc, arith, Some, None}
-use Rattle.std.specs.Prelude.{Contains, Option, Result, Ok, Err, OnOk, IfOk, IfErr}
+use Rattle.std.proofs.Common.{◌≡◌, ◌≢◌, inl, inr, ℕ, suc, ◌+◌, ◌<◌, Bool, List, [], ◌∷◌, ◌++◌, length, get_or, take, drop, refl, sym, ap, ◌∙◌, subst, append_assoc, arith, Some, None}
+use Rattle.std.specs.Prelude.{Contains, Option, Result, Ok, Err}
 use Rattle.std.specs.List.{All}
 use Rattle.std.proofs.lemmas.List.{take_more}
 use Rattle.std.proofs.lemmas.List.Elements.{All-nil, All-get_or, All-push, All-weaker}
 use Rattle.cbdc_types.specs.declared.batch.OpenLane.{OpenLane}
 use Rattle.cbdc_model.specs.Records.{Shape, Header, Compact}
 use Rattle.cbdc_model.specs.Slots.{Phase, Idle}
-use Rattle.cbdc_model.specs.Sights.{Sight}
-use Rattle.lane_laws.specs.Resuming.{IsTakenUp}
-use Rattle.lane_driver.specs.Told.{IsLane, KeepsOthers}
+use Rattle.lane_driver.specs.Told.{IsLane, KeepsOtherLanes}
+use Rattle.lane_driver.specs.Showing.{LaneSights}
+use Rattle.recovery.specs.declared.resumed.Resumed.{Resumed}
 use Rattle.recovery.specs.declared.resumed.ResumedBatch.{ResumedBatch}
 use Rattle.lane_driver.specs.declared.fault.LaneFault.{LaneFault}
 use Rattle.lane_driver.specs.declared.fault.LaneFaultKind.TheVariants.{Memory as NoMemory}
-use Rattle.recovery.specs.Open.{IsOpen, LanesAbove, LanesRise, KeepsUnlisted, IsResumed, IsUnfinished, HasItsOutcomes, IsResumeStopped, IsResumeTold, WantsAtLock, HasPrepared, IsOneTaken, AreTakenUp, CameOf, AreTried, IsStoppedAmong, Keeps}
+use Rattle.recovery.specs.Open.{IsLaneOpen, LanesAbove, LanesRise, KeepsUnlisted, AreResumed, HasPreparedLane, IsOneTaken, AreTakenUp, ResumeCameOf, AreTried, HasGoneOn, IsStoppedAmong, OpenLanesCame, ResumingCame, WasCaused, KeepsResumed}
 use Rattle.recovery.proofs.Rest.{split_rest, open_here, more_before}
+use Rattle.lane_driver.proofs.Outcomes.{driver_caused}
+use Rattle.recovery.proofs.Taking.{resume_caused, resume_want}
+use Rattle.recovery.proofs.Onward.{gone_same, gone_on}
 
 -- ---- what was taken
 
 -- one more
-taken_one_more : (K : Shape) (alone : Bool) (os : List OpenLane) (rs : List ResumedBatch) (o : OpenLane) (r : ResumedBatch) (log between log' : Sight) (I N J : ℕ → Sight)
-    → AreTakenUp K alone os rs log I between N → IsOneTaken K alone o between N log' J r → AreTakenUp K alone (os ++ o ∷ []) (rs ++ r ∷ []) log I log' J
-taken_one_more K alone [] [] o r log between log' I N J (same, shards_same) one =
-    (log', J, subst (λ x. IsOneTaken K alone o x I log' J r) same (subst (λ x. IsOneTaken K alone o between x log' J r) shards_same one), (refl, refl))
-taken_one_more K alone [] (q ∷ rs) o r log between log' I N J taken one = absurd taken
-taken_one_more K alone (p ∷ os) [] o r log between log' I N J taken one = absurd taken
-taken_one_more K alone (p ∷ os) (q ∷ rs) o r log between log' I N J (first, shards_first, is, rest) one =
-    (first, shards_first, is, taken_one_more K alone os rs o r first between log' shards_first N J rest one)
+taken_one_more : (K : Shape) (alone : Bool) (os : List OpenLane) (rs : List ResumedBatch) (o : OpenLane) (r : ResumedBatch) (old between new : LaneSights)
+    → AreTakenUp K alone os rs old between → IsOneTaken K alone o between.home between.shards new.home new.shards r → AreTakenUp K alone (os ++ o ∷ []) (rs ++ r ∷ []) old new
+taken_one_more K alone [] [] o r old between new same one = (new, subst (λ (x : LaneSights). IsOneTaken K alone o x.home x.shards new.home new.shards r) same one, refl)
+taken_one_more K alone [] (q ∷ rs) o r old between new taken one = absurd taken
+taken_one_more K alone (p ∷ os) [] o r old between new taken one = absurd taken
+taken_one_more K alone (p ∷ os) (q ∷ rs) o r old between new (first, is, rest) one = (first, is, taken_one_more K alone os rs o r first between new rest one)
 
--- what came of one, by what is told of it
-pub came_of : (K : Shape) (alone : Bool) (o : OpenLane) (c : Result ResumedBatch LaneFault) (log log' : Sight) (I J : ℕ → Sight) → IsUnfinished o.phase K o log I
-    → OnOk c (IsUnfinished o.phase K o log I → IsTakenUp K alone o.batch log I log' J) → IfOk c (IsResumed o) → IfOk c (λ r. IsUnfinished o.phase K o log I → HasItsOutcomes o.phase o log'.seen r)
-    → IfErr c (IsResumeStopped K alone o log I log' J) → IfErr c (IsResumeTold K alone o log I log' J) → IfErr c (WantsAtLock K alone o log I log' J) → CameOf K alone o c log I log' J
-came_of K alone o (Ok r) log log' I J stands taken resumed outcomes left told want = record { taken = taken stands; resumed = resumed; outcomes = outcomes stands }
-came_of K alone o (Err e) log log' I J stands taken resumed outcomes left told want = (stands, left, told, want)
+-- each of them is told
+pub taken_resumed : (K : Shape) (alone : Bool) (os : List OpenLane) (rs : List ResumedBatch) (old new : LaneSights) → AreTakenUp K alone os rs old new → AreResumed os rs
+taken_resumed K alone [] [] old new taken = tt
+taken_resumed K alone [] (q ∷ rs) old new taken = absurd taken
+taken_resumed K alone (p ∷ os) [] old new taken = absurd taken
+taken_resumed K alone (p ∷ os) (q ∷ rs) old new (first, is, rest) = (is.resumed, taken_resumed K alone os rs first new rest)
 
--- one more, whatever came of it
-tried_one_more : (K : Shape) (alone : Bool) (os : List OpenLane) (cs : List (Result ResumedBatch LaneFault)) (o : OpenLane) (c : Result ResumedBatch LaneFault) (log between log' : Sight) (I N J : ℕ → Sight)
-    → AreTried K alone os cs log I between N → CameOf K alone o c between N log' J → AreTried K alone (os ++ o ∷ []) (cs ++ c ∷ []) log I log' J
-tried_one_more K alone [] [] o c log between log' I N J (same, shards_same) one =
-    (log', J, subst (λ x. CameOf K alone o c x I log' J) same (subst (λ x. CameOf K alone o c between x log' J) shards_same one), (refl, refl))
-tried_one_more K alone [] (d ∷ cs) o c log between log' I N J tried one = absurd tried
-tried_one_more K alone (p ∷ os) [] o c log between log' I N J tried one = absurd tried
-tried_one_more K alone (p ∷ os) (d ∷ cs) o c log between log' I N J (first, shards_first, is, rest) one =
-    (first, shards_first, is, tried_one_more K alone os cs o c first between log' shards_first N J rest one)
+-- one more, whatever it came to
+tried_one_more : (K : Shape) (alone : Bool) (os : List OpenLane) (cs : List (Result ResumedBatch LaneFault)) (o : OpenLane) (c : Result ResumedBatch LaneFault) (old between new : LaneSights)
+    → AreTried K alone os cs old between → ResumeCameOf K alone o c between new → AreTried K alone (os ++ o ∷ []) (cs ++ c ∷ []) old new
+tried_one_more K alone [] [] o c old between new same one = (new, subst (λ (x : LaneSights). ResumeCameOf K alone o c x new) same one, refl)
+tried_one_more K alone [] (d ∷ cs) o c old between new tried one = absurd tried
+tried_one_more K alone (p ∷ os) [] o c old between new tried one = absurd tried
+tried_one_more K alone (p ∷ os) (d ∷ cs) o c old between new (first, is, rest) one = (first, is, tried_one_more K alone os cs o c first between new rest one)
 
 -- ---- what is kept of them: the batches while each is taken to its end, else the first fault
 
-abbrev pub CameSo : Shape → Bool → List OpenLane → List ResumedBatch → Option LaneFault → Sight → (ℕ → Sight) → Sight → (ℕ → Sight) → Type 0
-CameSo K alone os rs None log I log' J = AreTakenUp K alone os rs log I log' J
-CameSo K alone os rs (Some e) log I log' J = IsStoppedAmong K alone os log I log' J e
+abbrev pub CameSo : Shape → Bool → List OpenLane → List ResumedBatch → Option LaneFault → LaneSights → LaneSights → Type 0
+CameSo K alone os rs None old new = AreTakenUp K alone os rs old new
+CameSo K alone os rs (Some e) old new = IsStoppedAmong K alone os old new e
 
-pub kept_first : (before after : List ResumedBatch) (f : LaneFault) (now : Option LaneFault) (c : Result ResumedBatch LaneFault) → Keeps before (Some f) c after now → now ≡ Some f
+kept_first : (before after : List ResumedBatch) (f : LaneFault) (now : Option LaneFault) (c : Result ResumedBatch LaneFault) → KeepsResumed before (Some f) c after now → now ≡ Some f
 kept_first before after f now (Ok r) kept = kept.1
 kept_first before after f now (Err e) kept = kept.1
 
-pub kept_none : (before after : List ResumedBatch) (was now : Option LaneFault) (c : Result ResumedBatch LaneFault) → Keeps before was c after now → now ≡ None
+pub kept_none : (before after : List ResumedBatch) (was now : Option LaneFault) (c : Result ResumedBatch LaneFault) → KeepsResumed before was c after now → now ≡ None
     → (was ≡ None) × (r : ResumedBatch) × (c ≡ Ok r) × (after ≡ before ++ r ∷ [])
 kept_none before after None now (Ok r) kept none = (refl, r, refl, kept.0)
 kept_none before after None now (Err e) kept none = absurd (let z : Some e ≡ None = sym kept.1 ∙ none in cc)
 kept_none before after (Some f) now c kept none = absurd (let z : Some f ≡ None = sym (kept_first before after f now c kept) ∙ none in cc)
 
-came_one_more : (K : Shape) (alone : Bool) (os : List OpenLane) (before after : List ResumedBatch) (was now : Option LaneFault) (o : OpenLane) (c : Result ResumedBatch LaneFault) (log between log' : Sight) (I N J : ℕ → Sight)
-    → CameSo K alone os before was log I between N → CameOf K alone o c between N log' J → Keeps before was c after now → CameSo K alone (os ++ o ∷ []) after now log I log' J
-came_one_more K alone os before after None now o (Ok r) log between log' I N J so one kept =
-    subst (λ f. CameSo K alone (os ++ o ∷ []) after f log I log' J) (sym kept.1)
-    (subst (λ rs. AreTakenUp K alone (os ++ o ∷ []) rs log I log' J) (sym kept.0) (taken_one_more K alone os before o r log between log' I N J so one))
-came_one_more K alone os before after None now o (Err e) log between log' I N J so one kept =
-    subst (λ f. CameSo K alone (os ++ o ∷ []) after f log I log' J) (sym kept.1) (record {
-      before = os;
-      stopped_at = o;
-      behind = [];
-      are = refl;
-      batches = before;
-      log_there = between;
-      shards_there = N;
-      taken = so;
-      stands = one.0;
-      log_then = log';
-      shards_then = J;
-      stopped = one.1;
-      told = one.2;
-      want = one.3;
-      came = [];
-      went_on = (refl, refl);
-    })
-came_one_more K alone os before after (Some f) now o c log between log' I N J so one kept =
-    subst (λ f. CameSo K alone (os ++ o ∷ []) after f log I log' J) (sym (kept_first before after f now c kept)) (record {
-      before = so.before;
-      stopped_at = so.stopped_at;
-      behind = so.behind ++ o ∷ [];
-      are = ap (λ l. l ++ o ∷ []) so.are ∙ append_assoc so.before (so.stopped_at ∷ so.behind) (o ∷ []);
-      batches = so.batches;
-      log_there = so.log_there;
-      shards_there = so.shards_there;
-      taken = so.taken;
-      stands = so.stands;
-      log_then = so.log_then;
-      shards_then = so.shards_then;
-      stopped = so.stopped;
-      told = so.told;
-      want = so.want;
-      came = so.came ++ c ∷ [];
-      went_on = tried_one_more K alone so.behind so.came o c so.log_then between log' so.shards_then N J so.went_on one;
-    })
+module _ (K : Shape) (alone : Bool) (old between new : LaneSights) (logs_on : (n : ℕ) → HasGoneOn (between.logs n) (new.logs n)) (shards_on : (n : ℕ) → HasGoneOn (between.shards n) (new.shards n)) where
+  came_one_more : (os : List OpenLane) (before after : List ResumedBatch) (was now : Option LaneFault) (o : OpenLane) (c : Result ResumedBatch LaneFault)
+      → CameSo K alone os before was old between → ResumeCameOf K alone o c between new → KeepsResumed before was c after now → CameSo K alone (os ++ o ∷ []) after now old new
+  came_one_more os before after None now o (Ok r) so one kept =
+      subst (λ f. CameSo K alone (os ++ o ∷ []) after f old new) (sym kept.1)
+      (subst (λ rs. AreTakenUp K alone (os ++ o ∷ []) rs old new) (sym kept.0) (taken_one_more K alone os before o r old between new so one))
+  came_one_more os before after None now o (Err e) so one kept =
+      subst (λ f. CameSo K alone (os ++ o ∷ []) after f old new) (sym kept.1) (record {
+        before = os;
+        stopped_at = o;
+        behind = [];
+        are = refl;
+        batches = before;
+        there = between;
+        taken = so;
+        since = new;
+        stopped = one;
+        came = [];
+        went_on = refl;
+        logs_on = λ n. gone_same (new.logs n);
+        shards_on = λ n. gone_same (new.shards n);
+      })
+  came_one_more os before after (Some f) now o c so one kept =
+      subst (λ f. CameSo K alone (os ++ o ∷ []) after f old new) (sym (kept_first before after f now c kept)) (record {
+        before = so.before;
+        stopped_at = so.stopped_at;
+        behind = so.behind ++ o ∷ [];
+        are = ap (λ l. l ++ o ∷ []) so.are ∙ append_assoc so.before (so.stopped_at ∷ so.behind) (o ∷ []);
+        batches = so.batches;
+        there = so.there;
+        taken = so.taken;
+        since = so.since;
+        stopped = so.stopped;
+        came = so.came ++ c ∷ [];
+        went_on = tried_one_more K alone so.behind so.came o c so.since between new so.went_on one;
+        logs_on = λ n. gone_on (so.since.logs n) (between.logs n) (new.logs n) (so.logs_on n) (logs_on n);
+        shards_on = λ n. gone_on (so.since.shards n) (between.shards n) (new.shards n) (so.shards_on n) (shards_on n);
+      })
 
--- where one stopped for want of memory, one was prepared
-among_prepared : (K : Shape) (alone : Bool) (os : List OpenLane) (log log' : Sight) (I J : ℕ → Sight) (e : LaneFault) → IsStoppedAmong K alone os log I log' J e → e.fault ≡ NoMemory → HasPrepared os
-among_prepared K alone os log log' I J e among want = (among.stopped_at, subst (λ xs. Contains xs among.stopped_at) (sym among.are) (middle_there among.before among.stopped_at among.behind), (among.want want).0)
-  where
-    middle_there : (xs : List OpenLane) (x : OpenLane) (ys : List OpenLane) → Contains (xs ++ x ∷ ys) x
-    middle_there [] x ys = (0, omega arith, refl)
-    middle_there (z ∷ xs) x ys = let m = middle_there xs x ys in (suc m.0, omega (arith, m.1), m.2)
+-- what they came to with their memory taken is what they came to
+pub came_whole : (K : Shape) (alone : Bool) (os : List OpenLane) (came : Result Resumed LaneFault) (old new : LaneSights) → OpenLanesCame K alone os came old new → ResumingCame K alone os came old new
+came_whole K alone os (Ok r) old new taken = taken
+came_whole K alone os (Err e) old new stop = inr stop
 
-pub prepared_by : {A : Type 0} (K : Shape) (alone : Bool) (os : List OpenLane) (log log' : Sight) (I J : ℕ → Sight) (came : Result A LaneFault) → IfErr came (IsStoppedAmong K alone os log I log' J)
-    → IfErr came (λ e. e.fault ≡ NoMemory → HasPrepared os)
-prepared_by K alone os log log' I J (Ok r) left = tt
-prepared_by K alone os log log' I J (Err e) left = among_prepared K alone os log log' I J e left
+module _ (K : Shape) (alone : Bool) (os : List OpenLane) (old new : LaneSights) (e : LaneFault) (among : IsStoppedAmong K alone os old new e) where
+  -- where one stopped because memory ran out, one was prepared
+  pub among_prepared : e.fault ≡ NoMemory → HasPreparedLane os
+  among_prepared want = (among.stopped_at, subst (λ xs. Contains xs among.stopped_at) (sym among.are) (middle_there among.before among.stopped_at among.behind), (resume_want K alone among.stopped_at among.there among.since e among.stopped want).0)
+    where
+      middle_there : (xs : List OpenLane) (x : OpenLane) (ys : List OpenLane) → Contains (xs ++ x ∷ ys) x
+      middle_there [] x ys = (0, omega arith, refl)
+      middle_there (z ∷ xs) x ys = let m = middle_there xs x ys in (suc m.0, omega (arith, m.1), m.2)
+
+  -- its fault had its cause when it came
+  pub among_caused : WasCaused K new.logs new.shards e
+  among_caused = record {
+    logs_then = among.since.logs;
+    shards_then = among.since.shards;
+    logs_on = among.logs_on;
+    shards_on = among.shards_on;
+    cause = resume_caused K alone among.stopped_at among.there among.since e among.stopped;
+  }
+
+-- so had the fault of open batches that were not begun because the driver ran out of memory
+pub resuming_caused : (K : Shape) (alone : Bool) (os : List OpenLane) (old new : LaneSights) (e : LaneFault) → ResumingCame K alone os (Err e) old new → WasCaused K new.logs new.shards e
+resuming_caused K alone os old new e (inl none) = record {
+  logs_then = new.logs;
+  shards_then = new.shards;
+  logs_on = λ n. gone_same (new.logs n);
+  shards_on = λ n. gone_same (new.shards n);
+  cause = driver_caused K new.logs new.shards e none.0;
+}
+resuming_caused K alone os old new e (inr among) = among_caused K alone os old new e among
 
 -- ---- the lanes so far are idle, and below those that are left
 
@@ -132,15 +148,16 @@ module _ (os : List OpenLane) (i : ℕ) (o : OpenLane) (lt : i < length os) (is 
   longer : take (i + 1) os ≡ take i os ++ o ∷ []
   longer = take_more os i o lt ∙ ap (λ x. take i os ++ x ∷ []) (sym is)
 
-  pub came_more : (K : Shape) (alone : Bool) (before after : List ResumedBatch) (was now : Option LaneFault) (c : Result ResumedBatch LaneFault) (log between log' : Sight) (I N J : ℕ → Sight)
-      → CameSo K alone (take i os) before was log I between N → CameOf K alone o c between N log' J → Keeps before was c after now → CameSo K alone (take (i + 1) os) after now log I log' J
-  came_more K alone before after was now c log between log' I N J so one kept =
-      subst (λ xs. CameSo K alone xs after now log I log' J) (sym longer) (came_one_more K alone (take i os) before after was now o c log between log' I N J so one kept)
+  pub came_more : (K : Shape) (alone : Bool) (old between new : LaneSights) → ((n : ℕ) → HasGoneOn (between.logs n) (new.logs n)) → ((n : ℕ) → HasGoneOn (between.shards n) (new.shards n))
+      → (before after : List ResumedBatch) (was now : Option LaneFault) (c : Result ResumedBatch LaneFault)
+      → CameSo K alone (take i os) before was old between → ResumeCameOf K alone o c between new → KeepsResumed before was c after now → CameSo K alone (take (i + 1) os) after now old new
+  came_more K alone old between new logs_on shards_on before after was now c so one kept =
+      subst (λ xs. CameSo K alone xs after now old new) (sym longer) (came_one_more K alone old between new logs_on shards_on (take i os) before after was now o c so one kept)
 
   split : drop i os ≡ o ∷ drop (i + 1) os
   split = split_rest os i o lt is
 
-  pub over_more : (h k : Header) (p q : ℕ → Phase) (t u : ℕ → List Compact) → k ≡ h → (1 < length os → KeepsOthers h o.batch.lane p q t u) → q o.batch.lane ≡ Idle → LanesRise (drop i os) → All (IsOpen h p t) (drop i os)
+  pub over_more : (h k : Header) (p q : ℕ → Phase) (t u : ℕ → List Compact) → k ≡ h → (1 < length os → KeepsOtherLanes h o.batch.lane p q t u) → q o.batch.lane ≡ Idle → LanesRise (drop i os) → All (IsLaneOpen h p t) (drop i os)
       → All (IsOver h p (drop i os)) (take i os) → All (IsOver k q (drop (i + 1) os)) (take (i + 1) os)
   over_more h k p q t u e keeps idle rise open_rest over =
       subst (λ xs. All (IsOver k q (drop (i + 1) os)) xs) (sym longer)
@@ -153,7 +170,7 @@ module _ (os : List OpenLane) (i : ℕ) (o : OpenLane) (lt : i < length os) (is 
         below = (subst LanesRise split rise).0;
       }
 
-      older : KeepsOthers h o.batch.lane p q t u → (x : OpenLane) → IsOver h p (drop i os) x → IsOver k q (drop (i + 1) os) x
+      older : KeepsOtherLanes h o.batch.lane p q t u → (x : OpenLane) → IsOver h p (drop i os) x → IsOver k q (drop (i + 1) os) x
       older kept x was =
           let below : LanesAbove x.batch.lane (o ∷ drop (i + 1) os) = subst (λ xs. LanesAbove x.batch.lane xs) split was.below in
           let apart : x.batch.lane ≢ o.batch.lane = λ same. (let lt : x.batch.lane < o.batch.lane = below.0 in omega (arith, same, lt)) in
@@ -168,7 +185,7 @@ module _ (os : List OpenLane) (i : ℕ) (o : OpenLane) (lt : i < length os) (is 
       before (x ∷ xs) d = All-weaker (IsOver h p (drop i os)) (IsOver k q (drop (i + 1) os)) (older (keeps (more_before os i x xs lt d))) (take i os) over
 
   -- lanes that are not listed stay as they were
-  pub unlisted_more : (h k : Header) (p q r : ℕ → Phase) (t u v : ℕ → List Compact) → k ≡ h → KeepsUnlisted h os p q t u → KeepsOthers k o.batch.lane q r u v → KeepsUnlisted h os p r t v
+  pub unlisted_more : (h k : Header) (p q r : ℕ → Phase) (t u v : ℕ → List Compact) → k ≡ h → KeepsUnlisted h os p q t u → KeepsOtherLanes k o.batch.lane q r u v → KeepsUnlisted h os p r t v
   unlisted_more h k p q r t u v e so one lane inside apart =
       let was = so lane inside apart in
       let now = one lane (subst (λ x. IsLane x lane) (sym e) inside) (subst (λ x. lane ≢ x.batch.lane) (sym is) (All-get_or (λ x. lane ≢ x.batch.lane) os i o lt apart)) in (

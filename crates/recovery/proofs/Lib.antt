@@ -1,6 +1,6 @@
 pub mod Rest
-mod Taking
-mod InOrder
-mod Onward
+pub mod Taking
+pub mod InOrder
+pub mod Onward
 mod Untouched
 mod Rooming

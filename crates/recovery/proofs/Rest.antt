@@ -1,21 +1,18 @@
 -- The lanes that are still open once one is resumed.
-use Rattle.std.proofs.Common.{◌≡◌, ◌≢◌, ℕ, suc, ◌+◌, ◌<◌, List, [], ◌∷◌, ◌++◌, length, get_or, take, drop, length-take, length-drop, refl, arith, ap, ◌∙◌, sym, subst, add-one, drop-cons}
+use Rattle.std.proofs.Common.{◌≡◌, ◌≢◌, ℕ, suc, ◌+◌, ◌<◌, List, [], ◌∷◌, length, get_or, take, drop, length-take, length-drop, refl, arith, ap, ◌∙◌, sym, subst, add-one, drop-cons}
 use Rattle.std.specs.List.{All}
 use Rattle.std.proofs.lemmas.List.Elements.{All-nil, All-cons, All-head, All-tail}
 use Rattle.cbdc_types.specs.declared.batch.OpenLane.{OpenLane}
 use Rattle.cbdc_model.specs.Records.{Header, Compact}
 use Rattle.cbdc_model.specs.Slots.{Phase}
-use Rattle.lane_driver.specs.Told.{KeepsOthers}
-use Rattle.std.proofs.lemmas.List.{take_more}
-use Rattle.std.proofs.lemmas.Slice.Zip.{all_zipped_more}
-use Rattle.recovery.specs.declared.resumed.ResumedBatch.{ResumedBatch}
-use Rattle.recovery.specs.Open.{IsOpen, LanesAbove, LanesRise, IsResumed, AreResumed}
+use Rattle.lane_driver.specs.Told.{KeepsOtherLanes}
+use Rattle.recovery.specs.Open.{IsLaneOpen, LanesAbove, LanesRise}
 
-pub still_open : (h k : Header) (n : ℕ) (p q : ℕ → Phase) (t u : ℕ → List Compact) (o : OpenLane) → k ≡ h → KeepsOthers h n p q t u → n < o.batch.lane → IsOpen h p t o → IsOpen k q u o
+pub still_open : (h k : Header) (n : ℕ) (p q : ℕ → Phase) (t u : ℕ → List Compact) (o : OpenLane) → k ≡ h → KeepsOtherLanes h n p q t u → n < o.batch.lane → IsLaneOpen h p t o → IsLaneOpen k q u o
 still_open h k n p q t u o e keeps lt is =
     let other : o.batch.lane ≢ n = omega arith in
     let same = keeps o.batch.lane is.lane other in
-    subst (λ h. IsOpen h q u o) (sym e) (record {
+    subst (λ h. IsLaneOpen h q u o) (sym e) (record {
       lane = is.lane;
       batch = is.batch;
       phase_is = same.0 ∙ is.phase_is;
@@ -26,20 +23,20 @@ still_open h k n p q t u o e keeps lt is =
       outcomes = is.outcomes;
     })
 
-all_still_open : (h k : Header) (n : ℕ) (p q : ℕ → Phase) (t u : ℕ → List Compact) (os : List OpenLane) → k ≡ h → KeepsOthers h n p q t u → LanesAbove n os → All (IsOpen h p t) os → All (IsOpen k q u) os
-all_still_open h k n p q t u [] e keeps above all = All-nil (IsOpen k q u)
+all_still_open : (h k : Header) (n : ℕ) (p q : ℕ → Phase) (t u : ℕ → List Compact) (os : List OpenLane) → k ≡ h → KeepsOtherLanes h n p q t u → LanesAbove n os → All (IsLaneOpen h p t) os → All (IsLaneOpen k q u) os
+all_still_open h k n p q t u [] e keeps above all = All-nil (IsLaneOpen k q u)
 all_still_open h k n p q t u (o ∷ os) e keeps above all =
-    All-cons (IsOpen k q u) o os (still_open h k n p q t u o e keeps above.0 (All-head (IsOpen h p t) o os all))
-    (all_still_open h k n p q t u os e keeps above.1 (All-tail (IsOpen h p t) o os all))
+    All-cons (IsLaneOpen k q u) o os (still_open h k n p q t u o e keeps above.0 (All-head (IsLaneOpen h p t) o os all))
+    (all_still_open h k n p q t u os e keeps above.1 (All-tail (IsLaneOpen h p t) o os all))
 
 pub split_rest : (os : List OpenLane) (i : ℕ) (o : OpenLane) → i < length os → o ≡ get_or os i o → drop i os ≡ o ∷ drop (i + 1) os
 split_rest os i o lt e = rw add-one (drop-cons os i o lt ∙ ap (λ x. x ∷ drop (suc i) os) (sym e))
 
 pub open_here : (h : Header) (p : ℕ → Phase) (t : ℕ → List Compact) (os : List OpenLane) (i : ℕ) (o : OpenLane) → i < length os → o ≡ get_or os i o
-    → All (IsOpen h p t) (drop i os) → IsOpen h p t o
+    → All (IsLaneOpen h p t) (drop i os) → IsLaneOpen h p t o
 open_here h p t os i o lt e all =
-    let P : List OpenLane → Type 0 = λ xs. All (IsOpen h p t) xs in
-    All-head (IsOpen h p t) o (drop (i + 1) os) (subst P (split_rest os i o lt e) all)
+    let P : List OpenLane → Type 0 = λ xs. All (IsLaneOpen h p t) xs in
+    All-head (IsLaneOpen h p t) o (drop (i + 1) os) (subst P (split_rest os i o lt e) all)
 
 -- where one stands behind another, there are two
 pub more_behind : (os : List OpenLane) (i : ℕ) (x : OpenLane) (xs : List OpenLane) → drop (i + 1) os ≡ x ∷ xs → 1 < length os
@@ -52,21 +49,15 @@ pub rise_rest : (os : List OpenLane) (i : ℕ) (o : OpenLane) → i < length os 
 rise_rest os i o lt e rise = (subst LanesRise (split_rest os i o lt e) rise).1
 
 pub open_rest : (h k : Header) (p q : ℕ → Phase) (t u : ℕ → List Compact) (os : List OpenLane) (i : ℕ) (o : OpenLane) → i < length os → o ≡ get_or os i o
-    → LanesRise (drop i os) → All (IsOpen h p t) (drop i os) → k ≡ h → (1 < length os → KeepsOthers h o.batch.lane p q t u) → All (IsOpen k q u) (drop (i + 1) os)
+    → LanesRise (drop i os) → All (IsLaneOpen h p t) (drop i os) → k ≡ h → (1 < length os → KeepsOtherLanes h o.batch.lane p q t u) → All (IsLaneOpen k q u) (drop (i + 1) os)
 open_rest h k p q t u os i o lt e rise all same keeps = rest (drop (i + 1) os) refl
   where
     split : drop i os ≡ o ∷ drop (i + 1) os
     split = split_rest os i o lt e
 
-    here : All (IsOpen h p t) (drop (i + 1) os)
-    here = let P : List OpenLane → Type 0 = λ xs. All (IsOpen h p t) xs in All-tail (IsOpen h p t) o (drop (i + 1) os) (subst P split all)
+    here : All (IsLaneOpen h p t) (drop (i + 1) os)
+    here = let P : List OpenLane → Type 0 = λ xs. All (IsLaneOpen h p t) xs in All-tail (IsLaneOpen h p t) o (drop (i + 1) os) (subst P split all)
 
-    rest : (xs : List OpenLane) → drop (i + 1) os ≡ xs → All (IsOpen k q u) (drop (i + 1) os)
-    rest [] d = let P : List OpenLane → Type 0 = λ ys. All (IsOpen k q u) ys in subst P (sym d) (All-nil (IsOpen k q u))
+    rest : (xs : List OpenLane) → drop (i + 1) os ≡ xs → All (IsLaneOpen k q u) (drop (i + 1) os)
+    rest [] d = let P : List OpenLane → Type 0 = λ ys. All (IsLaneOpen k q u) ys in subst P (sym d) (All-nil (IsLaneOpen k q u))
     rest (x ∷ xs) d = all_still_open h k o.batch.lane p q t u (drop (i + 1) os) same (keeps (more_behind os i x xs d)) (subst LanesRise split rise).0 here
-
-pub resumed_more : (os : List OpenLane) (rs : List ResumedBatch) (i : ℕ) (o : OpenLane) (r : ResumedBatch) → i < length os → o ≡ get_or os i o
-    → AreResumed (take i os) rs → IsResumed o r → AreResumed (take (i + 1) os) (rs ++ r ∷ [])
-resumed_more os rs i o r lt e so is =
-    subst (λ xs. AreResumed xs (rs ++ r ∷ [])) (sym (take_more os i o lt))
-    (all_zipped_more IsResumed (take i os) rs (get_or os i o) r so (subst (λ x. IsResumed x r) e is))

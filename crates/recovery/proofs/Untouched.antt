@@ -18,7 +18,7 @@ use Rattle.lane_laws.proofs.Views.{view_home, view_shard}
 use Rattle.lane_laws.proofs.Grants.{lock_on, finish_on, forget_on}
 use Rattle.lane_laws.proofs.Runs.{same_record}
 use Rattle.lane_driver.specs.Told.{KeepNodes}
-use Rattle.recovery.specs.Open.{LanesAbove, LanesRise, IsUnfinished, AreUnfinished}
+use Rattle.recovery.specs.Open.{LanesAbove, LanesRise, IsBatchUnfinished, AreUnfinished}
 use Rattle.recovery.proofs.Rest.{split_rest, more_behind}
 
 -- ---- the records of another lane
@@ -109,7 +109,7 @@ module _ (K : Shape) (b : Batch) (log log' : Sight) (I J : ℕ → Sight) (shape
   }
 
 unfinished_on : (K : Shape) (o : OpenLane) (log log' : Sight) (I J : ℕ → Sight) → log'.header.shape ≡ log.header.shape → own o.batch.lane log'.seen ≡ own o.batch.lane log.seen
-    → ((s : ℕ) → own o.batch.lane (J s).seen ≡ own o.batch.lane (I s).seen) → (p : OpenPhase) → IsUnfinished p K o log I → IsUnfinished p K o log' J
+    → ((s : ℕ) → own o.batch.lane (J s).seen ≡ own o.batch.lane (I s).seen) → (p : OpenPhase) → IsBatchUnfinished p K o log I → IsBatchUnfinished p K o log' J
 unfinished_on K o log log' I J shape log_same shard_same Prepared h = prepared_on K o.batch log log' I J shape log_same shard_same o.txs o.stamp h
 unfinished_on K o log log' I J shape log_same shard_same Committed h = (h.0, committed_on K o.batch log log' I J shape log_same shard_same o.txs h.0 o.stamp o.outcomes h.1)
 unfinished_on K o log log' I J shape log_same shard_same Discarded h = (h.0, discarded_on K o.batch log log' I J shape log_same shard_same o.txs h.0 o.stamp h.1)
@@ -118,7 +118,7 @@ unfinished_on K o log log' I J shape log_same shard_same Discarded h = (h.0, dis
 
 module _ (K : Shape) (b : Batch) (log log' : Sight) (I J : ℕ → Sight) (home : home_of K b.lane < K.coordinators) (shape : log'.header.shape ≡ log.header.shape)
     (made : Made K [] true b.lane (view K b.lane log I) (view K b.lane log' J)) where
-  untouched : (o : OpenLane) → b.lane < o.batch.lane → IsUnfinished o.phase K o log I → IsUnfinished o.phase K o log' J
+  untouched : (o : OpenLane) → b.lane < o.batch.lane → IsBatchUnfinished o.phase K o log I → IsBatchUnfinished o.phase K o log' J
   untouched o above h = unfinished_on K o log log' I J shape at_log at_shard o.phase h
     where
       apart : o.batch.lane ≢ b.lane
@@ -135,17 +135,17 @@ module _ (K : Shape) (b : Batch) (log log' : Sight) (I J : ℕ → Sight) (home 
           ∙ ap (λ L. own o.batch.lane L) (view_shard K b.lane home log I s)
 
   all_untouched : (os : List OpenLane) → LanesAbove b.lane os → AreUnfinished K os log I → AreUnfinished K os log' J
-  all_untouched [] above all = All-nil (λ o. IsUnfinished o.phase K o log' J)
+  all_untouched [] above all = All-nil (λ o. IsBatchUnfinished o.phase K o log' J)
   all_untouched (o ∷ os) above all =
-      All-cons (λ o. IsUnfinished o.phase K o log' J) o os (untouched o above.0 (All-head (λ o. IsUnfinished o.phase K o log I) o os all))
-      (all_untouched os above.1 (All-tail (λ o. IsUnfinished o.phase K o log I) o os all))
+      All-cons (λ o. IsBatchUnfinished o.phase K o log' J) o os (untouched o above.0 (All-head (λ o. IsBatchUnfinished o.phase K o log I) o os all))
+      (all_untouched os above.1 (All-tail (λ o. IsBatchUnfinished o.phase K o log I) o os all))
 
 -- ---- along the list
 
-pub stands_here : (K : Shape) (log : Sight) (I : ℕ → Sight) (os : List OpenLane) (i : ℕ) (o : OpenLane) → i < length os → o ≡ get_or os i o → AreUnfinished K (drop i os) log I → IsUnfinished o.phase K o log I
+pub stands_here : (K : Shape) (log : Sight) (I : ℕ → Sight) (os : List OpenLane) (i : ℕ) (o : OpenLane) → i < length os → o ≡ get_or os i o → AreUnfinished K (drop i os) log I → IsBatchUnfinished o.phase K o log I
 stands_here K log I os i o lt e all =
     let P : List OpenLane → Type 0 = λ xs. AreUnfinished K xs log I in
-    All-head (λ o. IsUnfinished o.phase K o log I) o (drop (i + 1) os) (subst P (split_rest os i o lt e) all)
+    All-head (λ o. IsBatchUnfinished o.phase K o log I) o (drop (i + 1) os) (subst P (split_rest os i o lt e) all)
 
 -- where there is more than one, no other lane writes meanwhile
 pub stand_rest : (K : Shape) (alone : Bool) (log log' : Sight) (I J : ℕ → Sight) (os : List OpenLane) (i : ℕ) (o : OpenLane) → (1 < length os → alone ≡ true) → i < length os → o ≡ get_or os i o → LanesRise (drop i os)
@@ -156,14 +156,14 @@ stand_rest K alone log log' I J os i o quiet lt e rise home shape made all = res
     split = split_rest os i o lt e
 
     here : AreUnfinished K (drop (i + 1) os) log I
-    here = let P : List OpenLane → Type 0 = λ xs. AreUnfinished K xs log I in All-tail (λ o. IsUnfinished o.phase K o log I) o (drop (i + 1) os) (subst P split all)
+    here = let P : List OpenLane → Type 0 = λ xs. AreUnfinished K xs log I in All-tail (λ o. IsBatchUnfinished o.phase K o log I) o (drop (i + 1) os) (subst P split all)
 
     rest : (xs : List OpenLane) → drop (i + 1) os ≡ xs → AreUnfinished K (drop (i + 1) os) log' J
-    rest [] d = let P : List OpenLane → Type 0 = λ ys. AreUnfinished K ys log' J in subst P (sym d) (All-nil (λ o. IsUnfinished o.phase K o log' J))
+    rest [] d = let P : List OpenLane → Type 0 = λ ys. AreUnfinished K ys log' J in subst P (sym d) (All-nil (λ o. IsBatchUnfinished o.phase K o log' J))
     rest (x ∷ xs) d = all_untouched K o.batch log log' I J home shape (subst (λ a. Made K [] a o.batch.lane (view K o.batch.lane log I) (view K o.batch.lane log' J)) (quiet (more_behind os i x xs d)) made) (drop (i + 1) os) (subst LanesRise split rise).0 here
 
 -- where its coordinator is, by what stands of it
-pub home_there : (K : Shape) (o : OpenLane) (log : Sight) (I : ℕ → Sight) (p : OpenPhase) → IsUnfinished p K o log I → home_of K o.batch.lane < K.coordinators
+pub home_there : (K : Shape) (o : OpenLane) (log : Sight) (I : ℕ → Sight) (p : OpenPhase) → IsBatchUnfinished p K o log I → home_of K o.batch.lane < K.coordinators
 home_there K o log I Prepared h = h.is_open.home
 home_there K o log I Committed h = h.1.is_open.home
 home_there K o log I Discarded h = h.1.is_open.home

@@ -1,5 +1,5 @@
 -- The lanes that are open at a coordinator.
-use Rattle.std.specs.Prelude.{◌≡◌, ◌≢◌, ◌⊎◌, ℕ, ◌<◌, Bool, List, [], ◌∷◌, ◌++◌, length, map, Contains, Option, Some, None, Result, Ok, Err}
+use Rattle.std.specs.Prelude.{◌≡◌, ◌≢◌, ◌⊎◌, ℕ, ◌<◌, Bool, true, List, [], ◌∷◌, ◌++◌, length, map, Contains, Option, Some, None, Result, Ok, Err}
 use Rattle.std.specs.List.{All, AllZip}
 use Rattle.cbdc_types.specs.declared.batch.OpenLane.{OpenLane}
 use Rattle.cbdc_types.specs.declared.batch.Phase.{Phase as OpenPhase}
@@ -15,11 +15,18 @@ use Rattle.lane_laws.specs.Calls.{AreParts, lock_of}
 use Rattle.lane_laws.specs.Traces.{DiscardedStopped, CommittedStopped, PreparedStopped}
 use Rattle.lane_laws.specs.Resuming.{IsPreparedAt, IsCommittedAt, IsDiscardedAt, IsTakenUp, IsLeft}
 use Rattle.lane_driver.specs.declared.fault.LaneFault.{LaneFault}
-use Rattle.lane_driver.specs.declared.fault.LaneFaultKind.TheVariants.{Memory as NoMemory}
+use Rattle.lane_driver.specs.declared.fault.Stop.{Stop}
+use Rattle.lane_driver.specs.declared.port.LogPort.{Ghosts as LogGhosts}
+use Rattle.lane_driver.specs.declared.port.PortSet.{Ghosts as SetGhosts}
+use Rattle.lane_driver.specs.declared.port.Ports.{Ports}
 use Rattle.lane_driver.specs.Causes.{IsCausedFault}
 use Rattle.lane_driver.specs.Wanting.{IsLockWant}
-use Rattle.lane_driver.specs.Stops.{IsFaultOf, HasNoMemory}
+use Rattle.lane_driver.specs.Stops.{IsLaneFaultOf, DriverHasNoMemory}
 use Rattle.lane_driver.specs.Told.{IsLane, IsStamp, IsStillNode}
+use Rattle.lane_driver.specs.Keeping.{KeepsLog, KeepsShards}
+use Rattle.lane_driver.specs.Showing.{LaneSights}
+use Rattle.lane_driver.specs.Outcomes.{IsStop}
+use Rattle.recovery.specs.declared.resumed.Resumed.{Resumed}
 use Rattle.recovery.specs.declared.resumed.ResumedBatch.{ResumedBatch}
 
 -- the phase of the lane's last record
@@ -35,7 +42,7 @@ HasOutcomes Committed outcomes txs = outcomes ≡ txs
 HasOutcomes Discarded outcomes txs = outcomes ≡ txs
 
 -- the lane is open at the coordinator as told
-pub record IsOpen (h : Header) (phase : ℕ → Phase) (open_txs : ℕ → List Compact) (o : OpenLane) : Type 0 where
+pub record IsLaneOpen (h : Header) (phase : ℕ → Phase) (open_txs : ℕ → List Compact) (o : OpenLane) : Type 0 where
   pub lane : IsLane h o.batch.lane
   pub batch : IsBatchOf h.shape o.batch
   pub phase_is : phase o.batch.lane ≡ phase_of o.phase
@@ -44,6 +51,10 @@ pub record IsOpen (h : Header) (phase : ℕ → Phase) (open_txs : ℕ → List 
   pub limits : All IsCompact o.txs
   pub stamp : IsStamp o.stamp
   pub outcomes : HasOutcomes o.phase (length o.outcomes) (length o.txs)
+
+-- the lane is open at the coordinator that the port goes to
+abbrev pub IsOpenThrough : {L : Type 0} → LogGhosts L → L → OpenLane → Type 0
+IsOpenThrough log port o = IsLaneOpen (log.header port) (log.phase port) (log.open_txs port) o
 
 -- the lanes rise
 abbrev pub LanesAbove : ℕ → List OpenLane → Type 0
@@ -60,24 +71,27 @@ abbrev pub KeepsUnlisted : Header → List OpenLane → (ℕ → Phase) → (ℕ
 KeepsUnlisted h os p q t u = (lane : ℕ) → IsLane h lane → All (λ o. lane ≢ o.batch.lane) os → (q lane ≡ p lane) × (u lane ≡ t lane)
 
 -- the batch was resumed, with an outcome for each transaction
-pub record IsResumed (o : OpenLane) (r : ResumedBatch) : Type 0 where
+pub record IsBatchResumed (o : OpenLane) (r : ResumedBatch) : Type 0 where
   pub batch : r.batch ≡ o.batch
   pub phase_is : r.phase ≡ o.phase
   pub outcomes : length r.outcomes ≡ length o.txs
 
 -- each of these was resumed, in order
 abbrev pub AreResumed : List OpenLane → List ResumedBatch → Type 0
-AreResumed os rs = AllZip IsResumed os rs
+AreResumed os rs = AllZip IsBatchResumed os rs
 
 -- the journals have of the open batch what is told of it, and each shard has come as far with it as its phase lets it
-abbrev pub IsUnfinished : OpenPhase → Shape → OpenLane → Sight → (ℕ → Sight) → Type 0
-IsUnfinished Prepared K o log shards = IsPreparedAt K o.batch o.txs o.stamp log shards
-IsUnfinished Committed K o log shards = (prepared : ℕ) × IsCommittedAt K o.batch o.txs prepared o.stamp o.outcomes log shards
-IsUnfinished Discarded K o log shards = (prepared : ℕ) × IsDiscardedAt K o.batch o.txs prepared o.stamp log shards
+abbrev pub IsBatchUnfinished : OpenPhase → Shape → OpenLane → Sight → (ℕ → Sight) → Type 0
+IsBatchUnfinished Prepared K o log shards = IsPreparedAt K o.batch o.txs o.stamp log shards
+IsBatchUnfinished Committed K o log shards = (prepared : ℕ) × IsCommittedAt K o.batch o.txs prepared o.stamp o.outcomes log shards
+IsBatchUnfinished Discarded K o log shards = (prepared : ℕ) × IsDiscardedAt K o.batch o.txs prepared o.stamp log shards
 
--- the same of all of them
+-- `StandsOpen`, `AreUnfinished`: that of an open batch in its phase, and of all of them
+abbrev pub StandsOpen : Shape → OpenLane → Sight → (ℕ → Sight) → Type 0
+StandsOpen K o log shards = IsBatchUnfinished o.phase K o log shards
+
 abbrev pub AreUnfinished : Shape → List OpenLane → Sight → (ℕ → Sight) → Type 0
-AreUnfinished K os log shards = All (λ o. IsUnfinished o.phase K o log shards) os
+AreUnfinished K os log shards = All (λ o. IsBatchUnfinished o.phase K o log shards) os
 
 -- the outcomes of the batch are those of the Commit that was written now, or those that it had
 abbrev pub HasItsOutcomes : OpenPhase → OpenLane → List Record → ResumedBatch → Type 0
@@ -87,88 +101,90 @@ HasItsOutcomes Discarded o J r = r.outcomes ≡ o.outcomes
 
 -- it stopped at a node's fault
 abbrev pub IsResumeStopped : Shape → Bool → OpenLane → Sight → (ℕ → Sight) → Sight → (ℕ → Sight) → LaneFault → Type 0
-IsResumeStopped K alone o log I log' J e = IsUnfinished o.phase K o log I → (n : ℕ) × (f : NodeFault) × IsFaultOf e n f × IsLeft K alone o.batch log I log' J n f
+IsResumeStopped K alone o log I log' J e = IsBatchUnfinished o.phase K o log I → (n : ℕ) × (f : NodeFault) × IsLaneFaultOf e n f × IsLeft K alone o.batch log I log' J n f
 
 -- what was told of it, call by call, from the phase on in which it stood: each concerned shard of a phase answered as it does (a lock with `Memory`
 -- maybe unasked), and where one of them did not do what it was asked, the least such shard's fault is this
-abbrev pub IsToldFrom : OpenPhase → Shape → Bool → OpenLane → List (ℕ × List Entry) → Sight → (ℕ → Sight) → Sight → (ℕ → Sight) → ℕ → NodeFault → Type 0
-IsToldFrom Prepared K alone o parts log I log' J n f = PreparedStopped K alone o.batch o.stamp 0 parts log log' I J n f
-IsToldFrom Committed K alone o parts log I log' J n f = CommittedStopped K alone o.batch o.stamp o.outcomes 0 (map (lock_of o.batch o.stamp) parts) log log' I J n f
-IsToldFrom Discarded K alone o parts log I log' J n f = DiscardedStopped K alone o.batch o.stamp 0 (map (lock_of o.batch o.stamp) parts) log log' I J n f
+abbrev pub IsToldFrom : OpenPhase → Shape → Bool → OpenLane → List (ℕ × List Entry) → LaneSights → LaneSights → ℕ → NodeFault → Type 0
+IsToldFrom Prepared K alone o parts old new n f = PreparedStopped K alone o.batch o.stamp 0 parts old.home new.home old.shards new.shards n f
+IsToldFrom Committed K alone o parts old new n f =
+    CommittedStopped K alone o.batch o.stamp o.outcomes 0 (map (lock_of o.batch o.stamp) parts) old.home new.home old.shards new.shards n f
+IsToldFrom Discarded K alone o parts old new n f =
+    DiscardedStopped K alone o.batch o.stamp 0 (map (lock_of o.batch o.stamp) parts) old.home new.home old.shards new.shards n f
 
--- the same of a batch that is cut into its parts
-abbrev pub IsResumeTold : Shape → Bool → OpenLane → Sight → (ℕ → Sight) → Sight → (ℕ → Sight) → LaneFault → Type 0
-IsResumeTold K alone o log I log' J e =
-    (parts : List (ℕ × List Entry)) × AreParts K o.txs parts × (n : ℕ) × (f : NodeFault) × IsFaultOf e n f × IsToldFrom o.phase K alone o parts log I log' J n f
+-- it was prepared, and memory ran out at the Lock of this shard, with nothing asked behind the Locks
+abbrev pub TakesAtLock : Shape → Bool → OpenLane → List (ℕ × List Entry) → LaneSights → LaneSights → ℕ → Type 0
+TakesAtLock K alone o parts old new node = (o.phase ≡ Prepared) × IsLockWant K alone o.batch o.stamp parts old.home new.home old.shards new.shards node
 
--- it was prepared, and stopped because memory ran out at the Lock of a shard, with nothing asked behind the Locks
-abbrev pub IsResumeWant : Shape → Bool → OpenLane → Sight → (ℕ → Sight) → Sight → (ℕ → Sight) → LaneFault → Type 0
-IsResumeWant K alone o log I log' J e =
-    (o.phase ≡ Prepared) × (parts : List (ℕ × List Entry)) × AreParts K o.txs parts × IsLockWant K alone o.batch o.stamp parts log log' I J e.node
-
--- so where it stopped because memory ran out
-abbrev pub WantsAtLock : Shape → Bool → OpenLane → Sight → (ℕ → Sight) → Sight → (ℕ → Sight) → LaneFault → Type 0
-WantsAtLock K alone o log I log' J e = e.fault ≡ NoMemory → IsResumeWant K alone o log I log' J e
+-- it stood open, cut into its parts, and stopped at a call, with the answer of the node that was called
+pub record IsResumeStop (K : Shape) (alone : Bool) (o : OpenLane) (old new : LaneSights) (e : LaneFault) : Type 0 where
+  pub stands : StandsOpen K o old.home old.shards
+  pub parts : List (ℕ × List Entry)
+  pub are_parts : AreParts K o.txs parts
+  pub stop : Stop
+  pub is_fault : IsLaneFaultOf e stop.node stop.fault
+  pub stopped : IsStop K new (IsToldFrom o.phase K alone o parts old new) (TakesAtLock K alone o parts old new) stop
 
 -- the open batch was taken to its end, and it is told with the phase in which it stood and its outcomes
 pub record IsOneTaken (K : Shape) (alone : Bool) (o : OpenLane) (log : Sight) (I : ℕ → Sight) (log' : Sight) (J : ℕ → Sight) (r : ResumedBatch) : Type 0 where
   pub taken : IsTakenUp K alone o.batch log I log' J
-  pub resumed : IsResumed o r
+  pub resumed : IsBatchResumed o r
   pub outcomes : HasItsOutcomes o.phase o log'.seen r
 
 -- so was each of them, one behind the other
-abbrev pub AreTakenUp : Shape → Bool → List OpenLane → List ResumedBatch → Sight → (ℕ → Sight) → Sight → (ℕ → Sight) → Type 0
-AreTakenUp K alone [] [] log I log' J = (log' ≡ log) × (J ≡ I)
-AreTakenUp K alone [] (r ∷ rs) log I log' J = ⊥
-AreTakenUp K alone (o ∷ os) [] log I log' J = ⊥
-AreTakenUp K alone (o ∷ os) (r ∷ rs) log I log' J =
-    (between : Sight) × (shards_between : ℕ → Sight) × IsOneTaken K alone o log I between shards_between r × AreTakenUp K alone os rs between shards_between log' J
+abbrev pub AreTakenUp : Shape → Bool → List OpenLane → List ResumedBatch → LaneSights → LaneSights → Type 0
+AreTakenUp K alone [] [] old new = new ≡ old
+AreTakenUp K alone [] (r ∷ rs) old new = ⊥
+AreTakenUp K alone (o ∷ os) [] old new = ⊥
+AreTakenUp K alone (o ∷ os) (r ∷ rs) old new =
+    (between : LaneSights) × IsOneTaken K alone o old.home old.shards between.home between.shards r × AreTakenUp K alone os rs between new
 
--- the result of one of them: it was taken to its end, or it stood open and stopped
-abbrev pub CameOf : Shape → Bool → OpenLane → Result ResumedBatch LaneFault → Sight → (ℕ → Sight) → Sight → (ℕ → Sight) → Type 0
-CameOf K alone o (Ok r) log I log' J = IsOneTaken K alone o log I log' J r
-CameOf K alone o (Err e) log I log' J =
-    IsUnfinished o.phase K o log I × IsResumeStopped K alone o log I log' J e × IsResumeTold K alone o log I log' J e × WantsAtLock K alone o log I log' J e
+-- what one of them came to: it was taken to its end, or it stopped
+abbrev pub ResumeCameOf : Shape → Bool → OpenLane → Result ResumedBatch LaneFault → LaneSights → LaneSights → Type 0
+ResumeCameOf K alone o (Ok r) old new = IsOneTaken K alone o old.home old.shards new.home new.shards r
+ResumeCameOf K alone o (Err e) old new = IsResumeStop K alone o old new e
 
--- each of them was taken up, one behind the other, whatever came of those before it
-abbrev pub AreTried : Shape → Bool → List OpenLane → List (Result ResumedBatch LaneFault) → Sight → (ℕ → Sight) → Sight → (ℕ → Sight) → Type 0
-AreTried K alone [] [] log I log' J = (log' ≡ log) × (J ≡ I)
-AreTried K alone [] (c ∷ cs) log I log' J = ⊥
-AreTried K alone (o ∷ os) [] log I log' J = ⊥
-AreTried K alone (o ∷ os) (c ∷ cs) log I log' J =
-    (between : Sight) × (shards_between : ℕ → Sight) × CameOf K alone o c log I between shards_between × AreTried K alone os cs between shards_between log' J
-
--- one of them stopped; those before it were taken to their end, and each of those behind it was taken up still
-pub record IsStoppedAmong (K : Shape) (alone : Bool) (os : List OpenLane) (log : Sight) (I : ℕ → Sight) (log' : Sight) (J : ℕ → Sight) (e : LaneFault) : Type 0 where
-  pub before : List OpenLane
-  pub stopped_at : OpenLane
-  pub behind : List OpenLane
-  pub are : os ≡ before ++ stopped_at ∷ behind
-  pub batches : List ResumedBatch
-  pub log_there : Sight
-  pub shards_there : ℕ → Sight
-  pub taken : AreTakenUp K alone before batches log I log_there shards_there
-  pub stands : IsUnfinished stopped_at.phase K stopped_at log_there shards_there
-  pub log_then : Sight
-  pub shards_then : ℕ → Sight
-  pub stopped : IsResumeStopped K alone stopped_at log_there shards_there log_then shards_then e
-  pub told : IsResumeTold K alone stopped_at log_there shards_there log_then shards_then e
-  pub want : WantsAtLock K alone stopped_at log_there shards_there log_then shards_then e
-  pub came : List (Result ResumedBatch LaneFault)
-  pub went_on : AreTried K alone behind came log_then shards_then log' J
-
--- that, or they were not begun because memory ran out
-abbrev pub AreStopped : Shape → Bool → List OpenLane → Sight → (ℕ → Sight) → Sight → (ℕ → Sight) → LaneFault → Type 0
-AreStopped K alone os log I log' J e = HasNoMemory e log I log' J ⊎ IsStoppedAmong K alone os log I log' J e
+-- each of them was taken up, one behind the other, whatever those before it came to
+abbrev pub AreTried : Shape → Bool → List OpenLane → List (Result ResumedBatch LaneFault) → LaneSights → LaneSights → Type 0
+AreTried K alone [] [] old new = new ≡ old
+AreTried K alone [] (c ∷ cs) old new = ⊥
+AreTried K alone (o ∷ os) [] old new = ⊥
+AreTried K alone (o ∷ os) (c ∷ cs) old new = (between : LaneSights) × ResumeCameOf K alone o c old between × AreTried K alone os cs between new
 
 -- one of them was prepared
-abbrev pub HasPrepared : List OpenLane → Type 0
-HasPrepared os = (o : OpenLane) × Contains os o × (o.phase ≡ Prepared)
+abbrev pub HasPreparedLane : List OpenLane → Type 0
+HasPreparedLane os = (o : OpenLane) × Contains os o × (o.phase ≡ Prepared)
 
 -- a node has gone on from how it stood: it is the same still, and its journal has grown at its end
 pub record HasGoneOn (old new : Sight) : Type 0 where
   pub node : IsStillNode old new
   pub grows : IsEnd old.seen new.seen
+
+-- one of them stopped; those before it were taken to their end, each of those behind it was taken up still, and the nodes have gone on since
+pub record IsStoppedAmong (K : Shape) (alone : Bool) (os : List OpenLane) (old new : LaneSights) (e : LaneFault) : Type 0 where
+  pub before : List OpenLane
+  pub stopped_at : OpenLane
+  pub behind : List OpenLane
+  pub are : os ≡ before ++ stopped_at ∷ behind
+  pub batches : List ResumedBatch
+  pub there : LaneSights
+  pub taken : AreTakenUp K alone before batches old there
+  pub since : LaneSights
+  pub stopped : IsResumeStop K alone stopped_at there since e
+  pub came : List (Result ResumedBatch LaneFault)
+  pub went_on : AreTried K alone behind came since new
+  pub logs_on : (n : ℕ) → HasGoneOn (since.logs n) (new.logs n)
+  pub shards_on : (n : ℕ) → HasGoneOn (since.shards n) (new.shards n)
+
+-- what open batches came to whose memory was taken: each was taken to its end, or one of them stopped
+abbrev pub OpenLanesCame : Shape → Bool → List OpenLane → Result Resumed LaneFault → LaneSights → LaneSights → Type 0
+OpenLanesCame K alone os (Ok r) old new = AreTakenUp K alone os r.batches old new
+OpenLanesCame K alone os (Err e) old new = IsStoppedAmong K alone os old new e
+
+-- what they came to with their memory: that, or they were not begun because the driver ran out of memory
+abbrev pub ResumingCame : Shape → Bool → List OpenLane → Result Resumed LaneFault → LaneSights → LaneSights → Type 0
+ResumingCame K alone os (Ok r) old new = AreTakenUp K alone os r.batches old new
+ResumingCame K alone os (Err e) old new = DriverHasNoMemory e old.home old.shards new.home new.shards ⊎ IsStoppedAmong K alone os old new e
 
 -- the fault had its cause as the nodes stood when it came, from where they have gone on
 pub record WasCaused (K : Shape) (logs shards : ℕ → Sight) (e : LaneFault) : Type 0 where
@@ -178,9 +194,16 @@ pub record WasCaused (K : Shape) (logs shards : ℕ → Sight) (e : LaneFault) :
   pub shards_on : (n : ℕ) → HasGoneOn (shards_then n) (shards n)
   pub cause : IsCausedFault K logs_then shards_then e
 
+-- what calls keep of the ports of open lanes: they go to the same nodes, and where no other lane's records come between them, the coordinator's lanes that
+-- are not listed are as before
+pub record KeepsListedPorts {S L G : Type 0} (log : LogGhosts L) (set : SetGhosts S G) (os : List OpenLane) (old new : Ports S L) : Type 0 where
+  pub to_log : KeepsLog log.at log.header log.count log.sights log.faults log.holds old.log new.log
+  pub to_shards : KeepsShards set.count set.sights set.faults set.holds set.serves old.shards new.shards
+  pub others : log.alone ≡ true → KeepsUnlisted (log.header old.log) os (log.phase old.log) (log.phase new.log) (log.open_txs old.log) (log.open_txs new.log)
+
 -- a lane's batch is kept behind those before it, or its fault, where none came before
-abbrev pub Keeps : List ResumedBatch → Option LaneFault → Result ResumedBatch LaneFault → List ResumedBatch → Option LaneFault → Type 0
-Keeps before (Some f) (Ok r) after now = (after ≡ before ++ r ∷ []) × (now ≡ Some f)
-Keeps before None (Ok r) after now = (after ≡ before ++ r ∷ []) × (now ≡ None)
-Keeps before (Some f) (Err e) after now = (after ≡ before) × (now ≡ Some f)
-Keeps before None (Err e) after now = (after ≡ before) × (now ≡ Some e)
+abbrev pub KeepsResumed : List ResumedBatch → Option LaneFault → Result ResumedBatch LaneFault → List ResumedBatch → Option LaneFault → Type 0
+KeepsResumed before (Some f) (Ok r) after now = (after ≡ before ++ r ∷ []) × (now ≡ Some f)
+KeepsResumed before None (Ok r) after now = (after ≡ before ++ r ∷ []) × (now ≡ None)
+KeepsResumed before (Some f) (Err e) after now = (after ≡ before) × (now ≡ Some f)
+KeepsResumed before None (Err e) after now = (after ≡ before) × (now ≡ Some e)

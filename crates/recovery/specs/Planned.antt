@@ -13,11 +13,11 @@ pub record PlanOf : Type 0 where
   pub lanes : List OpenLane
 
 -- the memory of a batch: that of its transactions, cut into their parts, and its outcomes once more
-pub record IsLaneRoom (K : Shape) (o : OpenLane) (r : LaneRoom) : Type 0 where
+pub record IsRoomToResume (K : Shape) (o : OpenLane) (r : LaneRoom) : Type 0 where
   pub readied : IsReadied K o.txs r.room
   pub same : r.outcomes ≡ o.outcomes
 
 -- that of each, the last one first, and room for what each tells
 pub record IsPlan (K : Shape) (os : List OpenLane) (rooms : List LaneRoom) (told : List ResumedBatch) : Type 0 where
-  pub each : AllZip (IsLaneRoom K) os (reverse rooms)
+  pub each : AllZip (IsRoomToResume K) os (reverse rooms)
   pub none : told ≡ []

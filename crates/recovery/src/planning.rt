@@ -1,7 +1,7 @@
 // The memory of open batches is taken.
 ghost use Rattle.std.specs.Prelude.{◌≡◌, ◌<◌, ◌^◌, length, IfOk, All};
 ghost use Rattle.cbdc_model.specs.Grammar.{HasSize};
-ghost use Rattle.recovery.specs.Planned.{IsLaneRoom};
+ghost use Rattle.recovery.specs.Planned.{IsRoomToResume};
 
 use crate::plans::Plan;
 use cbdc_types::{List, OpenLane, Outcome, Outcomes, Shape};
@@ -25,7 +25,7 @@ fn copied(alloc: Global, outcomes: &[Outcome]) -> Result<Outcomes, AllocError>
 // The memory of one batch, or memory ran out.
 fn lane_room(alloc: Global, shape: &Shape, unfinished: &OpenLane) -> Result<LaneRoom, AllocError>
     requires { length unfinished.now.txs < 2 ^ 32 }
-    ensures { IfOk result (IsLaneRoom shape.now unfinished.now) }
+    ensures { IfOk result (IsRoomToResume shape.now unfinished.now) }
 {
     Ok(LaneRoom {
         room: BatchRoom::take(alloc, shape, unfinished.txs.as_slice())?,

@@ -1,10 +1,9 @@
 // Open batches for which all memory is taken.
-ghost use Rattle.std.specs.Prelude.{◌≡◌, ◌<◌, true, length, IfOk, IfErr, OnOk, All};
+ghost use Rattle.std.specs.Prelude.{◌≡◌, ◌<◌, true, length, OnOk, All};
 ghost use Rattle.cbdc_model.specs.Slots.{Idle};
-ghost use Rattle.lane_driver.specs.declared.fault.LaneFaultKind.TheVariants.{Memory as NoMemory};
-ghost use Rattle.lane_driver.specs.Keeping.{KeepsLog, KeepsShards};
+ghost use Rattle.lane_driver.specs.Showing.{PortsShow, PortsTell};
 ghost use Rattle.lane_driver.specs.Told.{AreShardsOf};
-ghost use Rattle.recovery.specs.Open.{IsOpen, LanesRise, KeepsUnlisted, AreResumed, AreUnfinished, AreTakenUp, IsStoppedAmong, HasPrepared, WasCaused};
+ghost use Rattle.recovery.specs.Open.{IsOpenThrough, LanesRise, AreUnfinished, OpenLanesCame, KeepsListedPorts};
 
 use crate::driving::drive_lanes;
 use crate::planning::LaneRoom;
@@ -43,7 +42,7 @@ impl<'a> Plan<'a> {
     /// others come, those of the list's later lanes too. Where none write, the lanes that are not listed are as before. A lane that
     /// meets a fault ends; the others go on. The answer is then the least lane's fault. It takes no memory of its own.
     ///
-    /// Out of memory: where a shard ran out of it at a Lock of a batch that was prepared (`want`); with none prepared never. That batch is prepared
+    /// Out of memory: where a shard ran out of it at a Lock of a batch that was prepared (`outcome`); with none prepared never. That batch is prepared
     /// still; those before it are at their end, and those behind it were taken up.
     pub fn go<S: PortSet<G>, L: LogPort, G: Gate>(
         self,
@@ -53,29 +52,21 @@ impl<'a> Plan<'a> {
         requires same { S.alone ≡ L.alone }
         requires at { L.at ports.old.log ≡ (L.header ports.old.log).node }
         requires alone { 1 < length self.lanes → S.alone ≡ true }
-        requires is_open { All (IsOpen (L.header ports.old.log) (L.phase ports.old.log) (L.open_txs ports.old.log)) self.lanes }
-        requires stand { AreUnfinished self.shape self.lanes (L.sights ports.old.log (L.at ports.old.log)) (S.sights ports.old.shards) }
+        requires is_open { All (IsOpenThrough L.LogPort ports.old.log) self.lanes }
+        requires stand { PortsShow L.LogPort S.PortSet ports.old (AreUnfinished self.shape self.lanes) }
         requires rise { LanesRise self.lanes }
         requires shape { (L.header ports.old.log).shape ≡ self.shape }
         requires count { S.count ports.old.shards ≡ self.shape.shards }
         requires ledger { AreShardsOf self.shape (S.sights ports.old.shards) }
         requires mine { All (λ o. S.serves ports.old.shards o.batch.lane) self.lanes }
 
-        // Each batch is at its end, and is told with the phase in which it stood and the outcomes of its Commit; each lane is idle.
-        ensures taken { IfOk result (λ r. AreTakenUp self.entry.shape L.alone self.entry.lanes r.batches (L.sights ports.old.log (L.at ports.old.log)) (S.sights ports.old.shards) (L.sights ports.new.log (L.at ports.new.log)) (S.sights ports.new.shards)) }
+        // Each batch is at its end, and is told with the phase in which it stood and the outcomes of its Commit; or one stopped, at the least shard's
+        // fault of a phase all of whose calls were made, or at its coordinator's: those before it are at their end, and each of those behind it was
+        // taken up still, to its end or until it stopped too.
+        ensures outcome { PortsTell L.LogPort S.PortSet ports.old ports.new
+            (OpenLanesCame self.entry.shape L.alone self.entry.lanes result) }
         ensures idle { OnOk result (All (λ o. L.phase ports.new.log o.batch.lane ≡ Idle) self.entry.lanes) }
-
-        // Or one stopped, at the least shard's fault of a phase all of whose calls were made, or at its coordinator's; those before
-        // it are at their end, and each of those behind it was taken up still, to its end or until it stopped too.
-        ensures left { IfErr result (IsStoppedAmong self.entry.shape L.alone self.entry.lanes (L.sights ports.old.log (L.at ports.old.log)) (S.sights ports.old.shards) (L.sights ports.new.log (L.at ports.new.log)) (S.sights ports.new.shards)) }
-        ensures fault { IfErr result (WasCaused self.entry.shape (L.sights ports.new.log) (S.sights ports.new.shards)) }
-
-        // It answers out of memory only where a shard did, at a Lock of a prepared batch: with none prepared it never does.
-        ensures want { IfErr result (λ e. e.fault ≡ NoMemory → HasPrepared self.entry.lanes) }
-        ensures others { L.alone ≡ true → KeepsUnlisted (L.header ports.old.log) self.entry.lanes (L.phase ports.old.log) (L.phase ports.new.log) (L.open_txs ports.old.log) (L.open_txs ports.new.log) }
-        ensures keeps_log { KeepsLog L.at L.header L.count L.sights L.faults L.holds ports.old.log ports.new.log }
-        ensures keeps_shards { KeepsShards S.count S.sights S.faults S.holds S.serves ports.old.shards ports.new.shards }
-        ensures resumed { IfOk result (λ r. AreResumed self.entry.lanes r.batches) }
+        ensures keeps { KeepsListedPorts L.LogPort S.PortSet self.entry.lanes ports.old ports.new }
     {
         let Plan {
             shape,

@@ -1,14 +1,12 @@
 // An open batch is taken to its end.
-ghost use Rattle.std.specs.Prelude.{◌≡◌, true, IfOk, IfErr, OnOk};
+ghost use Rattle.std.specs.Prelude.{◌≡◌, OnOk};
 ghost use Rattle.cbdc_model.specs.Slots.{Idle};
 ghost use Rattle.cbdc_types.specs.declared.batch.Phase.TheVariants.{Prepared, Committed, Discarded};
-ghost use Rattle.lane_laws.specs.Resuming.{IsTakenUp};
-ghost use Rattle.lane_driver.specs.Keeping.{KeepsLog, KeepsShards};
-ghost use Rattle.lane_driver.specs.Told.{KeepsOthers, AreShardsOf};
-ghost use Rattle.lane_driver.specs.Causes.{IsCausedFault};
+ghost use Rattle.lane_driver.specs.Showing.{PortsShow, PortsTell, KeepsLanePorts};
+ghost use Rattle.lane_driver.specs.Told.{AreShardsOf};
 ghost use Rattle.lane_driver.specs.Readied.{IsReadied};
-ghost use Rattle.recovery.specs.Open.{IsOpen, IsResumed, IsUnfinished, HasItsOutcomes, IsResumeStopped, IsResumeTold, WantsAtLock};
-ghost use Rattle.recovery.specs.Planned.{IsLaneRoom};
+ghost use Rattle.recovery.specs.Open.{IsOpenThrough, StandsOpen, ResumeCameOf};
+ghost use Rattle.recovery.specs.Planned.{IsRoomToResume};
 
 use crate::planning::LaneRoom;
 use crate::resumed::ResumedBatch;
@@ -33,24 +31,17 @@ fn resume_prepared<S: PortSet<G>, L: LogPort, G: Gate>(
     requires phase { unfinished.now.phase ≡ Prepared }
     requires same { S.alone ≡ L.alone }
     requires at { L.at ports.old.log ≡ (L.header ports.old.log).node }
-    requires is_open { IsOpen (L.header ports.old.log) (L.phase ports.old.log) (L.open_txs ports.old.log) unfinished.now }
-    requires stands { IsUnfinished unfinished.now.phase shape.now unfinished.now (L.sights ports.old.log (L.at ports.old.log)) (S.sights ports.old.shards) }
+    requires is_open { IsOpenThrough L.LogPort ports.old.log unfinished.now }
+    requires stands { PortsShow L.LogPort S.PortSet ports.old (StandsOpen shape.now unfinished.now) }
     requires shape { (L.header ports.old.log).shape ≡ shape.now }
     requires count { S.count ports.old.shards ≡ shape.now.shards }
     requires ledger { AreShardsOf shape.now (S.sights ports.old.shards) }
     requires mine { S.serves ports.old.shards unfinished.now.batch.lane }
     requires readied { IsReadied shape.now unfinished.now.txs room }
-    ensures taken { OnOk result (IsUnfinished unfinished.now.phase shape.now unfinished.now (L.sights ports.old.log (L.at ports.old.log)) (S.sights ports.old.shards) → IsTakenUp shape.now L.alone unfinished.now.batch (L.sights ports.old.log (L.at ports.old.log)) (S.sights ports.old.shards) (L.sights ports.new.log (L.at ports.new.log)) (S.sights ports.new.shards)) }
-    ensures outcomes { IfOk result (λ r. IsUnfinished unfinished.now.phase shape.now unfinished.now (L.sights ports.old.log (L.at ports.old.log)) (S.sights ports.old.shards) → HasItsOutcomes unfinished.now.phase unfinished.now (L.sights ports.new.log (L.at ports.new.log)).seen r) }
-    ensures left { IfErr result (IsResumeStopped shape.now L.alone unfinished.now (L.sights ports.old.log (L.at ports.old.log)) (S.sights ports.old.shards) (L.sights ports.new.log (L.at ports.new.log)) (S.sights ports.new.shards)) }
-    ensures told { IfErr result (IsResumeTold shape.now L.alone unfinished.now (L.sights ports.old.log (L.at ports.old.log)) (S.sights ports.old.shards) (L.sights ports.new.log (L.at ports.new.log)) (S.sights ports.new.shards)) }
-    ensures fault { IfErr result (IsCausedFault shape.now (L.sights ports.new.log) (S.sights ports.new.shards)) }
-    ensures want { IfErr result (WantsAtLock shape.now L.alone unfinished.now (L.sights ports.old.log (L.at ports.old.log)) (S.sights ports.old.shards) (L.sights ports.new.log (L.at ports.new.log)) (S.sights ports.new.shards)) }
+    ensures outcome { PortsTell L.LogPort S.PortSet ports.old ports.new
+        (ResumeCameOf shape.now L.alone unfinished.now result) }
     ensures idle { OnOk result (L.phase ports.new.log unfinished.now.batch.lane ≡ Idle) }
-    ensures others { L.alone ≡ true → KeepsOthers (L.header ports.old.log) unfinished.now.batch.lane (L.phase ports.old.log) (L.phase ports.new.log) (L.open_txs ports.old.log) (L.open_txs ports.new.log) }
-    ensures keeps_log { KeepsLog L.at L.header L.count L.sights L.faults L.holds ports.old.log ports.new.log }
-    ensures keeps_shards { KeepsShards S.count S.sights S.faults S.holds S.serves ports.old.shards ports.new.shards }
-    ensures resumed { IfOk result (IsResumed unfinished.now) }
+    ensures keeps { KeepsLanePorts L.LogPort S.PortSet unfinished.now.batch.lane ports.old ports.new }
 {
     match from_prepared(
         shape,
@@ -82,25 +73,18 @@ fn resume_committed<S: PortSet<G>, L: LogPort, G: Gate>(
     requires phase { unfinished.now.phase ≡ Committed }
     requires same { S.alone ≡ L.alone }
     requires at { L.at ports.old.log ≡ (L.header ports.old.log).node }
-    requires is_open { IsOpen (L.header ports.old.log) (L.phase ports.old.log) (L.open_txs ports.old.log) unfinished.now }
-    requires stands { IsUnfinished unfinished.now.phase shape.now unfinished.now (L.sights ports.old.log (L.at ports.old.log)) (S.sights ports.old.shards) }
+    requires is_open { IsOpenThrough L.LogPort ports.old.log unfinished.now }
+    requires stands { PortsShow L.LogPort S.PortSet ports.old (StandsOpen shape.now unfinished.now) }
     requires shape { (L.header ports.old.log).shape ≡ shape.now }
     requires count { S.count ports.old.shards ≡ shape.now.shards }
     requires ledger { AreShardsOf shape.now (S.sights ports.old.shards) }
     requires mine { S.serves ports.old.shards unfinished.now.batch.lane }
     requires readied { IsReadied shape.now unfinished.now.txs room }
     requires outcomes { outcomes ≡ unfinished.now.outcomes }
-    ensures taken { OnOk result (IsUnfinished unfinished.now.phase shape.now unfinished.now (L.sights ports.old.log (L.at ports.old.log)) (S.sights ports.old.shards) → IsTakenUp shape.now L.alone unfinished.now.batch (L.sights ports.old.log (L.at ports.old.log)) (S.sights ports.old.shards) (L.sights ports.new.log (L.at ports.new.log)) (S.sights ports.new.shards)) }
-    ensures outcomes { IfOk result (λ r. IsUnfinished unfinished.now.phase shape.now unfinished.now (L.sights ports.old.log (L.at ports.old.log)) (S.sights ports.old.shards) → HasItsOutcomes unfinished.now.phase unfinished.now (L.sights ports.new.log (L.at ports.new.log)).seen r) }
-    ensures left { IfErr result (IsResumeStopped shape.now L.alone unfinished.now (L.sights ports.old.log (L.at ports.old.log)) (S.sights ports.old.shards) (L.sights ports.new.log (L.at ports.new.log)) (S.sights ports.new.shards)) }
-    ensures told { IfErr result (IsResumeTold shape.now L.alone unfinished.now (L.sights ports.old.log (L.at ports.old.log)) (S.sights ports.old.shards) (L.sights ports.new.log (L.at ports.new.log)) (S.sights ports.new.shards)) }
-    ensures fault { IfErr result (IsCausedFault shape.now (L.sights ports.new.log) (S.sights ports.new.shards)) }
-    ensures want { IfErr result (WantsAtLock shape.now L.alone unfinished.now (L.sights ports.old.log (L.at ports.old.log)) (S.sights ports.old.shards) (L.sights ports.new.log (L.at ports.new.log)) (S.sights ports.new.shards)) }
+    ensures outcome { PortsTell L.LogPort S.PortSet ports.old ports.new
+        (ResumeCameOf shape.now L.alone unfinished.now result) }
     ensures idle { OnOk result (L.phase ports.new.log unfinished.now.batch.lane ≡ Idle) }
-    ensures others { L.alone ≡ true → KeepsOthers (L.header ports.old.log) unfinished.now.batch.lane (L.phase ports.old.log) (L.phase ports.new.log) (L.open_txs ports.old.log) (L.open_txs ports.new.log) }
-    ensures keeps_log { KeepsLog L.at L.header L.count L.sights L.faults L.holds ports.old.log ports.new.log }
-    ensures keeps_shards { KeepsShards S.count S.sights S.faults S.holds S.serves ports.old.shards ports.new.shards }
-    ensures resumed { IfOk result (IsResumed unfinished.now) }
+    ensures keeps { KeepsLanePorts L.LogPort S.PortSet unfinished.now.batch.lane ports.old ports.new }
 {
     let BatchRoom {
         parts,
@@ -145,25 +129,18 @@ fn resume_discarded<S: PortSet<G>, L: LogPort, G: Gate>(
     requires phase { unfinished.now.phase ≡ Discarded }
     requires same { S.alone ≡ L.alone }
     requires at { L.at ports.old.log ≡ (L.header ports.old.log).node }
-    requires is_open { IsOpen (L.header ports.old.log) (L.phase ports.old.log) (L.open_txs ports.old.log) unfinished.now }
-    requires stands { IsUnfinished unfinished.now.phase shape.now unfinished.now (L.sights ports.old.log (L.at ports.old.log)) (S.sights ports.old.shards) }
+    requires is_open { IsOpenThrough L.LogPort ports.old.log unfinished.now }
+    requires stands { PortsShow L.LogPort S.PortSet ports.old (StandsOpen shape.now unfinished.now) }
     requires shape { (L.header ports.old.log).shape ≡ shape.now }
     requires count { S.count ports.old.shards ≡ shape.now.shards }
     requires ledger { AreShardsOf shape.now (S.sights ports.old.shards) }
     requires mine { S.serves ports.old.shards unfinished.now.batch.lane }
     requires readied { IsReadied shape.now unfinished.now.txs room }
     requires outcomes { outcomes ≡ unfinished.now.outcomes }
-    ensures taken { OnOk result (IsUnfinished unfinished.now.phase shape.now unfinished.now (L.sights ports.old.log (L.at ports.old.log)) (S.sights ports.old.shards) → IsTakenUp shape.now L.alone unfinished.now.batch (L.sights ports.old.log (L.at ports.old.log)) (S.sights ports.old.shards) (L.sights ports.new.log (L.at ports.new.log)) (S.sights ports.new.shards)) }
-    ensures outcomes { IfOk result (λ r. IsUnfinished unfinished.now.phase shape.now unfinished.now (L.sights ports.old.log (L.at ports.old.log)) (S.sights ports.old.shards) → HasItsOutcomes unfinished.now.phase unfinished.now (L.sights ports.new.log (L.at ports.new.log)).seen r) }
-    ensures left { IfErr result (IsResumeStopped shape.now L.alone unfinished.now (L.sights ports.old.log (L.at ports.old.log)) (S.sights ports.old.shards) (L.sights ports.new.log (L.at ports.new.log)) (S.sights ports.new.shards)) }
-    ensures told { IfErr result (IsResumeTold shape.now L.alone unfinished.now (L.sights ports.old.log (L.at ports.old.log)) (S.sights ports.old.shards) (L.sights ports.new.log (L.at ports.new.log)) (S.sights ports.new.shards)) }
-    ensures fault { IfErr result (IsCausedFault shape.now (L.sights ports.new.log) (S.sights ports.new.shards)) }
-    ensures want { IfErr result (WantsAtLock shape.now L.alone unfinished.now (L.sights ports.old.log (L.at ports.old.log)) (S.sights ports.old.shards) (L.sights ports.new.log (L.at ports.new.log)) (S.sights ports.new.shards)) }
+    ensures outcome { PortsTell L.LogPort S.PortSet ports.old ports.new
+        (ResumeCameOf shape.now L.alone unfinished.now result) }
     ensures idle { OnOk result (L.phase ports.new.log unfinished.now.batch.lane ≡ Idle) }
-    ensures others { L.alone ≡ true → KeepsOthers (L.header ports.old.log) unfinished.now.batch.lane (L.phase ports.old.log) (L.phase ports.new.log) (L.open_txs ports.old.log) (L.open_txs ports.new.log) }
-    ensures keeps_log { KeepsLog L.at L.header L.count L.sights L.faults L.holds ports.old.log ports.new.log }
-    ensures keeps_shards { KeepsShards S.count S.sights S.faults S.holds S.serves ports.old.shards ports.new.shards }
-    ensures resumed { IfOk result (IsResumed unfinished.now) }
+    ensures keeps { KeepsLanePorts L.LogPort S.PortSet unfinished.now.batch.lane ports.old ports.new }
 {
     let BatchRoom {
         parts,
@@ -211,24 +188,17 @@ pub(crate) fn resume_lane<S: PortSet<G>, L: LogPort, G: Gate>(
 ) -> Result<ResumedBatch, LaneFault>
     requires same { S.alone ≡ L.alone }
     requires at { L.at ports.old.log ≡ (L.header ports.old.log).node }
-    requires is_open { IsOpen (L.header ports.old.log) (L.phase ports.old.log) (L.open_txs ports.old.log) unfinished.now }
-    requires stands { IsUnfinished unfinished.now.phase shape.now unfinished.now (L.sights ports.old.log (L.at ports.old.log)) (S.sights ports.old.shards) }
+    requires is_open { IsOpenThrough L.LogPort ports.old.log unfinished.now }
+    requires stands { PortsShow L.LogPort S.PortSet ports.old (StandsOpen shape.now unfinished.now) }
     requires shape { (L.header ports.old.log).shape ≡ shape.now }
     requires count { S.count ports.old.shards ≡ shape.now.shards }
     requires ledger { AreShardsOf shape.now (S.sights ports.old.shards) }
     requires mine { S.serves ports.old.shards unfinished.now.batch.lane }
-    requires room { IsLaneRoom shape.now unfinished.now room }
-    ensures taken { OnOk result (IsUnfinished unfinished.now.phase shape.now unfinished.now (L.sights ports.old.log (L.at ports.old.log)) (S.sights ports.old.shards) → IsTakenUp shape.now L.alone unfinished.now.batch (L.sights ports.old.log (L.at ports.old.log)) (S.sights ports.old.shards) (L.sights ports.new.log (L.at ports.new.log)) (S.sights ports.new.shards)) }
-    ensures outcomes { IfOk result (λ r. IsUnfinished unfinished.now.phase shape.now unfinished.now (L.sights ports.old.log (L.at ports.old.log)) (S.sights ports.old.shards) → HasItsOutcomes unfinished.now.phase unfinished.now (L.sights ports.new.log (L.at ports.new.log)).seen r) }
-    ensures left { IfErr result (IsResumeStopped shape.now L.alone unfinished.now (L.sights ports.old.log (L.at ports.old.log)) (S.sights ports.old.shards) (L.sights ports.new.log (L.at ports.new.log)) (S.sights ports.new.shards)) }
-    ensures told { IfErr result (IsResumeTold shape.now L.alone unfinished.now (L.sights ports.old.log (L.at ports.old.log)) (S.sights ports.old.shards) (L.sights ports.new.log (L.at ports.new.log)) (S.sights ports.new.shards)) }
-    ensures fault { IfErr result (IsCausedFault shape.now (L.sights ports.new.log) (S.sights ports.new.shards)) }
-    ensures want { IfErr result (WantsAtLock shape.now L.alone unfinished.now (L.sights ports.old.log (L.at ports.old.log)) (S.sights ports.old.shards) (L.sights ports.new.log (L.at ports.new.log)) (S.sights ports.new.shards)) }
+    requires room { IsRoomToResume shape.now unfinished.now room }
+    ensures outcome { PortsTell L.LogPort S.PortSet ports.old ports.new
+        (ResumeCameOf shape.now L.alone unfinished.now result) }
     ensures idle { OnOk result (L.phase ports.new.log unfinished.now.batch.lane ≡ Idle) }
-    ensures others { L.alone ≡ true → KeepsOthers (L.header ports.old.log) unfinished.now.batch.lane (L.phase ports.old.log) (L.phase ports.new.log) (L.open_txs ports.old.log) (L.open_txs ports.new.log) }
-    ensures keeps_log { KeepsLog L.at L.header L.count L.sights L.faults L.holds ports.old.log ports.new.log }
-    ensures keeps_shards { KeepsShards S.count S.sights S.faults S.holds S.serves ports.old.shards ports.new.shards }
-    ensures resumed { IfOk result (IsResumed unfinished.now) }
+    ensures keeps { KeepsLanePorts L.LogPort S.PortSet unfinished.now.batch.lane ports.old ports.new }
 {
     let LaneRoom { room, outcomes } = room;
     match unfinished.phase {

@@ -19,10 +19,10 @@ use Rattle.lane_laws.specs.Faults.{IsAnswered, IsCallFault, to_lock, to_decide, 
 use Rattle.lane_laws.specs.Resuming.{IsTakenUp}
 use Rattle.lane_driver.specs.declared.fault.LaneFault.{LaneFault}
 use Rattle.lane_driver.specs.declared.fault.LaneFaultKind.TheVariants.{DiskFault as DiskStopped, Full as NoRoom, ClockEnd as NoStamp, Memory as NoMemory}
-use Rattle.lane_driver.specs.Faults.{IsFaultOf}
+use Rattle.lane_driver.specs.Faults.{IsLaneFaultOf}
 use Rattle.lane_driver.specs.Told.{KeepNodes}
 use Rattle.coord_log.specs.OpenLanes.{open_lane}
-use Rattle.recovery.specs.Open.{IsUnfinished, IsResumeStopped}
+use Rattle.recovery.specs.Open.{IsBatchUnfinished, IsResumeStopped}
 use Rattle.run_laws.specs.Runs.{seen_by, IsTurn}
 use Rattle.run_laws.specs.Turns.{Elsewhere}
 use Rattle.run_laws.specs.Checked.{CheckedJournals}
@@ -104,7 +104,7 @@ module _ (K : Shape) (lane : ℕ) (next : List Compact → Type 0) (I J : ℕ �
   })
 
   -- where the lane may wait for want of memory
-  free_cause : (e : LaneFault) (node : ℕ) (f : NodeFault) → IsFaultOf e node f → IsStopBy K lane next J opened faults capacity node f → (f ≡ Memory → LaneWaits K lane I J) → ((e.fault ≡ NoMemory) × LaneWaits K lane I J) ⊎ Causes e
+  free_cause : (e : LaneFault) (node : ℕ) (f : NodeFault) → IsLaneFaultOf e node f → IsStopBy K lane next J opened faults capacity node f → (f ≡ Memory → LaneWaits K lane I J) → ((e.fault ≡ NoMemory) × LaneWaits K lane I J) ⊎ Causes e
   free_cause e node (Broken since) is h waits = inr (failed e node is h)
   free_cause e node (Refuses why) is h waits = absurd h
   free_cause e node (ClockEnd stamp) is h waits = inr (no_stamp e node stamp is h)
@@ -189,10 +189,10 @@ module _ (K : Shape) (lane : ℕ) (logs shards logs' shards' : ℕ → Sight) (l
     prepared_still : (slot log'.seen o.batch.lane).phase ≡ InPrepare → lane_phase K J lane ≡ InPrepare
     prepared_still phase = ap (λ L. (slot L lane).phase) (seen_log K logs' shards' (home_of K lane) home) ∙ subst (λ l. (slot log'.seen l).phase ≡ InPrepare) lane_is phase
 
-    pub still : IsUnfinished o.phase K o log shards
+    pub still : IsBatchUnfinished o.phase K o log shards
     still = unfinished K lane log shards o told (checked_resume_law K m lane logs shards limits.some_shard home shape checked)
 
-    pub taken_checked : (IsUnfinished o.phase K o log shards → IsTakenUp K true o.batch log shards log' shards') → IsCheckedTurn K m lane I J
+    pub taken_checked : (IsBatchUnfinished o.phase K o log shards → IsTakenUp K true o.batch log shards log' shards') → IsCheckedTurn K m lane I J
     taken_checked taken = turned [] ((taken_law K lane logs shards logs' shards' elsewhere).2 o.batch lane_is (taken still))
 
     pub left_checked : (e : LaneFault) → IsResumeStopped K true o log shards log' shards' e → IsCheckedTurn K m lane I J
@@ -201,7 +201,7 @@ module _ (K : Shape) (lane : ℕ) (logs shards logs' shards' : ℕ → Sight) (l
         turned [] ((taken_law K lane logs shards logs' shards' elsewhere).3 o.batch s.0 s.1 lane_is s.3)
 
     -- an open batch that was taken up, or left, is what the lane had prepared before
-    pub taken_unprepared : (IsUnfinished o.phase K o log shards → IsTakenUp K true o.batch log shards log' shards') → HasPreparedPieces K lane [] I J
+    pub taken_unprepared : (IsBatchUnfinished o.phase K o log shards → IsTakenUp K true o.batch log shards log' shards') → HasPreparedPieces K lane [] I J
     taken_unprepared taken = unprepared ((taken_law K lane logs shards logs' shards' elsewhere).2 o.batch lane_is (taken still))
 
     pub left_unprepared : (e : LaneFault) → IsResumeStopped K true o log shards log' shards' e → HasPreparedPieces K lane [] I J

@@ -11,7 +11,7 @@ use Rattle.cbdc_model.specs.After.{IsJournal}
 use Rattle.cbdc_model.specs.Sights.{Sight}
 use Rattle.coord_log.specs.OpenLanes.{open_phase, batch_in, open_lane}
 use Rattle.lane_driver.specs.Told.{IsLane}
-use Rattle.recovery.specs.Open.{phase_of, HasOutcomes, IsOpen, IsUnfinished}
+use Rattle.recovery.specs.Open.{phase_of, HasOutcomes, IsLaneOpen, IsBatchUnfinished}
 use Rattle.run_laws.specs.Open.{IsOpenBy}
 use Rattle.run_laws.proofs.LastRecords.{LastStands, last_stands, IsShardPhase, of_shard, stamp_fits, prepare_stands}
 use Rattle.thread_laws.proofs.OwnJournals.{OwnOk, own_ok}
@@ -47,7 +47,7 @@ module _ (h : Header) (J : List Record) (j : IsJournal h J) (lane : ℕ) (is_lan
     early : slot_stamp J lane < 2 ^ 63
     early = subst (λ t. t < 2 ^ 63) (sym last.stamp) (stamp_fits h last.last last_grammar)
 
-  pub is_open : (p : OpenPhase) → (slot J lane).phase ≡ phase_of p → IsOpen h (λ l. (slot J l).phase) (λ l. txs_of J (open_batch J l)) (batch_in J lane p)
+  pub is_open : (p : OpenPhase) → (slot J lane).phase ≡ phase_of p → IsLaneOpen h (λ l. (slot J l).phase) (λ l. txs_of J (open_batch J l)) (batch_in J lane p)
   is_open p e =
       let has = stands p e in
       let prepare = prepare_stands J b has.0 in
@@ -95,19 +95,19 @@ told_lane J lane o told = ap (λ x. x.batch.lane) (told_open J lane o told).1
 
 -- what is told of an open lane is so
 pub told_is_open : (h : Header) (J : List Record) (lane : ℕ) (o : OpenLane) → IsJournal h J → IsLane h lane → open_lane J lane ≡ Some o
-    → IsOpen h (λ l. (slot J l).phase) (λ l. txs_of J (open_batch J l)) o
+    → IsLaneOpen h (λ l. (slot J l).phase) (λ l. txs_of J (open_batch J l)) o
 told_is_open h J lane o j is told =
     let t = told_open J lane o told in
-    subst (λ x. IsOpen h (λ l. (slot J l).phase) (λ l. txs_of J (open_batch J l)) x) (sym t.1) (is_open h J j lane is t.0 t.2)
+    subst (λ x. IsLaneOpen h (λ l. (slot J l).phase) (λ l. txs_of J (open_batch J l)) x) (sym t.1) (is_open h J j lane is t.0 t.2)
 
 -- in the journals of all nodes it is unfinished
 pub unfinished : (K : Shape) (lane : ℕ) (log : Sight) (shards : ℕ → Sight) (o : OpenLane) → open_lane log.seen lane ≡ Some o
-    → IsOpenBy (slot log.seen lane).phase K (open_batch log.seen lane) log shards → IsUnfinished o.phase K o log shards
+    → IsOpenBy (slot log.seen lane).phase K (open_batch log.seen lane) log shards → IsBatchUnfinished o.phase K o log shards
 unfinished K lane log shards o told by =
     let t = told_open log.seen lane o told in
-    subst (λ x. IsUnfinished x.phase K x log shards) (sym t.1) (at t.0 (subst (λ p. IsOpenBy p K (open_batch log.seen lane) log shards) t.2 by))
+    subst (λ x. IsBatchUnfinished x.phase K x log shards) (sym t.1) (at t.0 (subst (λ p. IsOpenBy p K (open_batch log.seen lane) log shards) t.2 by))
   where
-    at : (p : OpenPhase) → IsOpenBy (phase_of p) K (open_batch log.seen lane) log shards → IsUnfinished p K (batch_in log.seen lane p) log shards
+    at : (p : OpenPhase) → IsOpenBy (phase_of p) K (open_batch log.seen lane) log shards → IsBatchUnfinished p K (batch_in log.seen lane p) log shards
     at Prepared h = h.1
     at Committed h = h.2
     at Discarded h = h.2

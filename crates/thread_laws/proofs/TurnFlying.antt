@@ -18,7 +18,7 @@ use Rattle.lane_laws.specs.Resuming.{IsTakenUp}
 use Rattle.lane_driver.specs.declared.fault.LaneFault.{LaneFault}
 use Rattle.lane_driver.specs.Told.{KeepNodes}
 use Rattle.coord_log.specs.OpenLanes.{open_lane}
-use Rattle.recovery.specs.Open.{IsUnfinished, IsResumeStopped}
+use Rattle.recovery.specs.Open.{IsBatchUnfinished, IsResumeStopped}
 use Rattle.run_laws.specs.Checked.{CheckedJournals}
 use Rattle.run_laws.specs.Runs.{seen_by}
 use Rattle.run_laws.specs.Turns.{Elsewhere}
@@ -125,10 +125,10 @@ module _ (K : Shape) (lane : ℕ) (logs shards logs' shards' : ℕ → Sight) (s
   none_done pieces here there = none_new pieces (ap (λ s. s.flight) here) (λ s. ap (λ S. (S s).flight) there)
 
   module _ (o : OpenLane) (told : open_lane log.seen lane ≡ Some o) where
-    still : (mint : List Output) (submissions : List FullTx) → KeptJournals K mint submissions I → IsUnfinished o.phase K o log shards
+    still : (mint : List Output) (submissions : List FullTx) → KeptJournals K mint submissions I → IsBatchUnfinished o.phase K o log shards
     still mint submissions kept = unfinished K lane log shards o told (resume_law K mint submissions lane logs shards some home shape kept)
 
-    pub resume_flies : (IsUnfinished o.phase K o log shards → IsTakenUp K true o.batch log shards log' shards') → OfKept K I (FliesOn K I J F G)
+    pub resume_flies : (IsBatchUnfinished o.phase K o log shards → IsTakenUp K true o.batch log shards log' shards') → OfKept K I (FliesOn K I J F G)
     resume_flies taken mint submissions kept =
         let t = taken (still mint submissions kept) in
         flies [] mint submissions (pass_none (IsProperCompact submissions)) (none_new [] t.log_same t.shard_same)

@@ -16,7 +16,7 @@ use Rattle.lane_laws.specs.Resuming.{IsTakenUp}
 use Rattle.lane_driver.specs.declared.fault.LaneFault.{LaneFault}
 use Rattle.lane_driver.specs.Told.{KeepNodes}
 use Rattle.coord_log.specs.OpenLanes.{open_lane}
-use Rattle.recovery.specs.Open.{IsUnfinished, IsResumeStopped}
+use Rattle.recovery.specs.Open.{IsBatchUnfinished, IsResumeStopped}
 use Rattle.run_laws.specs.Checked.{CheckedJournals}
 use Rattle.run_laws.specs.Runs.{seen_by}
 use Rattle.run_laws.specs.Turns.{Elsewhere}
@@ -121,13 +121,13 @@ module _ (K : Shape) (lane : ℕ) (logs shards logs' shards' : ℕ → Sight) (l
   as_before here there = same_flights K lane logs shards logs' shards' limits.some_shard home shape elsewhere nodes nodes' log_nodes shard_nodes here there
 
   module _ (o : OpenLane) (told : open_lane log.seen lane ≡ Some o) where
-    unfinished_there : IsUnfinished o.phase K o log shards
+    unfinished_there : IsBatchUnfinished o.phase K o log shards
     unfinished_there = still K lane logs shards logs' shards' limits home shape shard_shapes elsewhere nodes nodes' log_nodes shard_nodes m checked o told
 
-    pub resume_same : (IsUnfinished o.phase K o log shards → IsTakenUp K true o.batch log shards log' shards') → SameFlights logs shards logs' shards'
+    pub resume_same : (IsBatchUnfinished o.phase K o log shards → IsTakenUp K true o.batch log shards log' shards') → SameFlights logs shards logs' shards'
     resume_same taken = let up = taken unfinished_there in as_before up.log_same up.shard_same
 
-    pub resume_launches : (IsUnfinished o.phase K o log shards → IsTakenUp K true o.batch log shards log' shards') → Launches K (λ _. Nothing) I J F G
+    pub resume_launches : (IsBatchUnfinished o.phase K o log shards → IsTakenUp K true o.batch log shards log' shards') → Launches K (λ _. Nothing) I J F G
     resume_launches taken =
         let up = taken unfinished_there in
         launches_none (λ _. Nothing) [] no_piece

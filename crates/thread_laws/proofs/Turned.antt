@@ -20,7 +20,7 @@ use Rattle.lane_driver.specs.declared.fault.LaneFault.{LaneFault}
 use Rattle.lane_driver.specs.Told.{KeepNodes}
 use Rattle.coord_log.specs.OpenLanes.{batch_in, open_lane}
 use Rattle.recovery.specs.declared.resumed.ResumedBatch.{ResumedBatch}
-use Rattle.recovery.specs.Open.{phase_of, IsResumed, IsUnfinished, HasItsOutcomes, IsResumeStopped}
+use Rattle.recovery.specs.Open.{phase_of, IsBatchResumed, IsBatchUnfinished, HasItsOutcomes, IsResumeStopped}
 use Rattle.run_laws.specs.Runs.{seen_by, IsTurn}
 use Rattle.run_laws.specs.Turns.{Elsewhere, ResumesBatch}
 use Rattle.run_laws.proofs.Checked.{kept_is_checked_law}
@@ -84,10 +84,10 @@ module _ (K : Shape) (lane : ℕ) (logs shards logs' shards' : ℕ → Sight) (s
     lane_is : o.batch.lane ≡ lane
     lane_is = ap (λ b. b.lane) batch_is
 
-    still : (mint : List Output) (submissions : List FullTx) → KeptJournals K mint submissions I → IsUnfinished o.phase K o log shards
+    still : (mint : List Output) (submissions : List FullTx) → KeptJournals K mint submissions I → IsBatchUnfinished o.phase K o log shards
     still mint submissions kept = unfinished K lane log shards o told (resume_law K mint submissions lane logs shards some home shape kept)
 
-    pub resume_keeps : (IsUnfinished o.phase K o log shards → IsTakenUp K true o.batch log shards log' shards') → OfKept K I (StaysKept K I J)
+    pub resume_keeps : (IsBatchUnfinished o.phase K o log shards → IsTakenUp K true o.batch log shards log' shards') → OfKept K I (StaysKept K I J)
     resume_keeps taken mint submissions kept = stays [] mint submissions (pass_none (IsProperCompact submissions))
         ((taken_law K lane logs shards logs' shards' elsewhere).2 o.batch lane_is (taken (still mint submissions kept))) kept
 
@@ -96,8 +96,8 @@ module _ (K : Shape) (lane : ℕ) (logs shards logs' shards' : ℕ → Sight) (s
         let s = stop (still mint submissions kept) in
         stays [] mint submissions (pass_none (IsProperCompact submissions)) ((taken_law K lane logs shards logs' shards' elsewhere).3 o.batch s.0 s.1 lane_is s.3) kept
 
-    module _ (r : ResumedBatch) (resumed : IsResumed o r) (taken : IsUnfinished o.phase K o log shards → IsTakenUp K true o.batch log shards log' shards')
-        (has : IsUnfinished o.phase K o log shards → HasItsOutcomes o.phase o log'.seen r) where
+    module _ (r : ResumedBatch) (resumed : IsBatchResumed o r) (taken : IsBatchUnfinished o.phase K o log shards → IsTakenUp K true o.batch log shards log' shards')
+        (has : IsBatchUnfinished o.phase K o log shards → HasItsOutcomes o.phase o log'.seen r) where
       -- a Commit stands still
       same_outcomes : IsEnd log.seen log'.seen → is_some (record_of 7 log.seen o.batch) ≡ true → outcomes_of log.seen o.batch ≡ outcomes_of log'.seen o.batch
       same_outcomes (more, grew) commit =

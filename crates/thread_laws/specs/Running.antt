@@ -7,7 +7,7 @@ use Rattle.cbdc_model.specs.Ranges.{home_of}
 use Rattle.cbdc_model.specs.History.{Minted}
 use Rattle.cbdc_model.specs.World.{AreIdle}
 use Rattle.cbdc_model.specs.Sights.{Sight}
-use Rattle.lane_driver.specs.Stops.{IsSettled}
+use Rattle.lane_driver.specs.Stops.{IsLaneSettled}
 use Rattle.run_laws.specs.Checked.{CheckedJournals}
 use Rattle.run_laws.specs.Runs.{seen_by}
 use Rattle.run_laws.specs.Faults.{opened_by, faults_by, capacity_by}
@@ -33,7 +33,7 @@ pub record LaneRan (K : Shape) (logs shards : ℕ → Sight) (log_hands shard_ha
   pub seen : ℕ → Sight
   pub log' : Sight
   pub seen' : ℕ → Sight
-  pub settled : IsSettled K lane log seen
+  pub settled : IsLaneSettled K lane log seen
   pub at_log : SitsAt lane (logs (home_of K lane)) (log_hands (home_of K lane)) log log'
   pub at_shard : (s : ℕ) → s < K.shards → SitsAt lane (shards s) (shard_hands s) (seen s) (seen' s)
   pub beyond : (s : ℕ) → K.shards ≤ s → ((seen s).seen ≡ []) × ((seen s).flight ≡ None) × ((seen' s).seen ≡ [])
@@ -95,4 +95,4 @@ abbrev pub FreshSettledLaw : Type 0
 FreshSettledLaw = (K : Shape) (m : Minted) (logs shards : ℕ → Sight) (lane : ℕ) (log : Sight) (seen : ℕ → Sight) → IsWithinLimits K → IsLaneOf K lane
     → ((n : ℕ) → n < K.coordinators → (logs n).header.shape ≡ K) → CheckedJournals K m (seen_by K logs shards) → AreIdle K (seen_by K logs shards)
     → (log.header ≡ (logs (home_of K lane)).header) × (log.seen ≡ (logs (home_of K lane)).seen) → ((s : ℕ) → (seen s).seen ≡ (shards s).seen)
-    → IsSettled K lane log seen
+    → IsLaneSettled K lane log seen

@@ -1,11 +1,10 @@
 use Rattle.std.proofs.Common.{◌∙◌, refl, map}
-use Rattle.cbdc_model.specs.Ranges.{home_of}
 use Rattle.lane_laws.specs.Calls.{finish_of, forget_of}
 use Rattle.lane_laws.specs.Answers.{LockAnswer, FinishAnswer, ForgetAnswer}
-use Rattle.lane_driver.proofs.Turning.{turn_stamped, turn_times, finish_stops, discard_stops, later_stops, home_stop}
+use Rattle.lane_driver.proofs.Turning.{turn_stamped, turn_times, finish_stops, discard_stops, later_stops}
 use Rattle.cbdc_model.specs.Calls.{IsLockCall, IsFinishCall, IsForgetCall}
 use Rattle.lane_driver.proofs.Rooming.{finish_shards, forget_shards}
-use Rattle.lane_driver.proofs.Fitting.{finishes_ready, forgets_ready, calls_kept, ledger_kept}
+use Rattle.lane_driver.proofs.Fitting.{finishes_ready, forgets_ready, calls_kept, ledger_kept, others_on}
 use Rattle.std.proofs.Common.{inr}
 use Rattle.lane_driver.proofs.Wanting.{told_free}
 use Rattle.lane_driver.proofs.Causing.{log_fault, discard_caused}
@@ -31,67 +30,25 @@ finish_again-requires-clause-calls g c =
 
 pub finish_again-requires-2-clause-shards : goal.finish_again-requires-2-clause-shards
 finish_again-requires-2-clause-shards g c =
-    finish_shards c.args.batch.now c.args.cause c.args.outcomes.now _ _ ((shards_on (shards_on (shards_on c.in-Ok.ensures.keeps c.finish_again.ensures.keeps) c.in-Ok-from_discarded.ensures.keeps_shards) c.lock_again.ensures.keeps).count_same ∙ c.requires.count) c.args.locks.now _ (c.deref-3.ensures.value ∙ c.finish_calls.ensures) c.requires.shards
+    finish_shards c.args.batch.now c.args.cause c.args.outcomes.now _ _ ((shards_on (shards_on (shards_on c.in-Ok.ensures.keeps c.finish_again.ensures.keeps) c.in-Ok-from_discarded.ensures.keeps.to_shards) c.lock_again.ensures.keeps).count_same ∙ c.requires.count) c.args.locks.now _ (c.deref-3.ensures.value ∙ c.finish_calls.ensures) c.requires.shards
 
 pub finish_again-requires-2-clause-calls : goal.finish_again-requires-2-clause-calls
 finish_again-requires-2-clause-calls g c =
-    calls_kept IsFinishCall (g.S.PortSet.sights c.args.ports.now.shards) (g.S.PortSet.sights c.lock_again.new.shards) (shards_on (shards_on (shards_on c.in-Ok.ensures.keeps c.finish_again.ensures.keeps) c.in-Ok-from_discarded.ensures.keeps_shards) c.lock_again.ensures.keeps).nodes c.deref-3.result.now (finishes_ready c.args.shape.now (g.S.PortSet.sights c.args.ports.now.shards) c.requires.ledger c.args.batch.now c.args.cause c.requires.batch c.requires.cause c.args.outcomes.now c.args.locks.now _ (c.deref-3.ensures.value ∙ c.finish_calls.ensures) c.requires.shards c.requires.locks)
+    calls_kept IsFinishCall (g.S.PortSet.sights c.args.ports.now.shards) (g.S.PortSet.sights c.lock_again.new.shards) (shards_on (shards_on (shards_on c.in-Ok.ensures.keeps c.finish_again.ensures.keeps) c.in-Ok-from_discarded.ensures.keeps.to_shards) c.lock_again.ensures.keeps).nodes c.deref-3.result.now (finishes_ready c.args.shape.now (g.S.PortSet.sights c.args.ports.now.shards) c.requires.ledger c.args.batch.now c.args.cause c.requires.batch c.requires.cause c.args.outcomes.now c.args.locks.now _ (c.deref-3.ensures.value ∙ c.finish_calls.ensures) c.requires.shards c.requires.locks)
 
 pub forget_again-requires-clause-shards : goal.forget_again-requires-clause-shards
 forget_again-requires-clause-shards g c =
-    forget_shards c.args.batch.now c.in-Ok-discard.stamp _ _ ((shards_on (shards_on (shards_on (shards_on c.in-Ok.ensures.keeps c.finish_again.ensures.keeps) c.in-Ok-from_discarded.ensures.keeps_shards) c.lock_again.ensures.keeps) c.finish_again-2.ensures.keeps).count_same ∙ c.requires.count) c.args.locks.now _ (c.deref-4.ensures.value ∙ c.in-Ok-from_discarded.ensures.calls) c.requires.shards
+    forget_shards c.args.batch.now c.in-Ok-discard.stamp _ _ ((shards_on (shards_on (shards_on (shards_on c.in-Ok.ensures.keeps c.finish_again.ensures.keeps) c.in-Ok-from_discarded.ensures.keeps.to_shards) c.lock_again.ensures.keeps) c.finish_again-2.ensures.keeps).count_same ∙ c.requires.count) c.args.locks.now _ (c.deref-4.ensures.value ∙ c.in-Ok-from_discarded.ensures.calls) c.requires.shards
 
 pub forget_again-requires-clause-calls : goal.forget_again-requires-clause-calls
 forget_again-requires-clause-calls g c =
-    calls_kept IsForgetCall (g.S.PortSet.sights c.args.ports.now.shards) (g.S.PortSet.sights c.finish_again-2.new.shards) (shards_on (shards_on (shards_on (shards_on c.in-Ok.ensures.keeps c.finish_again.ensures.keeps) c.in-Ok-from_discarded.ensures.keeps_shards) c.lock_again.ensures.keeps) c.finish_again-2.ensures.keeps).nodes c.deref-4.result.now (forgets_ready c.args.shape.now (g.S.PortSet.sights c.args.ports.now.shards) c.requires.ledger c.args.batch.now c.in-Ok-discard.stamp c.requires.batch c.in-Ok-discard.ensures.stamp c.args.locks.now _ (c.deref-4.ensures.value ∙ c.in-Ok-from_discarded.ensures.calls) c.requires.shards)
-
-pub returns-clause-told : goal.returns-clause-told
-returns-clause-told g c = record {
-  finished = c.in-Ok.stamp;
-  after_finish = g.S.PortSet.sights c.finish_phase.new.shards;
-  finishes = turn_stamped FinishAnswer g.S.PortSet.alone g.L.LogPort.alone c.deref.result.now (map (finish_of c.args.batch.now c.args.cause c.args.outcomes.now) c.args.locks.now) (g.S.PortSet.sights c.args.ports.now.shards) (g.S.PortSet.sights c.finish_phase.new.shards) c.in-Ok.stamp c.requires.same (c.deref.ensures.value ∙ c.finish_calls.ensures) c.in-Ok.ensures.told;
-  before_discard = g.S.PortSet.sights c.finish_again.new.shards;
-  finishes_again = turn_times FinishAnswer g.S.PortSet.alone g.L.LogPort.alone c.deref-2.result.now (map (finish_of c.args.batch.now c.args.cause c.args.outcomes.now) c.args.locks.now) c.args.repeats (g.S.PortSet.sights c.finish_phase.new.shards) (g.S.PortSet.sights c.finish_again.new.shards) c.requires.same (c.deref-2.ensures.value ∙ c.finish_calls.ensures) c.finish_again.ensures.told;
-  log_discarded = g.L.LogPort.sights c.discard.new.self (g.L.LogPort.at c.discard.new.self);
-  discarded = c.in-Ok-discard.stamp;
-  discard = c.in-Ok-discard.ensures.told;
-  after_done = g.S.PortSet.sights c.from_discarded.new.ports.shards;
-  rest = c.in-Ok-from_discarded.ensures.told;
-  after_locks = g.S.PortSet.sights c.lock_again.new.shards;
-  locks_late = turn_times LockAnswer g.S.PortSet.alone g.L.LogPort.alone c.args.locks.now c.args.locks.now c.args.repeats (g.S.PortSet.sights c.from_discarded.new.ports.shards) (g.S.PortSet.sights c.lock_again.new.shards) c.requires.same refl c.lock_again.ensures.told;
-  after_finishes = g.S.PortSet.sights c.finish_again-2.new.shards;
-  finishes_late = turn_times FinishAnswer g.S.PortSet.alone g.L.LogPort.alone c.deref-3.result.now (map (finish_of c.args.batch.now c.args.cause c.args.outcomes.now) c.args.locks.now) c.args.repeats (g.S.PortSet.sights c.lock_again.new.shards) (g.S.PortSet.sights c.finish_again-2.new.shards) c.requires.same (c.deref-3.ensures.value ∙ c.finish_calls.ensures) c.finish_again-2.ensures.told;
-  forgets_late = turn_times ForgetAnswer g.S.PortSet.alone g.L.LogPort.alone c.deref-4.result.now (map (forget_of c.args.batch.now c.in-Ok-discard.stamp) c.args.locks.now) c.args.repeats (g.S.PortSet.sights c.finish_again-2.new.shards) (g.S.PortSet.sights c.forget_again.new.shards) c.requires.same
-      (c.deref-4.ensures.value ∙ c.in-Ok-from_discarded.ensures.calls) c.forget_again.ensures.told;
-}
-
-pub returns-in-Err-clause-stopped : goal.returns-in-Err-clause-stopped
-returns-in-Err-clause-stopped g c = finish_stops c.args.shape.now g.S.PortSet.alone g.L.LogPort.alone c.args.batch.now c.args.cause c.args.outcomes.now c.args.repeats c.args.locks.now c.deref.result.now (g.L.LogPort.sights c.args.ports.now.log (g.L.LogPort.at c.args.ports.now.log))
-    (g.S.PortSet.sights c.args.ports.now.shards) (g.S.PortSet.sights c.finish_phase.new.shards) c.in-Err.fault c.requires.same (c.deref.ensures.value ∙ c.finish_calls.ensures) c.in-Err.ensures.stopped
-
-pub returns-in-Err-discard-clause-stopped : goal.returns-in-Err-discard-clause-stopped
-returns-in-Err-discard-clause-stopped g c = discard_stops c.args.shape.now g.S.PortSet.alone g.L.LogPort.alone c.args.batch.now c.args.cause c.args.outcomes.now c.args.repeats c.in-Ok.stamp c.args.locks.now c.deref.result.now c.deref-2.result.now (g.L.LogPort.sights c.args.ports.now.log (g.L.LogPort.at c.args.ports.now.log)) (g.L.LogPort.sights c.discard.new.self (g.L.LogPort.at c.discard.new.self))
-    (g.S.PortSet.sights c.args.ports.now.shards) (g.S.PortSet.sights c.finish_phase.new.shards) (g.S.PortSet.sights c.finish_again.new.shards) c.requires.same (c.deref.ensures.value ∙ c.finish_calls.ensures) (c.deref-2.ensures.value ∙ c.finish_calls.ensures) c.in-Ok.ensures.told c.finish_again.ensures.told
-    c.in-Err-discard.fault (record { node = c.home.result; fault = c.in-Err-discard.fault }) (home_stop c.home.result (home_of c.args.shape.now c.args.batch.now.lane) c.in-Err-discard.fault c.home.ensures) c.in-Err-discard.ensures.told
-
-pub returns-in-Err-from_discarded-clause-stopped : goal.returns-in-Err-from_discarded-clause-stopped
-returns-in-Err-from_discarded-clause-stopped g c = later_stops c.args.shape.now g.S.PortSet.alone g.L.LogPort.alone c.args.batch.now c.args.cause c.args.outcomes.now c.args.repeats c.in-Ok.stamp c.args.locks.now c.deref.result.now c.deref-2.result.now (g.L.LogPort.sights c.args.ports.now.log (g.L.LogPort.at c.args.ports.now.log)) (g.L.LogPort.sights c.discard.new.self (g.L.LogPort.at c.discard.new.self))
-    (g.S.PortSet.sights c.args.ports.now.shards) (g.S.PortSet.sights c.finish_phase.new.shards) (g.S.PortSet.sights c.finish_again.new.shards) c.requires.same (c.deref.ensures.value ∙ c.finish_calls.ensures) (c.deref-2.ensures.value ∙ c.finish_calls.ensures) c.in-Ok.ensures.told c.finish_again.ensures.told
-    c.in-Ok-discard.stamp (g.L.LogPort.sights c.from_discarded.new.ports.log (g.L.LogPort.at c.from_discarded.new.ports.log)) (g.S.PortSet.sights c.from_discarded.new.ports.shards) c.in-Err-from_discarded.fault c.in-Ok-discard.ensures.told c.in-Err-from_discarded.ensures.stopped
+    calls_kept IsForgetCall (g.S.PortSet.sights c.args.ports.now.shards) (g.S.PortSet.sights c.finish_again-2.new.shards) (shards_on (shards_on (shards_on (shards_on c.in-Ok.ensures.keeps c.finish_again.ensures.keeps) c.in-Ok-from_discarded.ensures.keeps.to_shards) c.lock_again.ensures.keeps) c.finish_again-2.ensures.keeps).nodes c.deref-4.result.now (forgets_ready c.args.shape.now (g.S.PortSet.sights c.args.ports.now.shards) c.requires.ledger c.args.batch.now c.in-Ok-discard.stamp c.requires.batch c.in-Ok-discard.ensures.stamp c.args.locks.now _ (c.deref-4.ensures.value ∙ c.in-Ok-from_discarded.ensures.calls) c.requires.shards)
 
 pub from_discarded-requires-clause-ledger : goal.from_discarded-requires-clause-ledger
 from_discarded-requires-clause-ledger g c = ledger_kept c.args.shape.now (g.S.PortSet.sights c.args.ports.now.shards) (g.S.PortSet.sights c.finish_again.new.shards) c.requires.ledger (shards_on c.in-Ok.ensures.keeps c.finish_again.ensures.keeps).nodes
 
 pub lock_again-requires-clause-calls : goal.lock_again-requires-clause-calls
-lock_again-requires-clause-calls g c = calls_kept IsLockCall (g.S.PortSet.sights c.args.ports.now.shards) (g.S.PortSet.sights c.from_discarded.new.ports.shards) (shards_on (shards_on c.in-Ok.ensures.keeps c.finish_again.ensures.keeps) c.in-Ok-from_discarded.ensures.keeps_shards).nodes c.args.locks.now c.requires.locks
-
-pub returns-in-Err-clause-fault : goal.returns-in-Err-clause-fault
-returns-in-Err-clause-fault g c = inr (inr c.in-Err.ensures.fault)
-
-pub returns-in-Err-discard-clause-fault : goal.returns-in-Err-discard-clause-fault
-returns-in-Err-discard-clause-fault g c = log_fault c.args.shape.now c.args.batch.now.lane (g.L.LogPort.at c.discard.new.self) (g.L.LogPort.sights c.discard.new.self) (g.S.PortSet.sights c.finish_again.new.shards) c.in-Err-discard.fault (record { node = c.home.result; fault = c.in-Err-discard.fault }) c.requires.batch.0 (c.in-Err-discard.ensures.keeps.at_same ∙ c.requires.at)
-    (home_stop c.home.result (home_of c.args.shape.now c.args.batch.now.lane) c.in-Err-discard.fault c.home.ensures)
-    (discard_caused g.L.LogPort.alone c.args.batch.now.lane c.in-Ok.stamp (g.L.LogPort.sights c.args.ports.now.log (g.L.LogPort.at c.args.ports.now.log)) (g.L.LogPort.sights c.discard.new.self (g.L.LogPort.at c.discard.new.self)) c.in-Err-discard.fault c.in-Err-discard.ensures.told)
+lock_again-requires-clause-calls g c = calls_kept IsLockCall (g.S.PortSet.sights c.args.ports.now.shards) (g.S.PortSet.sights c.from_discarded.new.ports.shards) (shards_on (shards_on c.in-Ok.ensures.keeps c.finish_again.ensures.keeps) c.in-Ok-from_discarded.ensures.keeps.to_shards).nodes c.args.locks.now c.requires.locks
 
 pub finish_phase-requires-clause-mine : goal.finish_phase-requires-clause-mine
 finish_phase-requires-clause-mine g c =
@@ -105,35 +62,82 @@ pub from_discarded-requires-clause-mine : goal.from_discarded-requires-clause-mi
 from_discarded-requires-clause-mine g c = (shards_on c.in-Ok.ensures.keeps c.finish_again.ensures.keeps).served _ c.requires.mine
 
 pub lock_again-requires-clause-mine : goal.lock_again-requires-clause-mine
-lock_again-requires-clause-mine g c = own_served (g.S.PortSet.serves c.from_discarded.new.ports.shards) c.args.batch.now ((shards_on (shards_on c.in-Ok.ensures.keeps c.finish_again.ensures.keeps) c.in-Ok-from_discarded.ensures.keeps_shards).served _ c.requires.mine) c.args.locks.now c.requires.own
+lock_again-requires-clause-mine g c = own_served (g.S.PortSet.serves c.from_discarded.new.ports.shards) c.args.batch.now ((shards_on (shards_on c.in-Ok.ensures.keeps c.finish_again.ensures.keeps) c.in-Ok-from_discarded.ensures.keeps.to_shards).served _ c.requires.mine) c.args.locks.now c.requires.own
 
 pub finish_again-requires-2-clause-mine : goal.finish_again-requires-2-clause-mine
 finish_again-requires-2-clause-mine g c =
-    finishes_served (g.S.PortSet.serves c.lock_again.new.shards) c.args.batch.now ((shards_on (shards_on (shards_on c.in-Ok.ensures.keeps c.finish_again.ensures.keeps) c.in-Ok-from_discarded.ensures.keeps_shards) c.lock_again.ensures.keeps).served _ c.requires.mine) c.args.cause c.args.outcomes.now c.args.locks.now _
+    finishes_served (g.S.PortSet.serves c.lock_again.new.shards) c.args.batch.now ((shards_on (shards_on (shards_on c.in-Ok.ensures.keeps c.finish_again.ensures.keeps) c.in-Ok-from_discarded.ensures.keeps.to_shards) c.lock_again.ensures.keeps).served _ c.requires.mine) c.args.cause c.args.outcomes.now c.args.locks.now _
     (c.deref-3.ensures.value ∙ c.finish_calls.ensures)
 
 pub forget_again-requires-clause-mine : goal.forget_again-requires-clause-mine
 forget_again-requires-clause-mine g c =
-    forgets_served (g.S.PortSet.serves c.finish_again-2.new.shards) c.args.batch.now ((shards_on (shards_on (shards_on (shards_on c.in-Ok.ensures.keeps c.finish_again.ensures.keeps) c.in-Ok-from_discarded.ensures.keeps_shards) c.lock_again.ensures.keeps) c.finish_again-2.ensures.keeps).served _ c.requires.mine) c.in-Ok-discard.stamp c.args.locks.now _
+    forgets_served (g.S.PortSet.serves c.finish_again-2.new.shards) c.args.batch.now ((shards_on (shards_on (shards_on (shards_on c.in-Ok.ensures.keeps c.finish_again.ensures.keeps) c.in-Ok-from_discarded.ensures.keeps.to_shards) c.lock_again.ensures.keeps) c.finish_again-2.ensures.keeps).served _ c.requires.mine) c.in-Ok-discard.stamp c.args.locks.now _
     (c.deref-4.ensures.value ∙ c.in-Ok-from_discarded.ensures.calls)
 
-pub returns-in-Err-clause-keeps_log : goal.returns-in-Err-clause-keeps_log
-returns-in-Err-clause-keeps_log g c = log_same c.args.ports.now.log
+pub returns-clause-outcome : goal.returns-clause-outcome
+returns-clause-outcome g c = record {
+  finished = c.in-Ok.stamp;
+  after_finish = g.S.PortSet.sights c.finish_phase.new.shards;
+  finishes = turn_stamped FinishAnswer g.S.PortSet.alone g.L.LogPort.alone c.deref.result.now (map (finish_of c.args.batch.now c.args.cause c.args.outcomes.now) c.args.locks.now) (g.S.PortSet.sights c.args.ports.now.shards) (g.S.PortSet.sights c.finish_phase.new.shards) c.in-Ok.stamp c.requires.same (c.deref.ensures.value ∙ c.finish_calls.ensures) c.in-Ok.ensures.told;
+  before_discard = g.S.PortSet.sights c.finish_again.new.shards;
+  finishes_again = turn_times FinishAnswer g.S.PortSet.alone g.L.LogPort.alone c.deref-2.result.now (map (finish_of c.args.batch.now c.args.cause c.args.outcomes.now) c.args.locks.now) c.args.repeats (g.S.PortSet.sights c.finish_phase.new.shards) (g.S.PortSet.sights c.finish_again.new.shards) c.requires.same (c.deref-2.ensures.value ∙ c.finish_calls.ensures) c.finish_again.ensures.told;
+  log_discarded = g.L.LogPort.sights c.discard.new.self (g.L.LogPort.at c.discard.new.self);
+  discarded = c.in-Ok-discard.stamp;
+  discard = c.in-Ok-discard.ensures.told;
+  after_done = g.S.PortSet.sights c.from_discarded.new.ports.shards;
+  rest = c.in-Ok-from_discarded.ensures.outcome;
+  after_locks = g.S.PortSet.sights c.lock_again.new.shards;
+  locks_late = turn_times LockAnswer g.S.PortSet.alone g.L.LogPort.alone c.args.locks.now c.args.locks.now c.args.repeats (g.S.PortSet.sights c.from_discarded.new.ports.shards) (g.S.PortSet.sights c.lock_again.new.shards) c.requires.same refl c.lock_again.ensures.told;
+  after_finishes = g.S.PortSet.sights c.finish_again-2.new.shards;
+  finishes_late = turn_times FinishAnswer g.S.PortSet.alone g.L.LogPort.alone c.deref-3.result.now (map (finish_of c.args.batch.now c.args.cause c.args.outcomes.now) c.args.locks.now) c.args.repeats (g.S.PortSet.sights c.lock_again.new.shards) (g.S.PortSet.sights c.finish_again-2.new.shards) c.requires.same (c.deref-3.ensures.value ∙ c.finish_calls.ensures) c.finish_again-2.ensures.told;
+  forgets_late = turn_times ForgetAnswer g.S.PortSet.alone g.L.LogPort.alone c.deref-4.result.now (map (forget_of c.args.batch.now c.in-Ok-discard.stamp) c.args.locks.now) c.args.repeats (g.S.PortSet.sights c.finish_again-2.new.shards) (g.S.PortSet.sights c.forget_again.new.shards) c.requires.same
+      (c.deref-4.ensures.value ∙ c.in-Ok-from_discarded.ensures.calls) c.forget_again.ensures.told;
+}
 
-pub returns-in-Err-discard-clause-keeps_shards : goal.returns-in-Err-discard-clause-keeps_shards
-returns-in-Err-discard-clause-keeps_shards g c = shards_on c.in-Ok.ensures.keeps c.finish_again.ensures.keeps
+pub returns-in-Err-clause-outcome : goal.returns-in-Err-clause-outcome
+returns-in-Err-clause-outcome g c = record {
+  told_so = finish_stops c.args.shape.now g.S.PortSet.alone g.L.LogPort.alone c.args.batch.now c.args.cause c.args.outcomes.now c.args.repeats c.args.locks.now c.deref.result.now (g.L.LogPort.sights c.args.ports.now.log (g.L.LogPort.at c.args.ports.now.log))
+      (g.S.PortSet.sights c.args.ports.now.shards) (g.S.PortSet.sights c.finish_phase.new.shards) c.in-Err.fault c.requires.same (c.deref.ensures.value ∙ c.finish_calls.ensures) c.in-Err.ensures.stopped;
+  cause = inr (inr c.in-Err.ensures.fault);
+  want = c.in-Err.ensures.no_want;
+}
 
-pub returns-in-Err-from_discarded-clause-keeps_log : goal.returns-in-Err-from_discarded-clause-keeps_log
-returns-in-Err-from_discarded-clause-keeps_log g c = log_on c.in-Ok-discard.ensures.keeps c.in-Err-from_discarded.ensures.keeps_log
+pub returns-in-Err-discard-clause-outcome : goal.returns-in-Err-discard-clause-outcome
+returns-in-Err-discard-clause-outcome g c = record {
+  told_so = discard_stops c.args.shape.now g.S.PortSet.alone g.L.LogPort.alone c.args.batch.now c.args.cause c.args.outcomes.now c.args.repeats c.in-Ok.stamp c.args.locks.now c.deref.result.now c.deref-2.result.now
+      (g.L.LogPort.sights c.args.ports.now.log (g.L.LogPort.at c.args.ports.now.log)) (g.L.LogPort.sights c.discard.new.self (g.L.LogPort.at c.discard.new.self)) (g.S.PortSet.sights c.args.ports.now.shards) (g.S.PortSet.sights c.finish_phase.new.shards) (g.S.PortSet.sights c.finish_again.new.shards) c.requires.same
+      (c.deref.ensures.value ∙ c.finish_calls.ensures) (c.deref-2.ensures.value ∙ c.finish_calls.ensures) c.in-Ok.ensures.told c.finish_again.ensures.told c.home.result c.in-Err-discard.fault c.home.ensures c.in-Err-discard.ensures.told;
+  cause = log_fault c.args.shape.now c.args.batch.now.lane (g.L.LogPort.at c.discard.new.self) (g.L.LogPort.sights c.discard.new.self) (g.S.PortSet.sights c.finish_again.new.shards) c.home.result c.in-Err-discard.fault c.requires.batch.0 (c.in-Err-discard.ensures.keeps.at_same ∙ c.requires.at) c.home.ensures
+      (discard_caused g.L.LogPort.alone c.args.batch.now.lane c.in-Ok.stamp (g.L.LogPort.sights c.args.ports.now.log (g.L.LogPort.at c.args.ports.now.log)) (g.L.LogPort.sights c.discard.new.self (g.L.LogPort.at c.discard.new.self)) c.in-Err-discard.fault c.in-Err-discard.ensures.told);
+  want = told_free c.in-Err-discard.ensures.told;
+}
 
-pub returns-in-Err-from_discarded-clause-keeps_shards : goal.returns-in-Err-from_discarded-clause-keeps_shards
-returns-in-Err-from_discarded-clause-keeps_shards g c = shards_on (shards_on c.in-Ok.ensures.keeps c.finish_again.ensures.keeps) c.in-Err-from_discarded.ensures.keeps_shards
+pub returns-in-Err-from_discarded-clause-outcome : goal.returns-in-Err-from_discarded-clause-outcome
+returns-in-Err-from_discarded-clause-outcome g c = record {
+  told_so = later_stops c.args.shape.now g.S.PortSet.alone g.L.LogPort.alone c.args.batch.now c.args.cause c.args.outcomes.now c.args.repeats c.in-Ok.stamp c.args.locks.now c.deref.result.now c.deref-2.result.now
+      (g.L.LogPort.sights c.args.ports.now.log (g.L.LogPort.at c.args.ports.now.log)) (g.L.LogPort.sights c.discard.new.self (g.L.LogPort.at c.discard.new.self)) (g.S.PortSet.sights c.args.ports.now.shards) (g.S.PortSet.sights c.finish_phase.new.shards) (g.S.PortSet.sights c.finish_again.new.shards) c.requires.same
+      (c.deref.ensures.value ∙ c.finish_calls.ensures) (c.deref-2.ensures.value ∙ c.finish_calls.ensures) c.in-Ok.ensures.told c.finish_again.ensures.told c.in-Ok-discard.stamp
+      (g.L.LogPort.sights c.from_discarded.new.ports.log (g.L.LogPort.at c.from_discarded.new.ports.log)) (g.S.PortSet.sights c.from_discarded.new.ports.shards) c.in-Err-from_discarded.fault.node c.in-Err-from_discarded.fault.fault c.in-Ok-discard.ensures.told c.in-Err-from_discarded.ensures.outcome.told_so;
+  cause = c.in-Err-from_discarded.ensures.outcome.cause;
+  want = c.in-Err-from_discarded.ensures.outcome.want;
+}
 
-pub returns-clause-keeps_log : goal.returns-clause-keeps_log
-returns-clause-keeps_log g c = log_on c.in-Ok-discard.ensures.keeps c.in-Ok-from_discarded.ensures.keeps_log
+pub returns-in-Err-clause-keeps : goal.returns-in-Err-clause-keeps
+returns-in-Err-clause-keeps g c = record { to_log = log_same c.args.ports.now.log; to_shards = c.in-Err.ensures.keeps; others = λ quiet l is ne. (refl, refl) }
 
-pub returns-clause-keeps_shards : goal.returns-clause-keeps_shards
-returns-clause-keeps_shards g c = shards_on (shards_on (shards_on (shards_on (shards_on c.in-Ok.ensures.keeps c.finish_again.ensures.keeps) c.in-Ok-from_discarded.ensures.keeps_shards) c.lock_again.ensures.keeps) c.finish_again-2.ensures.keeps) c.forget_again.ensures.keeps
+pub returns-in-Err-discard-clause-keeps : goal.returns-in-Err-discard-clause-keeps
+returns-in-Err-discard-clause-keeps g c = record { to_log = c.in-Err-discard.ensures.keeps; to_shards = shards_on c.in-Ok.ensures.keeps c.finish_again.ensures.keeps; others = c.in-Err-discard.ensures.others }
 
-pub returns-in-Err-discard-clause-no_want : goal.returns-in-Err-discard-clause-no_want
-returns-in-Err-discard-clause-no_want g c = told_free c.in-Err-discard.ensures.told
+pub returns-in-Err-from_discarded-clause-keeps : goal.returns-in-Err-from_discarded-clause-keeps
+returns-in-Err-from_discarded-clause-keeps g c = record {
+  to_log = log_on c.in-Ok-discard.ensures.keeps c.in-Err-from_discarded.ensures.keeps.to_log;
+  to_shards = shards_on (shards_on c.in-Ok.ensures.keeps c.finish_again.ensures.keeps) c.in-Err-from_discarded.ensures.keeps.to_shards;
+  others = λ quiet. others_on _ _ _ _ _ _ _ _ _ c.in-Ok-discard.ensures.keeps.header_same (c.in-Ok-discard.ensures.others quiet) (c.in-Err-from_discarded.ensures.keeps.others quiet);
+}
+
+pub returns-clause-keeps : goal.returns-clause-keeps
+returns-clause-keeps g c = record {
+  to_log = log_on c.in-Ok-discard.ensures.keeps c.in-Ok-from_discarded.ensures.keeps.to_log;
+  to_shards = shards_on (shards_on (shards_on (shards_on (shards_on c.in-Ok.ensures.keeps c.finish_again.ensures.keeps) c.in-Ok-from_discarded.ensures.keeps.to_shards) c.lock_again.ensures.keeps) c.finish_again-2.ensures.keeps) c.forget_again.ensures.keeps;
+  others = λ quiet. others_on _ _ _ _ _ _ _ _ _ c.in-Ok-discard.ensures.keeps.header_same (c.in-Ok-discard.ensures.others quiet) (c.in-Ok-from_discarded.ensures.keeps.others quiet);
+}

@@ -1,12 +1,11 @@
 use Rattle.std.proofs.Common.{◌∙◌, refl, sym, ap, length, map}
-use Rattle.cbdc_model.specs.Ranges.{home_of}
 use Rattle.lane_laws.specs.Calls.{lock_of}
 use Rattle.lane_laws.specs.Answers.{LockAnswer}
-use Rattle.lane_driver.proofs.Turning.{turn_locked, turn_times, turn_committed, lock_stops, decide_stops, commit_stops, home_stop}
+use Rattle.lane_driver.proofs.Turning.{turn_locked, turn_times, turn_committed, lock_stops, decide_stops, commit_stops}
 use Rattle.std.proofs.lemmas.List.{length-map}
 use Rattle.lane_driver.proofs.Rooming.{lock_shards, lock_sizes, later_room}
 use Rattle.cbdc_model.specs.Calls.{IsLockCall}
-use Rattle.lane_driver.proofs.Fitting.{locks_ready, calls_kept, ledger_kept}
+use Rattle.lane_driver.proofs.Fitting.{locks_ready, calls_kept, ledger_kept, others_on}
 use Rattle.std.proofs.Common.{inr}
 use Rattle.lane_driver.proofs.Wanting.{lock_want, decide_free}
 use Rattle.lane_driver.proofs.Causing.{log_fault, decide_caused}
@@ -49,47 +48,9 @@ from_committed-requires-clause-room g c =
     (ap length (c.deref-3.ensures.value ∙ c.lock_calls.ensures) ∙ length-map c.args.room.parts _)
     (ap length c.deref-4.ensures.value ∙ c.in-Ok-decide.ensures.outcomes) c.requires.room.later
 
-pub returns-in-Ok-from_committed-clause-told : goal.returns-in-Ok-from_committed-clause-told
-returns-in-Ok-from_committed-clause-told g c = record {
-  replies = c.in-Ok.replies;
-  after_lock = g.S.PortSet.sights c.lock_phase.new.shards;
-  locks = turn_locked g.S.PortSet.alone g.L.LogPort.alone c.deref.result.now (map (lock_of c.args.batch.now c.args.cause) c.args.room.parts) (g.S.PortSet.sights c.args.ports.now.shards) (g.S.PortSet.sights c.lock_phase.new.shards) c.in-Ok.replies c.requires.same (c.deref.ensures.value ∙ c.lock_calls.ensures) c.in-Ok.ensures.told;
-  before_decide = g.S.PortSet.sights c.lock_again.new.shards;
-  locks_again = turn_times LockAnswer g.S.PortSet.alone g.L.LogPort.alone c.deref-2.result.now (map (lock_of c.args.batch.now c.args.cause) c.args.room.parts) c.args.repeats (g.S.PortSet.sights c.lock_phase.new.shards) (g.S.PortSet.sights c.lock_again.new.shards) c.requires.same (c.deref-2.ensures.value ∙ c.lock_calls.ensures) c.lock_again.ensures.told;
-  log_committed = g.L.LogPort.sights c.decide.new.self (g.L.LogPort.at c.decide.new.self);
-  committed = c.in-Ok-decide.stamp;
-  decide = c.in-Ok-decide.ensures.told;
-  outcomes = c.from_vec.ensures ∙ c.in-Ok-decide.ensures.written;
-  rest = turn_committed g.L.LogPort.alone c.args.batch.now c.in-Ok-decide.stamp c.deref-4.result.now c.from_vec.result c.args.repeats c.deref-3.result.now (map (lock_of c.args.batch.now c.args.cause) c.args.room.parts) (g.L.LogPort.sights c.decide.new.self (g.L.LogPort.at c.decide.new.self)) (g.L.LogPort.sights c.from_committed.new.ports.log (g.L.LogPort.at c.from_committed.new.ports.log)) (g.S.PortSet.sights c.lock_again.new.shards) (g.S.PortSet.sights c.from_committed.new.ports.shards)
-      (c.deref-4.ensures.value ∙ sym c.from_vec.ensures) (c.deref-3.ensures.value ∙ c.lock_calls.ensures) c.in-Ok-from_committed.ensures.told;
-}
-
-pub returns-in-Err-clause-stopped : goal.returns-in-Err-clause-stopped
-returns-in-Err-clause-stopped g c = lock_stops c.args.shape.now g.S.PortSet.alone g.L.LogPort.alone c.args.batch.now c.args.cause c.args.repeats c.args.room.parts c.deref.result.now (g.L.LogPort.sights c.args.ports.now.log (g.L.LogPort.at c.args.ports.now.log))
-    (g.S.PortSet.sights c.args.ports.now.shards) (g.S.PortSet.sights c.lock_phase.new.shards) c.in-Err.fault c.requires.same (c.deref.ensures.value ∙ c.lock_calls.ensures) c.in-Err.ensures.stopped
-
-pub returns-in-Err-decide-clause-stopped : goal.returns-in-Err-decide-clause-stopped
-returns-in-Err-decide-clause-stopped g c = decide_stops c.args.shape.now g.S.PortSet.alone g.L.LogPort.alone c.args.batch.now c.args.cause c.args.repeats c.in-Ok.replies c.args.room.parts c.deref.result.now c.deref-2.result.now (g.L.LogPort.sights c.args.ports.now.log (g.L.LogPort.at c.args.ports.now.log)) (g.L.LogPort.sights c.decide.new.self (g.L.LogPort.at c.decide.new.self))
-    (g.S.PortSet.sights c.args.ports.now.shards) (g.S.PortSet.sights c.lock_phase.new.shards) (g.S.PortSet.sights c.lock_again.new.shards) c.requires.same (c.deref.ensures.value ∙ c.lock_calls.ensures) (c.deref-2.ensures.value ∙ c.lock_calls.ensures) c.in-Ok.ensures.told c.lock_again.ensures.told
-    c.in-Err-decide.fault (record { node = c.home.result; fault = c.in-Err-decide.fault }) (home_stop c.home.result (home_of c.args.shape.now c.args.batch.now.lane) c.in-Err-decide.fault c.home.ensures) c.in-Err-decide.ensures.told
-
-pub returns-clause-stopped : goal.returns-clause-stopped
-returns-clause-stopped g c = commit_stops c.args.shape.now g.S.PortSet.alone g.L.LogPort.alone c.args.batch.now c.args.cause c.args.repeats c.in-Ok.replies c.args.room.parts c.deref.result.now c.deref-2.result.now (g.L.LogPort.sights c.args.ports.now.log (g.L.LogPort.at c.args.ports.now.log)) (g.L.LogPort.sights c.decide.new.self (g.L.LogPort.at c.decide.new.self))
-    (g.S.PortSet.sights c.args.ports.now.shards) (g.S.PortSet.sights c.lock_phase.new.shards) (g.S.PortSet.sights c.lock_again.new.shards) c.requires.same (c.deref.ensures.value ∙ c.lock_calls.ensures) (c.deref-2.ensures.value ∙ c.lock_calls.ensures) c.in-Ok.ensures.told c.lock_again.ensures.told
-    c.in-Ok-decide.stamp c.deref-4.result.now (g.L.LogPort.sights c.from_committed.new.ports.log (g.L.LogPort.at c.from_committed.new.ports.log)) (g.S.PortSet.sights c.from_committed.new.ports.shards) c.in-Err-from_committed.fault c.deref-3.result.now (c.deref-3.ensures.value ∙ c.lock_calls.ensures) c.in-Ok-decide.ensures.told
-    (c.deref-4.ensures.value ∙ c.in-Ok-decide.ensures.written) c.in-Err-from_committed.ensures.stopped
-
 pub from_committed-requires-clause-ledger : goal.from_committed-requires-clause-ledger
 from_committed-requires-clause-ledger g c =
     ledger_kept c.args.shape.now (g.S.PortSet.sights c.args.ports.now.shards) (g.S.PortSet.sights c.lock_again.new.shards) c.requires.ledger (shards_on c.in-Ok.ensures.keeps c.lock_again.ensures.keeps).nodes
-
-pub returns-in-Err-clause-fault : goal.returns-in-Err-clause-fault
-returns-in-Err-clause-fault g c = inr (inr c.in-Err.ensures.fault)
-
-pub returns-in-Err-decide-clause-fault : goal.returns-in-Err-decide-clause-fault
-returns-in-Err-decide-clause-fault g c = log_fault c.args.shape.now c.args.batch.now.lane (g.L.LogPort.at c.decide.new.self) (g.L.LogPort.sights c.decide.new.self) (g.S.PortSet.sights c.lock_again.new.shards) c.in-Err-decide.fault (record { node = c.home.result; fault = c.in-Err-decide.fault }) c.requires.batch.0 (c.in-Err-decide.ensures.keeps.at_same ∙ c.requires.at)
-    (home_stop c.home.result (home_of c.args.shape.now c.args.batch.now.lane) c.in-Err-decide.fault c.home.ensures)
-    (decide_caused c.in-Err-decide.fault (g.L.LogPort.sights c.decide.new.self (g.L.LogPort.at c.decide.new.self)) c.in-Err-decide.ensures.fault)
 
 pub lock_phase-requires-clause-mine : goal.lock_phase-requires-clause-mine
 lock_phase-requires-clause-mine g c = locks_served (g.S.PortSet.serves c.args.ports.now.shards) c.args.batch.now c.requires.mine c.args.cause c.args.room.parts _ (c.deref.ensures.value ∙ c.lock_calls.ensures)
@@ -101,30 +62,66 @@ lock_again-requires-clause-mine g c =
 pub from_committed-requires-clause-own : goal.from_committed-requires-clause-own
 from_committed-requires-clause-own g c = locks_own c.args.batch.now c.args.cause c.args.room.parts _ (c.deref-3.ensures.value ∙ c.lock_calls.ensures)
 
-pub returns-in-Err-clause-keeps_log : goal.returns-in-Err-clause-keeps_log
-returns-in-Err-clause-keeps_log g c = log_same c.args.ports.now.log
+pub returns-in-Ok-from_committed-clause-outcome : goal.returns-in-Ok-from_committed-clause-outcome
+returns-in-Ok-from_committed-clause-outcome g c = record {
+  replies = c.in-Ok.replies;
+  after_lock = g.S.PortSet.sights c.lock_phase.new.shards;
+  locks = turn_locked g.S.PortSet.alone g.L.LogPort.alone c.deref.result.now (map (lock_of c.args.batch.now c.args.cause) c.args.room.parts) (g.S.PortSet.sights c.args.ports.now.shards) (g.S.PortSet.sights c.lock_phase.new.shards) c.in-Ok.replies c.requires.same (c.deref.ensures.value ∙ c.lock_calls.ensures) c.in-Ok.ensures.told;
+  before_decide = g.S.PortSet.sights c.lock_again.new.shards;
+  locks_again = turn_times LockAnswer g.S.PortSet.alone g.L.LogPort.alone c.deref-2.result.now (map (lock_of c.args.batch.now c.args.cause) c.args.room.parts) c.args.repeats (g.S.PortSet.sights c.lock_phase.new.shards) (g.S.PortSet.sights c.lock_again.new.shards) c.requires.same (c.deref-2.ensures.value ∙ c.lock_calls.ensures) c.lock_again.ensures.told;
+  log_committed = g.L.LogPort.sights c.decide.new.self (g.L.LogPort.at c.decide.new.self);
+  committed = c.in-Ok-decide.stamp;
+  decide = c.in-Ok-decide.ensures.told;
+  outcomes = c.from_vec.ensures ∙ c.in-Ok-decide.ensures.written;
+  rest = turn_committed g.L.LogPort.alone c.args.batch.now c.in-Ok-decide.stamp c.deref-4.result.now c.from_vec.result c.args.repeats c.deref-3.result.now (map (lock_of c.args.batch.now c.args.cause) c.args.room.parts) (g.L.LogPort.sights c.decide.new.self (g.L.LogPort.at c.decide.new.self)) (g.L.LogPort.sights c.from_committed.new.ports.log (g.L.LogPort.at c.from_committed.new.ports.log)) (g.S.PortSet.sights c.lock_again.new.shards) (g.S.PortSet.sights c.from_committed.new.ports.shards)
+      (c.deref-4.ensures.value ∙ sym c.from_vec.ensures) (c.deref-3.ensures.value ∙ c.lock_calls.ensures) c.in-Ok-from_committed.ensures.outcome;
+}
 
-pub returns-in-Err-decide-clause-keeps_shards : goal.returns-in-Err-decide-clause-keeps_shards
-returns-in-Err-decide-clause-keeps_shards g c = shards_on c.in-Ok.ensures.keeps c.lock_again.ensures.keeps
+pub returns-in-Err-clause-outcome : goal.returns-in-Err-clause-outcome
+returns-in-Err-clause-outcome g c = record {
+  told_so = lock_stops c.args.shape.now g.S.PortSet.alone g.L.LogPort.alone c.args.batch.now c.args.cause c.args.repeats c.args.room.parts c.deref.result.now (g.L.LogPort.sights c.args.ports.now.log (g.L.LogPort.at c.args.ports.now.log))
+      (g.S.PortSet.sights c.args.ports.now.shards) (g.S.PortSet.sights c.lock_phase.new.shards) c.in-Err.fault c.requires.same (c.deref.ensures.value ∙ c.lock_calls.ensures) c.in-Err.ensures.stopped;
+  cause = inr (inr c.in-Err.ensures.fault);
+  want = lock_want c.args.shape.now g.S.PortSet.alone g.L.LogPort.alone c.args.batch.now c.args.cause c.args.room.parts c.deref.result.now (g.L.LogPort.sights c.args.ports.now.log (g.L.LogPort.at c.args.ports.now.log))
+      (g.S.PortSet.sights c.args.ports.now.shards) (g.S.PortSet.sights c.lock_phase.new.shards) c.in-Err.fault c.requires.same (c.deref.ensures.value ∙ c.lock_calls.ensures) c.in-Err.ensures.stopped;
+}
 
-pub returns-in-Ok-from_committed-clause-keeps_log : goal.returns-in-Ok-from_committed-clause-keeps_log
-returns-in-Ok-from_committed-clause-keeps_log g c = log_on c.in-Ok-decide.ensures.keeps c.in-Ok-from_committed.ensures.keeps_log
+pub returns-in-Err-decide-clause-outcome : goal.returns-in-Err-decide-clause-outcome
+returns-in-Err-decide-clause-outcome g c = record {
+  told_so = decide_stops c.args.shape.now g.S.PortSet.alone g.L.LogPort.alone c.args.batch.now c.args.cause c.args.repeats c.in-Ok.replies c.args.room.parts c.deref.result.now c.deref-2.result.now (g.L.LogPort.sights c.args.ports.now.log (g.L.LogPort.at c.args.ports.now.log))
+      (g.L.LogPort.sights c.decide.new.self (g.L.LogPort.at c.decide.new.self)) (g.S.PortSet.sights c.args.ports.now.shards) (g.S.PortSet.sights c.lock_phase.new.shards) (g.S.PortSet.sights c.lock_again.new.shards) c.requires.same (c.deref.ensures.value ∙ c.lock_calls.ensures)
+      (c.deref-2.ensures.value ∙ c.lock_calls.ensures) c.in-Ok.ensures.told c.lock_again.ensures.told c.home.result c.in-Err-decide.fault c.home.ensures c.in-Err-decide.ensures.told;
+  cause = log_fault c.args.shape.now c.args.batch.now.lane (g.L.LogPort.at c.decide.new.self) (g.L.LogPort.sights c.decide.new.self) (g.S.PortSet.sights c.lock_again.new.shards) c.home.result c.in-Err-decide.fault c.requires.batch.0 (c.in-Err-decide.ensures.keeps.at_same ∙ c.requires.at) c.home.ensures
+      (decide_caused c.in-Err-decide.fault (g.L.LogPort.sights c.decide.new.self (g.L.LogPort.at c.decide.new.self)) c.in-Err-decide.ensures.fault);
+  want = λ w. absurd (decide_free c.in-Err-decide.fault (g.L.LogPort.sights c.decide.new.self (g.L.LogPort.at c.decide.new.self)) c.in-Err-decide.ensures.fault w);
+}
 
-pub returns-in-Ok-from_committed-clause-keeps_shards : goal.returns-in-Ok-from_committed-clause-keeps_shards
-returns-in-Ok-from_committed-clause-keeps_shards g c = shards_on (shards_on c.in-Ok.ensures.keeps c.lock_again.ensures.keeps) c.in-Ok-from_committed.ensures.keeps_shards
+pub returns-clause-outcome : goal.returns-clause-outcome
+returns-clause-outcome g c = record {
+  told_so = commit_stops c.args.shape.now g.S.PortSet.alone g.L.LogPort.alone c.args.batch.now c.args.cause c.args.repeats c.in-Ok.replies c.args.room.parts c.deref.result.now c.deref-2.result.now (g.L.LogPort.sights c.args.ports.now.log (g.L.LogPort.at c.args.ports.now.log))
+      (g.L.LogPort.sights c.decide.new.self (g.L.LogPort.at c.decide.new.self)) (g.S.PortSet.sights c.args.ports.now.shards) (g.S.PortSet.sights c.lock_phase.new.shards) (g.S.PortSet.sights c.lock_again.new.shards) c.requires.same (c.deref.ensures.value ∙ c.lock_calls.ensures)
+      (c.deref-2.ensures.value ∙ c.lock_calls.ensures) c.in-Ok.ensures.told c.lock_again.ensures.told c.in-Ok-decide.stamp c.deref-4.result.now (g.L.LogPort.sights c.from_committed.new.ports.log (g.L.LogPort.at c.from_committed.new.ports.log)) (g.S.PortSet.sights c.from_committed.new.ports.shards)
+      c.in-Err-from_committed.fault.node c.in-Err-from_committed.fault.fault c.deref-3.result.now (c.deref-3.ensures.value ∙ c.lock_calls.ensures) c.in-Ok-decide.ensures.told (c.deref-4.ensures.value ∙ c.in-Ok-decide.ensures.written) c.in-Err-from_committed.ensures.outcome.told_so;
+  cause = c.in-Err-from_committed.ensures.outcome.cause;
+  want = λ w. absurd (c.in-Err-from_committed.ensures.outcome.want w);
+}
 
-pub returns-clause-keeps_log : goal.returns-clause-keeps_log
-returns-clause-keeps_log g c = log_on c.in-Ok-decide.ensures.keeps c.in-Err-from_committed.ensures.keeps_log
+pub returns-in-Err-clause-keeps : goal.returns-in-Err-clause-keeps
+returns-in-Err-clause-keeps g c = record { to_log = log_same c.args.ports.now.log; to_shards = c.in-Err.ensures.keeps; others = λ quiet l is ne. (refl, refl) }
 
-pub returns-clause-keeps_shards : goal.returns-clause-keeps_shards
-returns-clause-keeps_shards g c = shards_on (shards_on c.in-Ok.ensures.keeps c.lock_again.ensures.keeps) c.in-Err-from_committed.ensures.keeps_shards
+pub returns-in-Err-decide-clause-keeps : goal.returns-in-Err-decide-clause-keeps
+returns-in-Err-decide-clause-keeps g c = record { to_log = c.in-Err-decide.ensures.keeps; to_shards = shards_on c.in-Ok.ensures.keeps c.lock_again.ensures.keeps; others = c.in-Err-decide.ensures.others }
 
-pub returns-in-Err-clause-want : goal.returns-in-Err-clause-want
-returns-in-Err-clause-want g c = lock_want c.args.shape.now g.S.PortSet.alone g.L.LogPort.alone c.args.batch.now c.args.cause c.args.room.parts c.deref.result.now (g.L.LogPort.sights c.args.ports.now.log (g.L.LogPort.at c.args.ports.now.log))
-    (g.S.PortSet.sights c.args.ports.now.shards) (g.S.PortSet.sights c.lock_phase.new.shards) c.in-Err.fault c.requires.same (c.deref.ensures.value ∙ c.lock_calls.ensures) c.in-Err.ensures.stopped
+pub returns-in-Ok-from_committed-clause-keeps : goal.returns-in-Ok-from_committed-clause-keeps
+returns-in-Ok-from_committed-clause-keeps g c = record {
+  to_log = log_on c.in-Ok-decide.ensures.keeps c.in-Ok-from_committed.ensures.keeps.to_log;
+  to_shards = shards_on (shards_on c.in-Ok.ensures.keeps c.lock_again.ensures.keeps) c.in-Ok-from_committed.ensures.keeps.to_shards;
+  others = λ quiet. others_on _ _ _ _ _ _ _ _ _ c.in-Ok-decide.ensures.keeps.header_same (c.in-Ok-decide.ensures.others quiet) (c.in-Ok-from_committed.ensures.keeps.others quiet);
+}
 
-pub returns-in-Err-decide-clause-want : goal.returns-in-Err-decide-clause-want
-returns-in-Err-decide-clause-want g c want = absurd (decide_free c.in-Err-decide.fault (g.L.LogPort.sights c.decide.new.self (g.L.LogPort.at c.decide.new.self)) c.in-Err-decide.ensures.fault want)
-
-pub returns-clause-want : goal.returns-clause-want
-returns-clause-want g c want = absurd (c.in-Err-from_committed.ensures.no_want want)
+pub returns-clause-keeps : goal.returns-clause-keeps
+returns-clause-keeps g c = record {
+  to_log = log_on c.in-Ok-decide.ensures.keeps c.in-Err-from_committed.ensures.keeps.to_log;
+  to_shards = shards_on (shards_on c.in-Ok.ensures.keeps c.lock_again.ensures.keeps) c.in-Err-from_committed.ensures.keeps.to_shards;
+  others = λ quiet. others_on _ _ _ _ _ _ _ _ _ c.in-Ok-decide.ensures.keeps.header_same (c.in-Ok-decide.ensures.others quiet) (c.in-Err-from_committed.ensures.keeps.others quiet);
+}

@@ -1,130 +1,134 @@
-use Rattle.std.proofs.Common.{rules, inl, inr, refl, [], ◌≡◌, ◌<◌, ◌+◌, ◌∙◌, ap, sym, subst, length, reverse, take, drop}
+use Rattle.std.proofs.Common.{rules, inl, inr, refl, [], ◌≡◌, ◌<◌, ◌∙◌, ap, sym, subst, length, reverse, take, drop}
 use Rattle.std.specs.Vec.{vec_len, vec_capacity}
 use Rattle.std.specs.List.{All}
 use Rattle.std.proofs.lemmas.List.{length-drop}
 use Rattle.std.proofs.lemmas.List.Elements.{All-take, All-drop}
+use Rattle.cbdc_model.specs.Records.{Header}
 use Rattle.cbdc_model.specs.Grammar.{IsCompact}
-use Rattle.lane_driver.proofs.Fitting.{others_on, ledger_kept}
+use Rattle.cbdc_model.specs.Ranges.{home_of}
+use Rattle.cbdc_model.specs.Slots.{slot, Idle}
 use Rattle.lane_laws.specs.Batches.{LaneSo}
-use Rattle.lane_laws.proofs.Laning.{lane_begins}
-use Rattle.cbdc_types.specs.declared.calls.NodeFault.TheVariants.{Memory}
-use Rattle.cbdc_model.specs.Slots.{slot}
-use Rattle.lane_driver.proofs.Batching.{one_granted, one_stops, one_told, lane_on, done_on, lane_off, lane_told, none_left, some_left, none_after}
+use Rattle.lane_driver.specs.Told.{IsLane, AreShardsOf}
+use Rattle.lane_driver.specs.Stops.{IsLaneSettled}
+use Rattle.lane_driver.specs.Readied.{ReadyOf}
 use Rattle.lane_driver.specs.Reports.{IsReported, AreDone}
+use Rattle.lane_driver.specs.Showing.{lane_sights, KeepsLanePorts}
+use Rattle.lane_driver.specs.Outcomes.{IsBatchDone, IsFaultOfBatch}
+use Rattle.lane_driver.proofs.Fitting.{ledger_kept}
+use Rattle.lane_driver.proofs.Batching.{done_on, none_left, some_left, none_after}
+use Rattle.lane_driver.proofs.Outcomes.{batch_did, lane_so}
 use Rattle.lane_driver.proofs.Cutting.{room_after, reported_more}
-use Rattle.lane_driver.proofs.Keeping.{log_same, log_on, shards_same, shards_on}
+use Rattle.lane_driver.proofs.Keeping.{ports_same, ports_on}
 use Rattle.lane_driver.proofs.lane.run_lane.Goals as goal
 
 pub pieces-preserved : goal.pieces-preserved
 pieces-preserved g c =
     let some : 0 < length (g.X.Source.rest c.pieces.source) = some_left c.args.shape.now.batch (g.X.Source.rest c.pieces.source) c.piece-piece.result.now (c.piece-piece.ensures ∙ c.in-Ok-advance.ensures.given ∙ ap (λ n. take n (g.X.Source.rest c.pieces.source)) c.batch-size.ensures.value) (search rules) in
     let room : vec_len c.pieces.batches < vec_capacity c.pieces.batches = search rules in
+    let so : LaneSo c.args.shape.now g.L.LogPort.alone c.args.lane (g.X.Source.all c.args.source.now) (g.X.Source.rest c.pieces.source) (g.L.LogPort.sights c.args.ports.now.log (g.L.LogPort.at c.args.ports.now.log)) (g.S.PortSet.sights c.args.ports.now.shards) (g.L.LogPort.sights c.pieces.ports.log (g.L.LogPort.at c.pieces.ports.log)) (g.S.PortSet.sights c.pieces.ports.shards) = lane_so c.args.shape.now g.L.LogPort.alone c.args.lane c.requires.settled.0 (g.X.Source.all c.args.source.now) (g.L.LogPort.sights c.args.ports.now.log (g.L.LogPort.at c.args.ports.now.log)) (g.S.PortSet.sights c.args.ports.now.shards) c.requires.settled.1 (reverse c.pieces.batches.items) (g.X.Source.rest c.pieces.source) (g.L.LogPort.sights c.pieces.ports.log (g.L.LogPort.at c.pieces.ports.log)) (g.S.PortSet.sights c.pieces.ports.shards) c.pieces.invariant.done in
     record {
-      so = λ k st. lane_on c.args.shape.now g.L.LogPort.alone c.args.lane (g.X.Source.all c.args.source.now) (g.X.Source.rest c.pieces.source) c.piece-piece.result.now (g.L.LogPort.sights c.args.ports.now.log (g.L.LogPort.at c.args.ports.now.log)) (g.L.LogPort.sights c.pieces.ports.log (g.L.LogPort.at c.pieces.ports.log)) (g.L.LogPort.sights c.one_batch.new.ports.log (g.L.LogPort.at c.one_batch.new.ports.log)) (g.S.PortSet.sights c.args.ports.now.shards) (g.S.PortSet.sights c.pieces.ports.shards) (g.S.PortSet.sights c.one_batch.new.ports.shards) (c.pieces.invariant.so k st) (c.piece-piece.ensures ∙ c.in-Ok-advance.ensures.given ∙ ap (λ n. take n (g.X.Source.rest c.pieces.source)) c.batch-size.ensures.value)
-          (g.X.Source.rest c.advance.new.self) c.in-Ok-one_batch.report.batch c.in-Ok-one_batch.report.outcomes some (c.in-Ok-advance.ensures.rest ∙ ap (λ n. drop n (g.X.Source.rest c.pieces.source)) c.batch-size.ensures.value) c.in-Ok-one_batch.ensures.done;
-      idle = search rules;
-      others = λ quiet. others_on (g.L.LogPort.header c.args.ports.now.log) (g.L.LogPort.header c.pieces.ports.log) c.args.lane (g.L.LogPort.phase c.args.ports.now.log) (g.L.LogPort.phase c.pieces.ports.log) (g.L.LogPort.phase c.one_batch.new.ports.log) (g.L.LogPort.open_txs c.args.ports.now.log) (g.L.LogPort.open_txs c.pieces.ports.log) (g.L.LogPort.open_txs c.one_batch.new.ports.log) c.pieces.invariant.keeps_log.header_same (c.pieces.invariant.others quiet) (c.in-Ok-one_batch.ensures.others quiet);
-      keeps_log = log_on c.pieces.invariant.keeps_log c.in-Ok-one_batch.ensures.keeps_log;
-      keeps_shards = shards_on c.pieces.invariant.keeps_shards c.in-Ok-one_batch.ensures.keeps_shards;
+      done = done_on c.args.shape.now g.L.LogPort.alone c.args.lane (g.X.Source.all c.args.source.now) (g.X.Source.rest c.pieces.source) c.piece-piece.result.now (g.L.LogPort.sights c.args.ports.now.log (g.L.LogPort.at c.args.ports.now.log)) (g.L.LogPort.sights c.pieces.ports.log (g.L.LogPort.at c.pieces.ports.log)) (g.L.LogPort.sights c.go.new.ports.log (g.L.LogPort.at c.go.new.ports.log)) (g.S.PortSet.sights c.args.ports.now.shards) (g.S.PortSet.sights c.pieces.ports.shards) (g.S.PortSet.sights c.go.new.ports.shards) (c.piece-piece.ensures ∙ c.in-Ok-advance.ensures.given ∙ ap (λ n. take n (g.X.Source.rest c.pieces.source)) c.batch-size.ensures.value)
+          (g.X.Source.rest c.advance.new.self) c.pieces.batches.items _ c.in-Ok-go.report c.push_reserved.ensures.items some (c.in-Ok-advance.ensures.rest ∙ ap (λ n. drop n (g.X.Source.rest c.pieces.source)) c.batch-size.ensures.value) c.pieces.invariant.done
+          (batch_did c.args.shape.now g.L.LogPort.alone c.args.lane c.piece-piece.result.now c.args.repeats (lane_sights g.L.LogPort g.S.PortSet c.pieces.ports) (lane_sights g.L.LogPort g.S.PortSet c.go.new.ports) c.in-Ok-go.report (subst (λ (r : ReadyOf). IsBatchDone r.shape g.L.LogPort.alone r.lane r.txs c.args.repeats (lane_sights g.L.LogPort g.S.PortSet c.pieces.ports) (lane_sights g.L.LogPort g.S.PortSet c.go.new.ports) c.in-Ok-go.report) c.in-Ok-ready.ensures c.in-Ok-go.ensures.outcome) (slot (g.L.LogPort.sights c.pieces.ports.log (g.L.LogPort.at c.pieces.ports.log)).seen c.args.lane).number so.settled);
+      idle = subst (λ (r : ReadyOf). g.L.LogPort.phase c.go.new.ports.log r.lane ≡ Idle) c.in-Ok-ready.ensures c.in-Ok-go.ensures.idle;
+      keeps = ports_on g.L.LogPort g.S.PortSet c.args.lane c.args.ports.now c.pieces.ports c.go.new.ports c.pieces.invariant.keeps (subst (λ (r : ReadyOf). KeepsLanePorts g.L.LogPort g.S.PortSet r.lane c.pieces.ports c.go.new.ports) c.in-Ok-ready.ensures c.in-Ok-go.ensures.keeps);
       same = c.in-Ok-advance.ensures.same ∙ c.pieces.invariant.same;
       limits = subst (λ xs. All IsCompact xs) (sym (c.in-Ok-advance.ensures.rest ∙ ap (λ n. drop n (g.X.Source.rest c.pieces.source)) c.batch-size.ensures.value)) (All-drop IsCompact c.args.shape.now.batch (g.X.Source.rest c.pieces.source) c.pieces.invariant.limits);
       room = room_after (length (g.X.Source.rest c.pieces.source)) c.args.shape.now.batch _ _ (length (g.X.Source.rest c.advance.new.self)) _ _ some c.pieces.invariant.room (ap (λ xs. length xs) (c.in-Ok-advance.ensures.rest ∙ ap (λ n. drop n (g.X.Source.rest c.pieces.source)) c.batch-size.ensures.value) ∙ length-drop c.args.shape.now.batch (g.X.Source.rest c.pieces.source)) room
           c.push_reserved.ensures.len c.push_reserved.ensures.capacity;
-      batches = λ k st. done_on c.args.shape.now g.L.LogPort.alone c.args.lane (g.X.Source.all c.args.source.now) (g.X.Source.rest c.pieces.source) c.piece-piece.result.now (g.L.LogPort.sights c.args.ports.now.log (g.L.LogPort.at c.args.ports.now.log)) (g.L.LogPort.sights c.pieces.ports.log (g.L.LogPort.at c.pieces.ports.log)) (g.L.LogPort.sights c.one_batch.new.ports.log (g.L.LogPort.at c.one_batch.new.ports.log)) (g.S.PortSet.sights c.args.ports.now.shards) (g.S.PortSet.sights c.pieces.ports.shards) (g.S.PortSet.sights c.one_batch.new.ports.shards) (c.pieces.invariant.so k st) (c.piece-piece.ensures ∙ c.in-Ok-advance.ensures.given ∙ ap (λ n. take n (g.X.Source.rest c.pieces.source)) c.batch-size.ensures.value)
-          (g.X.Source.rest c.advance.new.self) c.pieces.batches.items _ c.in-Ok-one_batch.report c.push_reserved.ensures.items some (c.in-Ok-advance.ensures.rest ∙ ap (λ n. drop n (g.X.Source.rest c.pieces.source)) c.batch-size.ensures.value) (c.pieces.invariant.batches k st) c.in-Ok-one_batch.ensures.done;
       report = subst (λ reports. IsReported c.args.lane c.args.shape.now.batch (g.X.Source.all c.args.source.now) (g.X.Source.rest c.advance.new.self) reports) (sym c.push_reserved.ensures.items)
-          (reported_more c.args.lane c.args.shape.now.batch (g.X.Source.all c.args.source.now) (g.X.Source.rest c.pieces.source) c.piece-piece.result.now (g.X.Source.rest c.advance.new.self) c.pieces.batches.items c.in-Ok-one_batch.report
-          c.pieces.invariant.report some (c.piece-piece.ensures ∙ c.in-Ok-advance.ensures.given ∙ ap (λ n. take n (g.X.Source.rest c.pieces.source)) c.batch-size.ensures.value) (c.in-Ok-advance.ensures.rest ∙ ap (λ n. drop n (g.X.Source.rest c.pieces.source)) c.batch-size.ensures.value) c.in-Ok-one_batch.ensures.report);
+          (reported_more c.args.lane c.args.shape.now.batch (g.X.Source.all c.args.source.now) (g.X.Source.rest c.pieces.source) c.piece-piece.result.now (g.X.Source.rest c.advance.new.self) c.pieces.batches.items c.in-Ok-go.report
+          c.pieces.invariant.report some (c.piece-piece.ensures ∙ c.in-Ok-advance.ensures.given ∙ ap (λ n. take n (g.X.Source.rest c.pieces.source)) c.batch-size.ensures.value) (c.in-Ok-advance.ensures.rest ∙ ap (λ n. drop n (g.X.Source.rest c.pieces.source)) c.batch-size.ensures.value) (subst (λ (r : ReadyOf). (c.in-Ok-go.report.batch.lane ≡ r.lane) × (length c.in-Ok-go.report.outcomes ≡ length r.txs)) c.in-Ok-ready.ensures c.in-Ok-go.ensures.report));
     }
-
-pub returns-in-Err-one_batch-clause-stopped : goal.returns-in-Err-one_batch-clause-stopped
-returns-in-Err-one_batch-clause-stopped g c k st =
-    let some : 0 < length (g.X.Source.rest c.pieces.source) = some_left c.args.shape.now.batch (g.X.Source.rest c.pieces.source) c.piece-piece.result.now (c.piece-piece.ensures ∙ c.in-Ok-advance.ensures.given ∙ ap (λ n. take n (g.X.Source.rest c.pieces.source)) c.batch-size.ensures.value) (search rules) in
-    lane_off c.args.shape.now g.L.LogPort.alone c.args.lane (g.X.Source.all c.args.source.now) (g.X.Source.rest c.pieces.source) c.piece-piece.result.now (g.L.LogPort.sights c.args.ports.now.log (g.L.LogPort.at c.args.ports.now.log)) (g.L.LogPort.sights c.pieces.ports.log (g.L.LogPort.at c.pieces.ports.log)) (g.L.LogPort.sights c.one_batch.new.ports.log (g.L.LogPort.at c.one_batch.new.ports.log)) (g.S.PortSet.sights c.args.ports.now.shards) (g.S.PortSet.sights c.pieces.ports.shards) (g.S.PortSet.sights c.one_batch.new.ports.shards) (c.pieces.invariant.so k st) (c.piece-piece.ensures ∙ c.in-Ok-advance.ensures.given ∙ ap (λ n. take n (g.X.Source.rest c.pieces.source)) c.batch-size.ensures.value)
-    c.lane_fault.result some (one_stops c.args.shape.now g.L.LogPort.alone c.args.lane c.piece-piece.result.now (g.L.LogPort.sights c.pieces.ports.log (g.L.LogPort.at c.pieces.ports.log)) (g.L.LogPort.sights c.one_batch.new.ports.log (g.L.LogPort.at c.one_batch.new.ports.log)) (g.S.PortSet.sights c.pieces.ports.shards) (g.S.PortSet.sights c.one_batch.new.ports.shards) c.in-Err-one_batch.stop c.in-Err-one_batch.ensures.stopped c.lane_fault.result c.lane_fault.ensures)
-
-pub returns-in-Err-one_batch-clause-told : goal.returns-in-Err-one_batch-clause-told
-returns-in-Err-one_batch-clause-told g c k st =
-    let some : 0 < length (g.X.Source.rest c.pieces.source) = some_left c.args.shape.now.batch (g.X.Source.rest c.pieces.source) c.piece-piece.result.now (c.piece-piece.ensures ∙ c.in-Ok-advance.ensures.given ∙ ap (λ n. take n (g.X.Source.rest c.pieces.source)) c.batch-size.ensures.value) (search rules) in
-    lane_told c.args.shape.now g.L.LogPort.alone c.args.lane (g.X.Source.all c.args.source.now) (g.X.Source.rest c.pieces.source) c.piece-piece.result.now (g.L.LogPort.sights c.args.ports.now.log (g.L.LogPort.at c.args.ports.now.log)) (g.L.LogPort.sights c.pieces.ports.log (g.L.LogPort.at c.pieces.ports.log)) (g.L.LogPort.sights c.one_batch.new.ports.log (g.L.LogPort.at c.one_batch.new.ports.log)) (g.S.PortSet.sights c.args.ports.now.shards) (g.S.PortSet.sights c.pieces.ports.shards) (g.S.PortSet.sights c.one_batch.new.ports.shards) (c.pieces.invariant.so k st) (c.piece-piece.ensures ∙ c.in-Ok-advance.ensures.given ∙ ap (λ n. take n (g.X.Source.rest c.pieces.source)) c.batch-size.ensures.value)
-    c.args.repeats c.lane_fault.result some (one_told c.args.shape.now g.L.LogPort.alone c.args.lane c.piece-piece.result.now c.args.repeats (g.L.LogPort.sights c.pieces.ports.log (g.L.LogPort.at c.pieces.ports.log)) (g.L.LogPort.sights c.one_batch.new.ports.log (g.L.LogPort.at c.one_batch.new.ports.log)) (g.S.PortSet.sights c.pieces.ports.shards) (g.S.PortSet.sights c.one_batch.new.ports.shards) c.in-Err-one_batch.stop c.lane_fault.result c.lane_fault.ensures c.in-Err-one_batch.ensures.told)
-
-pub returns-in-Err-clause-stopped : goal.returns-in-Err-clause-stopped
-returns-in-Err-clause-stopped g c k st = inl (c.no_memory.ensures, refl, refl)
-
-pub returns-in-Err-clause-told : goal.returns-in-Err-clause-told
-returns-in-Err-clause-told g c k st = inl (c.no_memory.ensures, refl, refl)
 
 pub pieces-init : goal.pieces-init
 pieces-init g c = record {
-  so = λ k st. subst (λ r. LaneSo c.args.shape.now g.L.LogPort.alone c.args.lane (g.X.Source.all c.args.source.now) r (g.L.LogPort.sights c.args.ports.now.log (g.L.LogPort.at c.args.ports.now.log)) (g.S.PortSet.sights c.args.ports.now.shards) (g.L.LogPort.sights c.args.ports.now.log (g.L.LogPort.at c.args.ports.now.log)) (g.S.PortSet.sights c.args.ports.now.shards)) (sym (c.begin.ensures.rest ∙ c.begin.ensures.same)) (lane_begins c.args.shape.now g.L.LogPort.alone c.args.lane k (g.X.Source.all c.args.source.now) (g.L.LogPort.sights c.args.ports.now.log (g.L.LogPort.at c.args.ports.now.log)) (g.S.PortSet.sights c.args.ports.now.shards) st);
-  idle = search rules;
-  others = λ quiet l is ne. (refl, refl);
-  keeps_log = log_same c.args.ports.now.log;
-  keeps_shards = shards_same c.args.ports.now.shards;
-  same = c.begin.ensures.same;
-  limits = subst (λ xs. All IsCompact xs) (sym (c.begin.ensures.rest ∙ c.begin.ensures.same)) c.requires.limits;
-  room = search rules;
-  batches = λ k st. (
+  done = (
       let none : c.in-Ok.batches.items ≡ [] = search rules in
       subst (λ rs. AreDone c.args.shape.now g.L.LogPort.alone c.args.lane (g.X.Source.all c.args.source.now) (g.L.LogPort.sights c.args.ports.now.log (g.L.LogPort.at c.args.ports.now.log)) (g.S.PortSet.sights c.args.ports.now.shards) (reverse rs) (g.X.Source.rest c.begin.new.self) (g.L.LogPort.sights c.args.ports.now.log (g.L.LogPort.at c.args.ports.now.log)) (g.S.PortSet.sights c.args.ports.now.shards)) (sym none) (c.begin.ensures.rest ∙ c.begin.ensures.same, refl, refl)
       );
+  idle = search rules;
+  keeps = ports_same g.L.LogPort g.S.PortSet c.args.lane c.args.ports.now;
+  same = c.begin.ensures.same;
+  limits = subst (λ xs. All IsCompact xs) (sym (c.begin.ensures.rest ∙ c.begin.ensures.same)) c.requires.limits;
+  room = search rules;
   report = search rules;
 }
 
-pub returns-clause-done : goal.returns-clause-done
-returns-clause-done g c k st =
-    let e : (g.X.Source.rest c.pieces.source) ≡ [] = none_after c.args.shape.now.batch (g.X.Source.rest c.pieces.source) c.piece-piece.result.now (search rules) (c.piece-piece.ensures ∙ c.in-Ok-advance.ensures.given ∙ ap (λ n. take n (g.X.Source.rest c.pieces.source)) c.batch-size.ensures.value) (none_left c.piece-piece.result.now (search rules)) in
-    subst (λ r. LaneSo c.args.shape.now g.L.LogPort.alone c.args.lane (g.X.Source.all c.args.source.now) r (g.L.LogPort.sights c.args.ports.now.log (g.L.LogPort.at c.args.ports.now.log)) (g.S.PortSet.sights c.args.ports.now.shards) (g.L.LogPort.sights c.pieces.ports.log (g.L.LogPort.at c.pieces.ports.log)) (g.S.PortSet.sights c.pieces.ports.shards)) e (c.pieces.invariant.so k st)
+pub go-requires-clause-at : goal.go-requires-clause-at
+go-requires-clause-at g c = subst (λ (r : ReadyOf). g.L.LogPort.at c.pieces.ports.log ≡ home_of r.shape r.lane) (sym c.in-Ok-ready.ensures) (c.pieces.invariant.keeps.to_log.at_same ∙ c.requires.at)
 
-pub returns-clause-batches : goal.returns-clause-batches
-returns-clause-batches g c k st =
+pub go-requires-clause-home : goal.go-requires-clause-home
+go-requires-clause-home g c = subst (λ (r : ReadyOf). IsLane (g.L.LogPort.header c.pieces.ports.log) r.lane) (sym c.in-Ok-ready.ensures) (subst (λ (h : Header). IsLane h c.args.lane) (sym c.pieces.invariant.keeps.to_log.header_same) c.requires.home)
+
+pub go-requires-clause-shape : goal.go-requires-clause-shape
+go-requires-clause-shape g c = subst (λ (r : ReadyOf). (g.L.LogPort.header c.pieces.ports.log).shape ≡ r.shape) (sym c.in-Ok-ready.ensures) (ap (λ (h : Header). h.shape) c.pieces.invariant.keeps.to_log.header_same ∙ c.requires.shape)
+
+pub go-requires-clause-idle : goal.go-requires-clause-idle
+go-requires-clause-idle g c = subst (λ (r : ReadyOf). g.L.LogPort.phase c.pieces.ports.log r.lane ≡ Idle) (sym c.in-Ok-ready.ensures) c.pieces.invariant.idle
+
+pub go-requires-clause-count : goal.go-requires-clause-count
+go-requires-clause-count g c = subst (λ (r : ReadyOf). g.S.PortSet.count c.pieces.ports.shards ≡ r.shape.shards) (sym c.in-Ok-ready.ensures) (c.pieces.invariant.keeps.to_shards.count_same ∙ c.requires.count)
+
+pub go-requires-clause-ledger : goal.go-requires-clause-ledger
+go-requires-clause-ledger g c = subst (λ (r : ReadyOf). AreShardsOf r.shape (g.S.PortSet.sights c.pieces.ports.shards)) (sym c.in-Ok-ready.ensures) (ledger_kept c.args.shape.now (g.S.PortSet.sights c.args.ports.now.shards) (g.S.PortSet.sights c.pieces.ports.shards) c.requires.ledger c.pieces.invariant.keeps.to_shards.nodes)
+
+pub go-requires-clause-mine : goal.go-requires-clause-mine
+go-requires-clause-mine g c = subst (λ (r : ReadyOf). g.S.PortSet.serves c.pieces.ports.shards r.lane) (sym c.in-Ok-ready.ensures) (c.pieces.invariant.keeps.to_shards.served c.args.lane c.requires.mine)
+
+pub go-requires-clause-settled : goal.go-requires-clause-settled
+go-requires-clause-settled g c =
+    let so : LaneSo c.args.shape.now g.L.LogPort.alone c.args.lane (g.X.Source.all c.args.source.now) (g.X.Source.rest c.pieces.source) (g.L.LogPort.sights c.args.ports.now.log (g.L.LogPort.at c.args.ports.now.log)) (g.S.PortSet.sights c.args.ports.now.shards) (g.L.LogPort.sights c.pieces.ports.log (g.L.LogPort.at c.pieces.ports.log)) (g.S.PortSet.sights c.pieces.ports.shards) = lane_so c.args.shape.now g.L.LogPort.alone c.args.lane c.requires.settled.0 (g.X.Source.all c.args.source.now) (g.L.LogPort.sights c.args.ports.now.log (g.L.LogPort.at c.args.ports.now.log)) (g.S.PortSet.sights c.args.ports.now.shards) c.requires.settled.1 (reverse c.pieces.batches.items) (g.X.Source.rest c.pieces.source) (g.L.LogPort.sights c.pieces.ports.log (g.L.LogPort.at c.pieces.ports.log)) (g.S.PortSet.sights c.pieces.ports.shards) c.pieces.invariant.done in
+    subst (λ (r : ReadyOf). IsLaneSettled r.shape r.lane (g.L.LogPort.sights c.pieces.ports.log (g.L.LogPort.at c.pieces.ports.log)) (g.S.PortSet.sights c.pieces.ports.shards)) (sym c.in-Ok-ready.ensures) ((slot (g.L.LogPort.sights c.pieces.ports.log (g.L.LogPort.at c.pieces.ports.log)).seen c.args.lane).number, so.settled)
+
+pub go-requires-clause-limits : goal.go-requires-clause-limits
+go-requires-clause-limits g c = subst (λ (r : ReadyOf). All IsCompact r.txs) (sym c.in-Ok-ready.ensures) (subst (λ xs. All IsCompact xs) (sym (c.piece-piece.ensures ∙ c.in-Ok-advance.ensures.given ∙ ap (λ n. take n (g.X.Source.rest c.pieces.source)) c.batch-size.ensures.value)) (All-take IsCompact c.args.shape.now.batch (g.X.Source.rest c.pieces.source) c.pieces.invariant.limits))
+
+pub returns-in-Err-clause-outcome : goal.returns-in-Err-clause-outcome
+returns-in-Err-clause-outcome g c = inl (c.no_memory.ensures, refl, refl)
+
+pub returns-in-Err-clause-keeps : goal.returns-in-Err-clause-keeps
+returns-in-Err-clause-keeps g c = ports_same g.L.LogPort g.S.PortSet c.args.lane c.args.ports.now
+
+pub returns-in-Err-advance-clause-outcome : goal.returns-in-Err-advance-clause-outcome
+returns-in-Err-advance-clause-outcome g c =
+    inr (record {
+      reports = reverse c.pieces.batches.items;
+      rest = g.X.Source.rest c.pieces.source;
+      left = c.in-Err-advance.ensures.left;
+      between = lane_sights g.L.LogPort g.S.PortSet c.pieces.ports;
+      done = c.pieces.invariant.done;
+      ended = inl (c.no_memory-in-Err-advance.ensures, refl, refl);
+    })
+
+pub returns-in-Err-ready-clause-outcome : goal.returns-in-Err-ready-clause-outcome
+returns-in-Err-ready-clause-outcome g c =
+    inr (record {
+      reports = reverse c.pieces.batches.items;
+      rest = g.X.Source.rest c.pieces.source;
+      left = some_left c.args.shape.now.batch (g.X.Source.rest c.pieces.source) c.piece-piece.result.now (c.piece-piece.ensures ∙ c.in-Ok-advance.ensures.given ∙ ap (λ n. take n (g.X.Source.rest c.pieces.source)) c.batch-size.ensures.value) (search rules);
+      between = lane_sights g.L.LogPort g.S.PortSet c.pieces.ports;
+      done = c.pieces.invariant.done;
+      ended = inl (c.no_memory-in-Err-ready.ensures, refl, refl);
+    })
+
+pub returns-in-Err-go-clause-outcome : goal.returns-in-Err-go-clause-outcome
+returns-in-Err-go-clause-outcome g c =
+    inr (record {
+      reports = reverse c.pieces.batches.items;
+      rest = g.X.Source.rest c.pieces.source;
+      left = some_left c.args.shape.now.batch (g.X.Source.rest c.pieces.source) c.piece-piece.result.now (c.piece-piece.ensures ∙ c.in-Ok-advance.ensures.given ∙ ap (λ n. take n (g.X.Source.rest c.pieces.source)) c.batch-size.ensures.value) (search rules);
+      between = lane_sights g.L.LogPort g.S.PortSet c.pieces.ports;
+      done = c.pieces.invariant.done;
+      ended = inr (subst (λ xs. IsFaultOfBatch c.args.shape.now g.L.LogPort.alone c.args.lane xs c.args.repeats (lane_sights g.L.LogPort g.S.PortSet c.pieces.ports) (lane_sights g.L.LogPort g.S.PortSet c.go.new.ports) c.in-Err-go.fault) (c.piece-piece.ensures ∙ c.in-Ok-advance.ensures.given ∙ ap (λ n. take n (g.X.Source.rest c.pieces.source)) c.batch-size.ensures.value)
+          (subst (λ (r : ReadyOf). IsFaultOfBatch r.shape g.L.LogPort.alone r.lane r.txs c.args.repeats (lane_sights g.L.LogPort g.S.PortSet c.pieces.ports) (lane_sights g.L.LogPort g.S.PortSet c.go.new.ports) c.in-Err-go.fault) c.in-Ok-ready.ensures c.in-Err-go.ensures.outcome));
+    })
+
+pub returns-in-Err-go-clause-keeps : goal.returns-in-Err-go-clause-keeps
+returns-in-Err-go-clause-keeps g c = ports_on g.L.LogPort g.S.PortSet c.args.lane c.args.ports.now c.pieces.ports c.go.new.ports c.pieces.invariant.keeps (subst (λ (r : ReadyOf). KeepsLanePorts g.L.LogPort g.S.PortSet r.lane c.pieces.ports c.go.new.ports) c.in-Ok-ready.ensures c.in-Err-go.ensures.keeps)
+
+pub returns-clause-outcome : goal.returns-clause-outcome
+returns-clause-outcome g c =
     let e : (g.X.Source.rest c.pieces.source) ≡ [] = none_after c.args.shape.now.batch (g.X.Source.rest c.pieces.source) c.piece-piece.result.now (search rules) (c.piece-piece.ensures ∙ c.in-Ok-advance.ensures.given ∙ ap (λ n. take n (g.X.Source.rest c.pieces.source)) c.batch-size.ensures.value) (none_left c.piece-piece.result.now (search rules)) in
     subst (λ bs. AreDone c.args.shape.now g.L.LogPort.alone c.args.lane (g.X.Source.all c.args.source.now) (g.L.LogPort.sights c.args.ports.now.log (g.L.LogPort.at c.args.ports.now.log)) (g.S.PortSet.sights c.args.ports.now.shards) (reverse bs) [] (g.L.LogPort.sights c.pieces.ports.log (g.L.LogPort.at c.pieces.ports.log)) (g.S.PortSet.sights c.pieces.ports.shards)) (sym c.from_vec.ensures)
-    (subst (λ r. AreDone c.args.shape.now g.L.LogPort.alone c.args.lane (g.X.Source.all c.args.source.now) (g.L.LogPort.sights c.args.ports.now.log (g.L.LogPort.at c.args.ports.now.log)) (g.S.PortSet.sights c.args.ports.now.shards) (reverse c.pieces.batches.items) r (g.L.LogPort.sights c.pieces.ports.log (g.L.LogPort.at c.pieces.ports.log)) (g.S.PortSet.sights c.pieces.ports.shards)) e (c.pieces.invariant.batches k st))
-
-pub one_batch-requires-clause-ledger : goal.one_batch-requires-clause-ledger
-one_batch-requires-clause-ledger g c = ledger_kept c.args.shape.now (g.S.PortSet.sights c.args.ports.now.shards) (g.S.PortSet.sights c.pieces.ports.shards) c.requires.ledger c.pieces.invariant.keeps_shards.nodes
-
-pub one_batch-requires-clause-limits : goal.one_batch-requires-clause-limits
-one_batch-requires-clause-limits g c = subst (λ xs. All IsCompact xs) (sym (c.piece-piece.ensures ∙ c.in-Ok-advance.ensures.given ∙ ap (λ n. take n (g.X.Source.rest c.pieces.source)) c.batch-size.ensures.value)) (All-take IsCompact c.args.shape.now.batch (g.X.Source.rest c.pieces.source) c.pieces.invariant.limits)
-
-pub returns-in-Err-one_batch-clause-others : goal.returns-in-Err-one_batch-clause-others
-returns-in-Err-one_batch-clause-others g c = λ quiet. others_on (g.L.LogPort.header c.args.ports.now.log) (g.L.LogPort.header c.pieces.ports.log) c.args.lane (g.L.LogPort.phase c.args.ports.now.log) (g.L.LogPort.phase c.pieces.ports.log) (g.L.LogPort.phase c.one_batch.new.ports.log) (g.L.LogPort.open_txs c.args.ports.now.log) (g.L.LogPort.open_txs c.pieces.ports.log) (g.L.LogPort.open_txs c.one_batch.new.ports.log) c.pieces.invariant.keeps_log.header_same (c.pieces.invariant.others quiet) (c.in-Err-one_batch.ensures.others quiet)
-
-pub returns-clause-others : goal.returns-clause-others
-returns-clause-others g c = c.pieces.invariant.others
-
-pub returns-in-Err-clause-fault : goal.returns-in-Err-clause-fault
-returns-in-Err-clause-fault g c = (0, Memory, c.no_memory.ensures, inl (refl, refl))
-
-pub lane_fault-requires : goal.lane_fault-requires
-lane_fault-requires g c =
-    let st = (c.pieces.invariant.so c.requires.settled.0 c.requires.settled.1).settled in
-    one_granted c.args.shape.now g.L.LogPort.alone c.args.lane c.piece-piece.result.now (g.L.LogPort.sights c.pieces.ports.log (g.L.LogPort.at c.pieces.ports.log)) (g.L.LogPort.sights c.one_batch.new.ports.log (g.L.LogPort.at c.one_batch.new.ports.log)) (g.S.PortSet.sights c.pieces.ports.shards) (g.S.PortSet.sights c.one_batch.new.ports.shards) c.in-Err-one_batch.stop c.in-Err-one_batch.ensures.stopped
-    (slot (g.L.LogPort.sights c.pieces.ports.log (g.L.LogPort.at c.pieces.ports.log)).seen c.args.lane).number st
-
-pub returns-in-Err-one_batch-clause-fault : goal.returns-in-Err-one_batch-clause-fault
-returns-in-Err-one_batch-clause-fault g c = (c.in-Err-one_batch.stop.node, c.in-Err-one_batch.stop.fault, c.lane_fault.ensures, c.in-Err-one_batch.ensures.fault)
-
-pub one_batch-requires-clause-mine : goal.one_batch-requires-clause-mine
-one_batch-requires-clause-mine g c = c.pieces.invariant.keeps_shards.served c.args.lane c.requires.mine
-
-pub returns-in-Err-one_batch-clause-keeps_log : goal.returns-in-Err-one_batch-clause-keeps_log
-returns-in-Err-one_batch-clause-keeps_log g c = log_on c.pieces.invariant.keeps_log c.in-Err-one_batch.ensures.keeps_log
-
-pub returns-in-Err-one_batch-clause-keeps_shards : goal.returns-in-Err-one_batch-clause-keeps_shards
-returns-in-Err-one_batch-clause-keeps_shards g c = shards_on c.pieces.invariant.keeps_shards c.in-Err-one_batch.ensures.keeps_shards
-
-pub returns-in-Err-clause-keeps_log : goal.returns-in-Err-clause-keeps_log
-returns-in-Err-clause-keeps_log g c = log_same c.args.ports.now.log
-
-pub returns-in-Err-clause-keeps_shards : goal.returns-in-Err-clause-keeps_shards
-returns-in-Err-clause-keeps_shards g c = shards_same c.args.ports.now.shards
-
-pub returns-in-Err-advance-clause-stopped : goal.returns-in-Err-advance-clause-stopped
-returns-in-Err-advance-clause-stopped g c k st = inr (inl (c.no_memory-in-Err-advance.ensures, g.X.Source.rest c.pieces.source, c.in-Err-advance.ensures.left, c.pieces.invariant.so k st))
-
-pub returns-in-Err-advance-clause-told : goal.returns-in-Err-advance-clause-told
-returns-in-Err-advance-clause-told g c k st =
-    inr (g.X.Source.rest c.pieces.source, c.in-Err-advance.ensures.left, g.L.LogPort.sights c.pieces.ports.log (g.L.LogPort.at c.pieces.ports.log), g.S.PortSet.sights c.pieces.ports.shards, c.pieces.invariant.so k st, inl (c.no_memory-in-Err-advance.ensures, refl, refl))
+    (subst (λ r. AreDone c.args.shape.now g.L.LogPort.alone c.args.lane (g.X.Source.all c.args.source.now) (g.L.LogPort.sights c.args.ports.now.log (g.L.LogPort.at c.args.ports.now.log)) (g.S.PortSet.sights c.args.ports.now.shards) (reverse c.pieces.batches.items) r (g.L.LogPort.sights c.pieces.ports.log (g.L.LogPort.at c.pieces.ports.log)) (g.S.PortSet.sights c.pieces.ports.shards)) e c.pieces.invariant.done)

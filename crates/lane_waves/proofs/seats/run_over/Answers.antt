@@ -1,5 +1,6 @@
 use Rattle.std.proofs.Common.{rules}
 use Rattle.port_sets.specs.Phase.{AsksLocks, AsksFinishes, AsksForgets, Locks, Finishes, Forgets, IsToldAtOnce}
+use Rattle.lane_waves.specs.Phases.{KeepsPorts}
 use Rattle.lane_waves.proofs.Making.{asked_at, told_at}
 use Rattle.lane_waves.proofs.seats.run_over.Goals as goal
 
@@ -23,11 +24,11 @@ run_lane-requires-clause-mine g c =
       },
     )
 
-pub returns-clause-keeps_shards : goal.returns-clause-keeps_shards
-returns-clause-keeps_shards g c =
+pub returns-clause-keeps : goal.returns-clause-keeps
+returns-clause-keeps g c =
     let P = g.P.ShardPort in
-    let k = c.run_lane.ensures.keeps_shards in
-    record {
+    let k = c.run_lane.ensures.keeps.to_shards in
+    let shards : KeepsPorts P.sight P.holds P.serves c.args.ports.now.shards.each.ports.items c.run_lane.new.ports.shards.each.ports.items = record {
       count_same = k.count_same;
       nodes = k.nodes;
       held = k.held;
@@ -48,4 +49,5 @@ returns-clause-keeps_shards g c =
           };
         },
       )).0;
-    }
+    } in
+    record { to_log = c.run_lane.ensures.keeps.to_log; to_shards = shards }

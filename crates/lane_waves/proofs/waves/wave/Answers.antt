@@ -4,7 +4,7 @@ use Rattle.std.proofs.lemmas.List.Elements.{All-same}
 use Rattle.cbdc_model.specs.Ranges.{home_of}
 use Rattle.node_journal.specs.Nodes.{sight}
 use Rattle.node_ports.specs.Nodes.{sight_at, IsNodeHeld}
-use Rattle.lane_driver.specs.Stops.{IsSettled}
+use Rattle.lane_driver.specs.Stops.{IsLaneSettled}
 use Rattle.port_sets.specs.Nodes.{log_sight, shard_sight}
 use Rattle.port_sets.specs.declared.coordinators.SharedLog.{SharedLog}
 use Rattle.port_sets.specs.declared.locking.SharedShard.{SharedShard}
@@ -64,8 +64,8 @@ wave_shared-logs-requires-clause-settled g c κs within lane lt =
     let K = c.args.shape.now in
     let logs = seen_maps (λ (s : SharedLog g.row.D.Denot). s.node) sight c.share_logs-logs.result.0.items c.args.nodes.logs.items c.share_logs-logs.ensures.nodes in
     let shards = seen_maps (λ (s : SharedShard g.row.S.Denot). s.node) g.S.Shard.sight c.share_shards-shards.result.0.items c.args.nodes.shards.items c.share_shards-shards.ensures.nodes in
-    subst (λ f. IsSettled K lane (f (home_of K lane)) (sight_at (shard_sight g.S.Shard.sight) c.share_shards-shards.result.0.items)) (sym logs)
-    (subst (λ f. IsSettled K lane (sight_at sight c.args.nodes.logs.items (home_of K lane)) f) (sym shards) (c.requires.settled lane lt))
+    subst (λ f. IsLaneSettled K lane (f (home_of K lane)) (sight_at (shard_sight g.S.Shard.sight) c.share_shards-shards.result.0.items)) (sym logs)
+    (subst (λ f. IsLaneSettled K lane (sight_at sight c.args.nodes.logs.items (home_of K lane)) f) (sym shards) (c.requires.settled lane lt))
 
 pub wave_shared-logs-requires-clause-lanes : goal.wave_shared-logs-requires-clause-lanes
 wave_shared-logs-requires-clause-lanes g c κs within = may_run c.args.lanes.now.items c.node_room.new.lanes.items c.node_room.ensures.same c.requires.limits c.in-Ok.ensures.room.ready

@@ -1,13 +1,13 @@
 use Rattle.std.proofs.Common.{◌∙◌, refl, sym, ap, subst, length}
 use Rattle.std.proofs.lemmas.List.{length-map}
-use Rattle.recovery.specs.Open.{HasOutcomes, HasItsOutcomes}
-use Rattle.lane_driver.proofs.Rooming.{lock_shards, lock_sizes, later_room}
-use Rattle.cbdc_model.specs.Grammar.{HasSize, IsBatchOf}
-use Rattle.lane_driver.proofs.Fitting.{parts_fit, locks_ready}
-use Rattle.recovery.proofs.Taking.{committed_taken, committed_granted, committed_left, committed_told}
 use Rattle.cbdc_types.specs.declared.batch.Phase.TheVariants.{Committed}
+use Rattle.cbdc_model.specs.Grammar.{HasSize, IsBatchOf}
+use Rattle.lane_driver.specs.Showing.{lane_sights}
+use Rattle.lane_driver.proofs.Fitting.{parts_fit, locks_ready}
+use Rattle.lane_driver.proofs.Rooming.{lock_shards, lock_sizes, later_room}
 use Rattle.lane_driver.proofs.Serving.{locks_own}
-use Rattle.lane_driver.proofs.Wanting.{fault_want}
+use Rattle.recovery.specs.Open.{HasOutcomes, HasItsOutcomes}
+use Rattle.recovery.proofs.Taking.{committed_taken, committed_from, resume_granted}
 use Rattle.recovery.proofs.resuming.resume_committed.Goals as goal
 
 pub from_committed-requires-clause-shards : goal.from_committed-requires-clause-shards
@@ -30,33 +30,28 @@ from_committed-requires-clause-room g c =
     (ap length (c.deref.ensures.value ∙ c.lock_calls.ensures) ∙ length-map c.args.room.parts _)
     (ap length c.as_slice.ensures ∙ (subst (λ p. HasOutcomes p (length c.args.unfinished.now.outcomes) (length c.args.unfinished.now.txs)) c.requires.phase c.requires.is_open.outcomes)) c.requires.readied.room_is.later
 
-pub returns-in-Ok-clause-taken : goal.returns-in-Ok-clause-taken
-returns-in-Ok-clause-taken g c = committed_taken c.args.shape.now g.L.LogPort.alone c.args.unfinished.now (g.L.LogPort.sights c.args.ports.now.log (g.L.LogPort.at c.args.ports.now.log)) (g.L.LogPort.sights c.from_committed.new.ports.log (g.L.LogPort.at c.from_committed.new.ports.log)) (g.S.PortSet.sights c.args.ports.now.shards) (g.S.PortSet.sights c.from_committed.new.ports.shards) c.args.unfinished.now.txs refl c.args.room.parts c.requires.readied.parts c.deref.result.now (c.deref.ensures.value ∙ c.lock_calls.ensures)
-    0 c.as_slice.result.now c.as_slice.ensures c.requires.phase c.in-Ok.ensures.told
-
-pub returns-clause-left : goal.returns-clause-left
-returns-clause-left g c = committed_left c.args.shape.now g.L.LogPort.alone c.args.unfinished.now (g.L.LogPort.sights c.args.ports.now.log (g.L.LogPort.at c.args.ports.now.log)) (g.L.LogPort.sights c.from_committed.new.ports.log (g.L.LogPort.at c.from_committed.new.ports.log)) (g.S.PortSet.sights c.args.ports.now.shards) (g.S.PortSet.sights c.from_committed.new.ports.shards) c.args.unfinished.now.txs refl c.args.room.parts c.requires.readied.parts c.deref.result.now (c.deref.ensures.value ∙ c.lock_calls.ensures)
-    0 c.as_slice.result.now c.in-Err.stop c.as_slice.ensures c.requires.phase c.in-Err.ensures.stopped c.lane_fault.result c.lane_fault.ensures
-
-pub returns-clause-told : goal.returns-clause-told
-returns-clause-told g c = committed_told c.args.shape.now g.L.LogPort.alone c.args.unfinished.now (g.L.LogPort.sights c.args.ports.now.log (g.L.LogPort.at c.args.ports.now.log)) (g.L.LogPort.sights c.from_committed.new.ports.log (g.L.LogPort.at c.from_committed.new.ports.log)) (g.S.PortSet.sights c.args.ports.now.shards) (g.S.PortSet.sights c.from_committed.new.ports.shards) c.args.unfinished.now.txs refl c.args.room.parts c.requires.readied.parts c.deref.result.now (c.deref.ensures.value ∙ c.lock_calls.ensures)
-    c.as_slice.result.now c.in-Err.stop c.as_slice.ensures c.requires.phase c.in-Err.ensures.stopped c.lane_fault.result c.lane_fault.ensures
-
 pub from_committed-requires-clause-batch : goal.from_committed-requires-clause-batch
 from_committed-requires-clause-batch g c = subst (λ K. IsBatchOf K c.args.unfinished.now.batch) c.requires.shape c.requires.is_open.batch
-
-pub returns-in-Ok-clause-outcomes : goal.returns-in-Ok-clause-outcomes
-returns-in-Ok-clause-outcomes g c = λ h. subst (λ p. HasItsOutcomes p c.args.unfinished.now (g.L.LogPort.sights c.from_committed.new.ports.log (g.L.LogPort.at c.from_committed.new.ports.log)).seen (record { batch = c.args.unfinished.now.batch; phase = Committed; outcomes = c.args.outcomes })) (sym c.requires.phase) c.requires.outcomes
-
-pub lane_fault-requires : goal.lane_fault-requires
-lane_fault-requires g c = committed_granted c.args.shape.now g.L.LogPort.alone c.args.unfinished.now (g.L.LogPort.sights c.args.ports.now.log (g.L.LogPort.at c.args.ports.now.log)) (g.L.LogPort.sights c.from_committed.new.ports.log (g.L.LogPort.at c.from_committed.new.ports.log)) (g.S.PortSet.sights c.args.ports.now.shards) (g.S.PortSet.sights c.from_committed.new.ports.shards) c.args.unfinished.now.txs refl c.args.room.parts c.requires.readied.parts c.deref.result.now (c.deref.ensures.value ∙ c.lock_calls.ensures)
-    0 c.as_slice.result.now c.in-Err.stop c.as_slice.ensures c.requires.phase c.in-Err.ensures.stopped c.requires.stands
-
-pub returns-clause-fault : goal.returns-clause-fault
-returns-clause-fault g c = (c.in-Err.stop.node, c.in-Err.stop.fault, c.lane_fault.ensures, c.in-Err.ensures.fault)
 
 pub from_committed-requires-clause-own : goal.from_committed-requires-clause-own
 from_committed-requires-clause-own g c = locks_own c.args.unfinished.now.batch c.args.unfinished.now.stamp c.args.room.parts _ (c.deref.ensures.value ∙ c.lock_calls.ensures)
 
-pub returns-clause-want : goal.returns-clause-want
-returns-clause-want g c want = absurd (c.in-Err.ensures.no_want (fault_want c.lane_fault.result c.in-Err.stop.node c.in-Err.stop.fault c.lane_fault.ensures want))
+pub returns-in-Ok-clause-outcome : goal.returns-in-Ok-clause-outcome
+returns-in-Ok-clause-outcome g c = record {
+  taken = committed_taken c.args.shape.now g.L.LogPort.alone c.args.unfinished.now (g.L.LogPort.sights c.args.ports.now.log (g.L.LogPort.at c.args.ports.now.log)) (g.L.LogPort.sights c.from_committed.new.ports.log (g.L.LogPort.at c.from_committed.new.ports.log)) (g.S.PortSet.sights c.args.ports.now.shards) (g.S.PortSet.sights c.from_committed.new.ports.shards) c.args.unfinished.now.txs refl c.args.room.parts c.requires.readied.parts c.deref.result.now (c.deref.ensures.value ∙ c.lock_calls.ensures) 0 c.as_slice.result.now c.as_slice.ensures c.requires.phase c.in-Ok.ensures.outcome c.requires.stands;
+  resumed = record { batch = refl; phase_is = sym c.requires.phase; outcomes = ap length c.requires.outcomes ∙ subst (λ p. HasOutcomes p (length c.args.unfinished.now.outcomes) (length c.args.unfinished.now.txs)) c.requires.phase c.requires.is_open.outcomes };
+  outcomes = subst (λ p. HasItsOutcomes p c.args.unfinished.now (g.L.LogPort.sights c.from_committed.new.ports.log (g.L.LogPort.at c.from_committed.new.ports.log)).seen (record { batch = c.args.unfinished.now.batch; phase = Committed; outcomes = c.args.outcomes })) (sym c.requires.phase) c.requires.outcomes;
+}
+
+pub returns-clause-outcome : goal.returns-clause-outcome
+returns-clause-outcome g c = record {
+  stands = c.requires.stands;
+  parts = c.args.room.parts;
+  are_parts = c.requires.readied.parts;
+  stop = c.in-Err.stop;
+  is_fault = c.lane_fault.ensures;
+  stopped = committed_from c.args.shape.now g.L.LogPort.alone c.args.unfinished.now c.args.room.parts c.requires.readied.parts (lane_sights g.L.LogPort g.S.PortSet c.args.ports.now) (lane_sights g.L.LogPort g.S.PortSet c.from_committed.new.ports) c.in-Err.stop c.deref.result.now (c.deref.ensures.value ∙ c.lock_calls.ensures) c.as_slice.result.now c.as_slice.ensures c.requires.phase c.in-Err.ensures.outcome;
+}
+
+pub lane_fault-requires : goal.lane_fault-requires
+lane_fault-requires g c = resume_granted c.args.shape.now g.L.LogPort.alone c.args.unfinished.now c.args.room.parts c.requires.readied.parts (lane_sights g.L.LogPort g.S.PortSet c.args.ports.now) (lane_sights g.L.LogPort g.S.PortSet c.from_committed.new.ports) c.in-Err.stop (committed_from c.args.shape.now g.L.LogPort.alone c.args.unfinished.now c.args.room.parts c.requires.readied.parts (lane_sights g.L.LogPort g.S.PortSet c.args.ports.now) (lane_sights g.L.LogPort g.S.PortSet c.from_committed.new.ports) c.in-Err.stop c.deref.result.now (c.deref.ensures.value ∙ c.lock_calls.ensures) c.as_slice.result.now c.as_slice.ensures c.requires.phase c.in-Err.ensures.outcome) c.requires.stands

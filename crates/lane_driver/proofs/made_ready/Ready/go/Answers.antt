@@ -1,29 +1,27 @@
-use Rattle.std.proofs.Common.{ℕ, sym, subst}
+use Rattle.std.proofs.Common.{sym, subst}
 use Rattle.lane_driver.specs.Readied.{ReadyOf}
-use Rattle.lane_driver.specs.Stops.{IsBatchStoppedAt, IsSettled}
-use Rattle.lane_driver.specs.Causes.{IsCausedFault}
-use Rattle.lane_driver.specs.Wanting.{IsBatchWant}
-use Rattle.lane_driver.proofs.Batching.{at_granted, at_stops}
-use Rattle.lane_driver.proofs.Wanting.{fault_want, fault_node}
+use Rattle.lane_driver.specs.Stops.{IsLaneSettled}
+use Rattle.lane_driver.specs.Showing.{lane_sights, KeepsLanePorts}
+use Rattle.lane_driver.specs.Outcomes.{IsBatchDone, IsFaultOfBatch}
+use Rattle.lane_driver.proofs.Outcomes.{stop_granted}
 use Rattle.lane_driver.proofs.made_ready.Ready.go.Goals as goal
 
 pub lane_fault-requires : goal.lane_fault-requires
 lane_fault-requires g c =
-    let settled = subst (λ (r : ReadyOf). IsSettled r.shape r.lane (g.L.LogPort.sights c.args.ports.now.log (g.L.LogPort.at c.args.ports.now.log)) (g.S.PortSet.sights c.args.ports.now.shards)) (sym c.self.view_is) c.requires.settled in
-    at_granted c.self.inside.shape g.L.LogPort.alone c.self.inside.lane c.self.inside.txs.now (g.L.LogPort.sights c.args.ports.now.log (g.L.LogPort.at c.args.ports.now.log)) (g.L.LogPort.sights c.drive_batch.new.ports.log (g.L.LogPort.at c.drive_batch.new.ports.log)) (g.S.PortSet.sights c.args.ports.now.shards) (g.S.PortSet.sights c.drive_batch.new.ports.shards) c.in-Err.stop c.in-Err.ensures.stopped settled.0 settled.1
+    let settled = subst (λ (r : ReadyOf). IsLaneSettled r.shape r.lane (g.L.LogPort.sights c.args.ports.now.log (g.L.LogPort.at c.args.ports.now.log)) (g.S.PortSet.sights c.args.ports.now.shards)) (sym c.self.view_is) c.requires.settled in
+    stop_granted c.self.inside.shape g.L.LogPort.alone c.self.inside.lane c.self.inside.txs.now c.args.repeats (lane_sights g.L.LogPort g.S.PortSet c.args.ports.now) (lane_sights g.L.LogPort g.S.PortSet c.drive_batch.new.ports) c.in-Err.stop c.in-Err.ensures.outcome settled.0 settled.1
 
-pub returns-in-Err-clause-stopped : goal.returns-in-Err-clause-stopped
-returns-in-Err-clause-stopped g c =
-    subst (λ (r : ReadyOf). IsBatchStoppedAt r.shape g.L.LogPort.alone r.lane r.txs (g.L.LogPort.sights c.args.ports.now.log (g.L.LogPort.at c.args.ports.now.log)) (g.S.PortSet.sights c.args.ports.now.shards) (g.L.LogPort.sights c.drive_batch.new.ports.log (g.L.LogPort.at c.drive_batch.new.ports.log)) (g.S.PortSet.sights c.drive_batch.new.ports.shards) c.lane_fault.result) c.self.view_is
-    (at_stops c.self.inside.shape g.L.LogPort.alone c.self.inside.lane c.self.inside.txs.now (g.L.LogPort.sights c.args.ports.now.log (g.L.LogPort.at c.args.ports.now.log)) (g.L.LogPort.sights c.drive_batch.new.ports.log (g.L.LogPort.at c.drive_batch.new.ports.log)) (g.S.PortSet.sights c.args.ports.now.shards) (g.S.PortSet.sights c.drive_batch.new.ports.shards) c.in-Err.stop c.in-Err.ensures.stopped c.lane_fault.result c.lane_fault.ensures)
+pub returns-in-Ok-clause-outcome : goal.returns-in-Ok-clause-outcome
+returns-in-Ok-clause-outcome g c =
+    subst (λ (r : ReadyOf). IsBatchDone r.shape g.L.LogPort.alone r.lane r.txs c.args.repeats (lane_sights g.L.LogPort g.S.PortSet c.args.ports.now) (lane_sights g.L.LogPort g.S.PortSet c.drive_batch.new.ports) c.in-Ok.report) c.self.view_is c.in-Ok.ensures.outcome
 
-pub returns-in-Err-clause-fault : goal.returns-in-Err-clause-fault
-returns-in-Err-clause-fault g c =
-    subst (λ (r : ReadyOf). IsCausedFault r.shape (g.L.LogPort.sights c.drive_batch.new.ports.log) (g.S.PortSet.sights c.drive_batch.new.ports.shards) c.lane_fault.result) c.self.view_is
-    (c.in-Err.stop.node, c.in-Err.stop.fault, c.lane_fault.ensures, c.in-Err.ensures.fault)
+pub returns-in-Ok-clause-keeps : goal.returns-in-Ok-clause-keeps
+returns-in-Ok-clause-keeps g c = subst (λ (r : ReadyOf). KeepsLanePorts g.L.LogPort g.S.PortSet r.lane c.args.ports.now c.drive_batch.new.ports) c.self.view_is c.in-Ok.ensures.keeps
 
-pub returns-in-Err-clause-want : goal.returns-in-Err-clause-want
-returns-in-Err-clause-want g c want =
-    subst (λ (n : ℕ). IsBatchWant c.args.self.shape g.L.LogPort.alone c.args.self.lane c.args.self.txs (g.L.LogPort.sights c.args.ports.now.log (g.L.LogPort.at c.args.ports.now.log)) (g.S.PortSet.sights c.args.ports.now.shards) (g.L.LogPort.sights c.drive_batch.new.ports.log (g.L.LogPort.at c.drive_batch.new.ports.log)) (g.S.PortSet.sights c.drive_batch.new.ports.shards) n) (sym (fault_node c.lane_fault.result c.in-Err.stop.node c.in-Err.stop.fault c.lane_fault.ensures))
-    (subst (λ (r : ReadyOf). IsBatchWant r.shape g.L.LogPort.alone r.lane r.txs (g.L.LogPort.sights c.args.ports.now.log (g.L.LogPort.at c.args.ports.now.log)) (g.S.PortSet.sights c.args.ports.now.shards) (g.L.LogPort.sights c.drive_batch.new.ports.log (g.L.LogPort.at c.drive_batch.new.ports.log)) (g.S.PortSet.sights c.drive_batch.new.ports.shards) c.in-Err.stop.node) c.self.view_is
-    (c.in-Err.ensures.want (fault_want c.lane_fault.result c.in-Err.stop.node c.in-Err.stop.fault c.lane_fault.ensures want)))
+pub returns-in-Err-clause-outcome : goal.returns-in-Err-clause-outcome
+returns-in-Err-clause-outcome g c =
+    subst (λ (r : ReadyOf). IsFaultOfBatch r.shape g.L.LogPort.alone r.lane r.txs c.args.repeats (lane_sights g.L.LogPort g.S.PortSet c.args.ports.now) (lane_sights g.L.LogPort g.S.PortSet c.drive_batch.new.ports) c.lane_fault.result) c.self.view_is
+    (c.in-Err.stop, c.lane_fault.ensures, c.in-Err.ensures.outcome)
+
+pub returns-in-Err-clause-keeps : goal.returns-in-Err-clause-keeps
+returns-in-Err-clause-keeps g c = subst (λ (r : ReadyOf). KeepsLanePorts g.L.LogPort g.S.PortSet r.lane c.args.ports.now c.drive_batch.new.ports) c.self.view_is c.in-Err.ensures.keeps

@@ -7,7 +7,7 @@ use Rattle.cbdc_model.specs.Records.{txs_of}
 use Rattle.cbdc_model.specs.Due.{open_batch, prepare_due}
 use Rattle.node_journal.specs.Nodes.{sight}
 use Rattle.cbdc_model.specs.Grammar.{HasSize}
-use Rattle.lane_driver.specs.Told.{IsLane, IsPrepared}
+use Rattle.lane_driver.specs.Told.{IsLane, IsPreparedBatch}
 use Rattle.node_ports.specs.Nodes.{KeepsRest, IsNodeHeld}
 use Rattle.node_ports.proofs.Places.{inside, old_is, turned, set_elsewhere, turned_nodes, turned_faults, turned_held}
 use Rattle.node_ports.proofs.logs.NodeLogsLogPort.prepare.Goals as goal
@@ -34,7 +34,7 @@ returns-clause-told g c =
 
 pub returns-clause-prepared : goal.returns-clause-prepared
 returns-clause-prepared g c =
-    turned sight c.args.self.now.logs.items c.args.self.now.at c.index_mut.result.now c.prepare_at-answer.new.log (inside sight c.args.self.now.logs.items c.args.self.now.at c.args.lane c.requires.home.0) c.index_mut.ensures.value (λ a b. IfOk c.prepare_at-answer.result (IsPrepared a.header.shape c.args.lane)) c.prepare_at-answer.ensures.prepared
+    turned sight c.args.self.now.logs.items c.args.self.now.at c.index_mut.result.now c.prepare_at-answer.new.log (inside sight c.args.self.now.logs.items c.args.self.now.at c.args.lane c.requires.home.0) c.index_mut.ensures.value (λ a b. IfOk c.prepare_at-answer.result (IsPreparedBatch a.header.shape c.args.lane)) c.prepare_at-answer.ensures.prepared
 
 pub returns-clause-phase : goal.returns-clause-phase
 returns-clause-phase g c =

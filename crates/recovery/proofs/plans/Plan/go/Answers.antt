@@ -1,12 +1,12 @@
-use Rattle.std.proofs.Common.{◌≡◌, IfErr, subst}
+use Rattle.std.proofs.Common.{subst}
+use Rattle.lane_driver.specs.Showing.{lane_sights}
 use Rattle.recovery.specs.Planned.{PlanOf}
-use Rattle.recovery.specs.Open.{HasPrepared}
-use Rattle.lane_driver.specs.declared.fault.LaneFaultKind.TheVariants.{Memory as NoMemory}
-use Rattle.recovery.proofs.InOrder.{prepared_by}
+use Rattle.recovery.specs.Open.{OpenLanesCame, KeepsListedPorts}
 use Rattle.recovery.proofs.plans.Plan.go.Goals as goal
 
-pub returns-clause-want : goal.returns-clause-want
-returns-clause-want g c =
-    subst (λ (p : PlanOf). IfErr c.drive_lanes.result (λ e. e.fault ≡ NoMemory → HasPrepared p.lanes)) c.self.view_is
-    (prepared_by c.self.inside.shape g.L.LogPort.alone c.self.inside.lanes.now (g.L.LogPort.sights c.args.ports.now.log (g.L.LogPort.at c.args.ports.now.log)) (g.L.LogPort.sights c.drive_lanes.new.ports.log (g.L.LogPort.at c.drive_lanes.new.ports.log))
-    (g.S.PortSet.sights c.args.ports.now.shards) (g.S.PortSet.sights c.drive_lanes.new.ports.shards) c.drive_lanes.result c.drive_lanes.ensures.left)
+pub returns-clause-outcome : goal.returns-clause-outcome
+returns-clause-outcome g c =
+    subst (λ (p : PlanOf). OpenLanesCame p.shape g.L.LogPort.alone p.lanes c.drive_lanes.result (lane_sights g.L.LogPort g.S.PortSet c.args.ports.now) (lane_sights g.L.LogPort g.S.PortSet c.drive_lanes.new.ports)) c.self.view_is c.drive_lanes.ensures.outcome
+
+pub returns-clause-keeps : goal.returns-clause-keeps
+returns-clause-keeps g c = subst (λ (p : PlanOf). KeepsListedPorts g.L.LogPort g.S.PortSet p.lanes c.args.ports.now c.drive_lanes.new.ports) c.self.view_is c.drive_lanes.ensures.keeps
