@@ -8,20 +8,22 @@ use Rattle.requests.specs.declared.FileWord.{FileWord}
 use Rattle.requests.specs.declared.Request.{Request}
 use Rattle.requests.specs.declared.Request.TheVariants.{Init, Run, Audit}
 use Rattle.requests.specs.declared.WordsFault.TheVariants.{Bad}
-use Rattle.command_answers.specs.Causes.{FileRose, OnePlace, OneRose}
+use Rattle.command_answers.specs.Causes.{FileRose}
+use Rattle.audit_command.specs.Audits.{AuditPlace, AuditRose}
+use Rattle.run_command.specs.Outcomes.{RunPlace, RunRose}
 
 -- one of the files that are asked for does so
 abbrev pub RequestRose : Request → (Text → ℕ) → (Text → ℕ) → ℕ → Type 0
 RequestRose (Init shape mint) before now place = FileRose before now mint place
-RequestRose (Run verdicts clients options) before now place = OneRose before now clients.items place ⊎ FileRose before now verdicts place
-RequestRose (Audit mint clients) before now place = FileRose before now mint place ⊎ OneRose before now clients.items place
+RequestRose (Run verdicts clients options) before now place = RunRose before now verdicts clients.items place
+RequestRose (Audit mint clients) before now place = AuditRose before now mint clients.items place
 RequestRose other before now place = ⊥
 
 -- one of the files that are asked for has this place
 abbrev pub RequestPlace : Request → ℕ → Type 0
 RequestPlace (Init shape mint) place = place ≡ mint.place
-RequestPlace (Run verdicts clients options) place = OnePlace clients.items place ⊎ (place ≡ verdicts.place)
-RequestPlace (Audit mint clients) place = (place ≡ mint.place) ⊎ OnePlace clients.items place
+RequestPlace (Run verdicts clients options) place = RunPlace verdicts clients.items place
+RequestPlace (Audit mint clients) place = AuditPlace mint clients.items place
 RequestPlace other place = ⊥
 
 -- one of these files has this place and this name
