@@ -8,7 +8,7 @@ use Rattle.cbdc_types.specs.declared.answer.Answer.TheVariants as answers
 use Rattle.cbdc_types.specs.declared.answer.UnsoundKind.{UnsoundKind}
 use Rattle.cbdc_model.specs.Records.{Shape}
 use Rattle.cbdc_model.specs.Coins.{Output, FullTx, genesis_id}
-use Rattle.command_line.specs.Asked.{IsAsked, IsRefused}
+use Rattle.command_line.specs.Asked.{WordsAskFor, AreWordsRefused}
 use Rattle.requests.specs.declared.FileWord.{FileWord}
 use Rattle.requests.specs.declared.Request.{Request}
 use Rattle.requests.specs.declared.Request.TheVariants.{Init, Run, Recover, Status, Audit, Gen, Show}
@@ -16,7 +16,7 @@ use Rattle.requests.specs.declared.WordsFault.TheVariants.{Bad}
 use Rattle.cbdc_model.specs.Clean.{Clean}
 use Rattle.workload.specs.Generator.{mint_of}
 use Rattle.submission_laws.specs.Files.{all_submissions}
-use Rattle.command_line.specs.Refused.{AreWhole, HasHashes}
+use Rattle.command_line.specs.Refused.{AreWholeHashes, HasHashes}
 use Rattle.command_line.specs.Single.{AreAlike, names_of}
 use Rattle.command_line.proofs.Refused.{asked_law}
 use Rattle.command_line.proofs.Single.{one_request_law}
@@ -187,7 +187,7 @@ module _ {D : Type 0} (device : Ghosts D) (before after : Scene D) where
       subst (λ (names : List Text). CanRun device before after others.name.now names) alike.1
       (subst (λ (name : Text). CanRun device before after name (names_of clients.items)) alike.0 free)
   free_alike Recover Recover alike free = free
-  free_alike (Status hashes) (Status sought) alike free = (subst AreWhole alike free.0, free.1)
+  free_alike (Status hashes) (Status sought) alike free = (subst AreWholeHashes alike free.0, free.1)
   free_alike (Audit mint clients) (Audit file others) alike free =
       subst (λ (names : List Text). CanAudit device before after file.name.now names) alike.1
       (subst (λ (name : Text). CanAudit device before after name (names_of clients.items)) alike.0 free)
@@ -204,11 +204,11 @@ module _ {D : Type 0} (device : Ghosts D) (before after : Scene D) where
   has_hashes (Gen shape seed size) free = tt
   has_hashes (Show text) free = tt
 
-  module _ (words : List Text) (r : Request) (asked : IsAsked words r) (free : Free r) where
-    told_none : (answer : Answer) → (other : Request) × IsAsked words other × Caused other answer → answer ≡ answers.Memory
+  module _ (words : List Text) (r : Request) (asked : WordsAskFor words r) (free : Free r) where
+    told_none : (answer : Answer) → (other : Request) × WordsAskFor words other × Caused other answer → answer ≡ answers.Memory
     told_none answer told = why_none told.0 answer (free_alike r told.0 (one_request_law words r told.0 asked told.1) free) told.2
 
-    pub complete : (answer : Answer) → HasToldCause (AskedWhy device before after words) answer → (answer ≡ answers.BadWords → IsRefused words Bad) → IsWell answer ⊎ (answer ≡ answers.Memory)
+    pub complete : (answer : Answer) → HasToldCause (AskedWhy device before after words) answer → (answer ≡ answers.BadWords → AreWordsRefused words Bad) → IsWell answer ⊎ (answer ≡ answers.Memory)
     complete answers.Ok told bad = inl tt
     complete answers.Memory told bad = inr refl
     complete answers.BadWords told bad = absurd (asked_law words r (has_hashes r free) asked (bad refl))

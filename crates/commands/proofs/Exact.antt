@@ -10,7 +10,7 @@ use Rattle.cbdc_types.specs.declared.answer.UnsoundKind.{UnsoundKind}
 use Rattle.cbdc_model.specs.Records.{Digest, Shape, Record, journal}
 use Rattle.cbdc_model.specs.Coins.{Output, genesis_id}
 use Rattle.cbdc_model.specs.History.{header_of}
-use Rattle.command_line.specs.Asked.{IsAsked}
+use Rattle.command_line.specs.Asked.{WordsAskFor}
 use Rattle.requests.specs.declared.FileWord.{FileWord}
 use Rattle.requests.specs.declared.Request.{Request}
 use Rattle.requests.specs.declared.Request.TheVariants.{Init, Run, Recover, Status, Audit, Gen, Show}
@@ -118,7 +118,7 @@ module _ {D : Type 0} (device : Ghosts D) (before : Scene D) where
   exact_alike (Show text) (Show other) alike exact = tt
   exact_alike _ _ alike exact = absurd alike
 
-  pub exact : (after : Scene D) (words : List Text) (r : Request) (answer : Answer) → IsAsked words r
+  pub exact : (after : Scene D) (words : List Text) (r : Request) (answer : Answer) → WordsAskFor words r
       → AskedDid device before after words answer ⊎ IsEndedLater device before after r answer → IsExact device before r
   exact after words r answer asked (inl did) = exact_alike did.0 r (one_request_law words did.0 r did.1 asked) (did_exact after answer did.0 did.2)
   exact after words r answer asked (inr later) = later_exact after r answer later

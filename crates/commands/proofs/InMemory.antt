@@ -10,7 +10,7 @@ use Rattle.cbdc_types.specs.declared.answer.Answer.TheVariants as answers
 use Rattle.client_files.specs.declared.fault.BadFile.{BadFile}
 use Rattle.cbdc_model.specs.Records.{Shape}
 use Rattle.cbdc_model.specs.Coins.{FullTx}
-use Rattle.command_line.specs.Asked.{IsAsked}
+use Rattle.command_line.specs.Asked.{WordsAskFor}
 use Rattle.requests.specs.declared.Request.{Request}
 use Rattle.requests.specs.declared.Request.TheVariants.{Init, Run, Recover, Status, Audit, Gen, Show}
 use Rattle.sentinel.specs.declared.file.VerdictFile.{VerdictFile}
@@ -54,7 +54,7 @@ module _ {D : Type 0} (device : Ghosts D) (before after : Scene D)
     steady = steady is.shape is.shows.limits.shards is.shows.limits.coordinators;
   }
 
-  pub unhindered : (words : List Text) (r : Request) → IsAsked words r → IsUnhinderedWhereSteady device before r → IsUnhindered device before after r
+  pub unhindered : (words : List Text) (r : Request) → WordsAskFor words r → IsUnhinderedWhereSteady device before r → IsUnhindered device before after r
   unhindered words (Init shape mint) asked free =
       let shaped = asked.1.1 in
       record {

@@ -16,7 +16,7 @@ use Rattle.cbdc_model.specs.Lanes.{IsEnd}
 use Rattle.cbdc_model.specs.World.{KeptJournals}
 use Rattle.ledger_laws.proofs.FirstJournals.{never_empty}
 use Rattle.command_answers.specs.Causes.{IsWell}
-use Rattle.command_line.specs.Asked.{IsAsked}
+use Rattle.command_line.specs.Asked.{WordsAskFor}
 use Rattle.requests.specs.declared.Request.{Request}
 use Rattle.requests.specs.declared.Request.TheVariants.{Init, Run, Recover, Status, Audit, Gen, Show}
 use Rattle.file_runs.specs.Runs.{joined}
@@ -194,7 +194,7 @@ module _ {D : Type 0} (device : Ghosts D) (reads : (d : D) (c : List ℕ) → de
   made_none : (shape : Shape) (other : List Output) → 1 ≤ shape.coordinators → MayBeMade shape other device before.disks.held → Survived
   made_none shape other some was = absurd (in_use device reads before.disks.held after.disks.held K mint submissions E within shown kept shape other (omega (arith, some)) was)
 
-  did_survive : (answer : Answer) (r : Request) → IsAsked words r → Did device before after r answer → Survived
+  did_survive : (answer : Answer) (r : Request) → WordsAskFor words r → Did device before after r answer → Survived
   did_survive answer (Init shape mint) asked did = made_none shape did.mint asked.1.1.coordinators.2.some did.was
   did_survive answer (Run verdicts clients options) asked did =
       let told = did.ran K mint submissions E within shown kept in
@@ -212,7 +212,7 @@ module _ {D : Type 0} (device : Ghosts D) (reads : (d : D) (c : List ℕ) → de
   did_survive answer (Gen shape seed size) asked did = same did.0
   did_survive answer (Show text) asked did = same (spared (inr (Show text, asked, tt)))
 
-  left_survives : (r : Request) (answer : Answer) → IsAsked words r → RequestLeaves device before after r answer → Survived
+  left_survives : (r : Request) (answer : Answer) → WordsAskFor words r → RequestLeaves device before after r answer → Survived
   left_survives (Init shape mint) answer asked (other, told, inl back) = returned back
   left_survives (Init shape mint) answer asked (other, told, inr (k, stopped)) = made_none shape other asked.1.1.coordinators.2.some stopped.was
   left_survives (Run verdicts clients options) answer asked (handed, read, known, told, inl back) = returned back

@@ -12,7 +12,7 @@ use Rattle.requests.specs.declared.Request.TheVariants.{Init, Run, Recover, Stat
 use Rattle.sentinel.specs.Files.{told}
 use Rattle.sentinel.specs.declared.file.VerdictFile.{VerdictFile}
 use Rattle.submissions.specs.SoundTest.{sound_by}
-use Rattle.command_line.specs.Refused.{AreWhole}
+use Rattle.command_line.specs.Refused.{AreWholeHashes}
 use Rattle.command_line.specs.Single.{names_of}
 use Rattle.input_files.specs.Contents.{mint_of_file}
 use Rattle.file_runs.specs.Runs.{joined}
@@ -72,7 +72,7 @@ abbrev pub IsUnhindered : {D : Type 0} → Ghosts D → Scene D → Scene D → 
 IsUnhindered device before after (Init shape mint) = CanInit device before after shape mint.name.now
 IsUnhindered device before after (Run verdicts clients options) = CanRun device before after verdicts.name.now (names_of clients.items)
 IsUnhindered device before after Recover = AreReadyFor device before after none_sound []
-IsUnhindered device before after (Status hashes) = AreWhole hashes.items × AreReadyFor device before after none_sound []
+IsUnhindered device before after (Status hashes) = AreWholeHashes hashes.items × AreReadyFor device before after none_sound []
 IsUnhindered device before after (Audit mint clients) = CanAudit device before after mint.name.now (names_of clients.items)
 IsUnhindered device before after (Gen shape seed count) = Clean (mint_of seed count) (all_submissions seed count)
 IsUnhindered device before after (Show text) = Unit {0}

@@ -3,7 +3,7 @@ use Rattle.std.specs.Prelude.{List}
 use Rattle.outside.specs.declared.disk.Disk.{Ghosts}
 use Rattle.line_text.specs.Lines.{Text}
 use Rattle.cbdc_types.specs.declared.answer.Answer.{Answer}
-use Rattle.command_line.specs.Asked.{IsAsked}
+use Rattle.command_line.specs.Asked.{WordsAskFor}
 use Rattle.requests.specs.declared.Request.{Request}
 use Rattle.requests.specs.declared.Request.TheVariants.{Init, Run, Recover, Status, Audit, Gen, Show}
 use Rattle.command_answers.specs.Scene.{AreDisksBack, Scene}
@@ -25,7 +25,7 @@ RequestLeaves device before after other answer = Unit {0}
 
 -- what is left by what the words ask for
 abbrev pub AskedLeaves : {D : Type 0} → Ghosts D → Scene D → Scene D → List Text → Answer → Type 0
-AskedLeaves device before after words answer = (r : Request) × IsAsked words r × RequestLeaves device before after r answer
+AskedLeaves device before after words answer = (r : Request) × WordsAskFor words r × RequestLeaves device before after r answer
 
 -- what is asked is about no rack: a workload in memory, or a text that is shown
 abbrev pub IsOfNoRack : Request → Type 0

@@ -3,7 +3,7 @@ use Rattle.std.specs.Prelude.{◌≡◌, ℕ, List, string_bytes}
 use Rattle.outside.specs.declared.disk.Disk.{Ghosts}
 use Rattle.line_text.specs.Lines.{Text}
 use Rattle.cbdc_types.specs.declared.answer.Answer.{Answer}
-use Rattle.command_line.specs.Asked.{IsAsked}
+use Rattle.command_line.specs.Asked.{WordsAskFor}
 use Rattle.requests.specs.declared.Request.{Request}
 use Rattle.requests.specs.declared.Request.TheVariants.{Init, Run, Recover, Status, Audit, Gen, Show}
 use Rattle.command_answers.specs.Scene.{Scene}
@@ -50,8 +50,8 @@ Why device before after (Show text) answer = ⊥
 
 -- what the words ask for was done
 abbrev pub AskedDid : {D : Type 0} → Ghosts D → Scene D → Scene D → List Text → Answer → Type 0
-AskedDid device before after words answer = (r : Request) × IsAsked words r × Did device before after r answer
+AskedDid device before after words answer = (r : Request) × WordsAskFor words r × Did device before after r answer
 
 -- why what the words ask for was not done
 abbrev pub AskedWhy : {D : Type 0} → Ghosts D → Scene D → Scene D → List Text → Answer → Type 0
-AskedWhy device before after words answer = (r : Request) × IsAsked words r × Why device before after r answer
+AskedWhy device before after words answer = (r : Request) × WordsAskFor words r × Why device before after r answer

@@ -7,7 +7,7 @@ use Rattle.cbdc_model.specs.Records.{Shape, Record}
 use Rattle.cbdc_model.specs.Coins.{Output, FullTx}
 use Rattle.cbdc_model.specs.Lanes.{IsEnd}
 use Rattle.cbdc_model.specs.World.{KeptJournals}
-use Rattle.command_line.specs.Asked.{IsAsked}
+use Rattle.command_line.specs.Asked.{WordsAskFor}
 use Rattle.requests.specs.declared.Request.{Request}
 use Rattle.requests.specs.declared.Request.TheVariants.{Run}
 use Rattle.input_files.specs.Contents.{AreRead}
@@ -47,7 +47,7 @@ AreToRun files other txs = ⊥
 pub record Survives {D : Type 0} (device : Ghosts D) (before after : Scene D) (words : List Text) (K : Shape) (mint : List Output)
     (submissions : List FullTx) (E : ℕ → List Record) : Type 0 where
   pub txs : List FullTx
-  pub handed_in : (txs ≡ []) ⊎ ((r : Request) × IsAsked words r × AreToRun before.file r txs)
+  pub handed_in : (txs ≡ []) ⊎ ((r : Request) × WordsAskFor words r × AreToRun before.file r txs)
   pub grows : GrowsWhatever device before.disks.held after.disks.held K mint (submissions ++ txs) E
 
 -- of the kept ledger that the disks showed: if it was kept whatever a crash left, it is so still

@@ -1,7 +1,7 @@
 // The top call over devices in memory.
 ghost use Rattle.std.specs.Prelude.{◌≡◌, ◌≤◌, ◌⊎◌, length};
 ghost use Rattle.command_answers.specs.Causes.{IsWell};
-ghost use Rattle.command_line.specs.Asked.{IsAsked};
+ghost use Rattle.command_line.specs.Asked.{WordsAskFor};
 ghost use Rattle.command_line.specs.Words.{texts};
 ghost use Rattle.requests.specs.declared.Request.{Request as Asked};
 ghost use Rattle.commands.specs.InMemory.{IsUnhinderedWhereSteady, memory_scene};
@@ -42,7 +42,7 @@ pub fn process_in_memory<const N: usize, W: Wait + Threads + Sync, G: Gate + Syn
 
     // Where nothing hinders what is asked, it was done, unless memory ran out, and its lines were written, unless the output is full.
     ensures complete { let before = memory_scene inbox.old.files.items rack out.old.bytes.items in
-        (r : Asked) → IsAsked (texts words.now) r → IsUnhinderedWhereSteady plain before r
+        (r : Asked) → WordsAskFor (texts words.now) r → IsUnhinderedWhereSteady plain before r
         → (result.status ≡ Answer.Ok) ⊎ ((result.status ≡ Answer.Memory)
         ⊎ ((result.status ≡ Answer.WriteFault) × (N ≤ length out.new.bytes.items))) }
 {

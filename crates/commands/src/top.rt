@@ -2,7 +2,7 @@
 ghost use Rattle.std.specs.Prelude.{◌≡◌, ◌≤◌, ◌⊎◌, ℕ, List, Some, MatchOption};
 ghost use Rattle.commands.specs.Texts.{IsFaultPrinted};
 ghost use Rattle.command_answers.specs.Texts.{IsPrinted, IsSilent};
-ghost use Rattle.command_line.specs.Asked.{IsRefused, IsAsked};
+ghost use Rattle.command_line.specs.Asked.{AreWordsRefused, WordsAskFor};
 ghost use Rattle.command_line.specs.Words.{texts};
 ghost use Rattle.requests.specs.declared.Request.{Request as Asked};
 ghost use Rattle.commands.specs.Causes.{IsAnswerToWords, NamedRose, RequestPlace, RequestRose, AskedName, OneNamed, RequestNames};
@@ -183,7 +183,7 @@ where
     ensures back { (n : ℕ) → R.can_take rack.new n }
     ensures cause { IsAnswerToWords (texts words.entry.now) (I.count inbox.old) (I.count inbox.new)
         (Rose (O.count out.old) (O.count out.new)) result.status }
-    ensures told { IsRefused (texts words.entry.now) WordsFault.Bad
+    ensures told { AreWordsRefused (texts words.entry.now) WordsFault.Bad
         → (result.status ≡ Answer.BadWords) ⊎ (result.status ≡ Answer.Memory) }
     ensures did { let before = scene I.Inbox R.Rack O.Sink inbox.old rack.old out.old in
         let after = scene I.Inbox R.Rack O.Sink inbox.new rack.new out.new in
@@ -321,7 +321,7 @@ where
     // is so (`why`), and nothing is done over one where it is so.
     ensures exact { let before = scene I.Inbox R.Rack O.Sink inbox.old rack out.old in
         let after = scene I.Inbox R.Rack O.Sink inbox.new result.rack out.new in
-        (r : Asked) → IsAsked (texts words.now) r
+        (r : Asked) → WordsAskFor (texts words.now) r
         → IsWell result.status ⊎ IsEndedLater R.Disk.Disk before after r result.status
         → IsExact R.Disk.Disk before r }
 
@@ -330,14 +330,14 @@ where
     // `CanAudit` and `AreReadyFor` say of them is so (`IsUnhindered`): above all, that there is room for every record that is still to come (`Ample`).
     ensures complete { let before = scene I.Inbox R.Rack O.Sink inbox.old rack out.old in
         let after = scene I.Inbox R.Rack O.Sink inbox.new result.rack out.new in
-        (r : Asked) → IsAsked (texts words.now) r → IsUnhindered R.Disk.Disk before after r
+        (r : Asked) → WordsAskFor (texts words.now) r → IsUnhindered R.Disk.Disk before after r
         → IsWell result.status ⊎ (result.status ≡ Answer.Memory) }
 
     // BadWords only where the words have a mistake, or a value is out of form (as `parse` refuses them).
-    ensures bad_words { result.status ≡ Answer.BadWords → IsRefused (texts words.now) WordsFault.Bad }
+    ensures bad_words { result.status ≡ Answer.BadWords → AreWordsRefused (texts words.now) WordsFault.Bad }
 
     // Words that have a mistake, or a value out of form, end as BadWords, or as Memory where memory ran out.
-    ensures told { IsRefused (texts words.now) WordsFault.Bad
+    ensures told { AreWordsRefused (texts words.now) WordsFault.Bad
         → (result.status ≡ Answer.BadWords) ⊎ (result.status ≡ Answer.Memory) }
 
     // ReadFault only where the words ask for a file with that place, and the inbox's count of its name rose.
