@@ -41,7 +41,7 @@ answered K next E X failed holds e h = go e.fault h
     go (NoStamp stamp) h = h
     go NoMemory h = tt
 
--- a work that a lane's fault ended, or for which memory was wanting: its answer has its cause, and is the least lane's
+-- a work that a lane's fault ended, or for which memory ran out: its answer has its cause, and is the least lane's
 pub came_badly : {T Done : Type 0} (d : Deed Done) (K : Shape) (E X : ℕ → List Record) (failed : ℕ → Type 0) (holds : ℕ → ℕ → Type 0) (told : Result T Answer) (came : Result Done LaneFault)
     → IfErr told (λ a. (a ≡ answers.Memory) ⊎ ((e : LaneFault) × (came ≡ Err e) × (a ≡ answer_to e))) → IfErr came (AllBadly d K E X failed holds)
     → IfErr told (λ a. IsLaneAnswer K (d.next K E X) E X failed holds a × IsLeastAnswer (EndsWork d K E X failed holds) a)

@@ -116,7 +116,7 @@ module _ {D Done : Type 0} (device : Ghosts D) (held : ℕ → Option D) (h g : 
     same_room : (n : ℕ) → n < node_count h.shape → SameRoom device (held n) (back n)
     same_room = rooms_same device held back h logs now shards after are g shape is seen logs_back shards_back capacity_at
 
-    -- what came of it, and what that leaves of the disks
+    -- the result, and what that leaves of the disks
     pub done : (told : Result (Told Done) Answer) → IfErr told (λ a. (a ≡ answers.Memory) ⊎ ((e : LaneFault) × (came ≡ Err e) × (a ≡ answer_to e))) → IfOk told (λ t. (t.resumed.items ≡ resumed) × (came ≡ Ok t.done))
         → IfOk told (λ t. CountAll (map (λ s. s.journal) after) t.unspent) → AllNextFit deed → HasDoneWork device (record { held = held; faults = before }) (record { held = back; faults = behind }) deed told
     done (Ok t) fault same unspent fits =

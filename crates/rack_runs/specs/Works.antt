@@ -34,7 +34,7 @@ use Rattle.rack_runs.specs.Stops.{WhyNoTurns}
 use Rattle.rack_runs.specs.declared.told.Told.{Told}
 
 -- what a command does, as relations between journals: the transactions that it hands in, group by group; those that may be next for a lane, from
--- journals at entry to later ones; whose fault ends it, from the journals that it was given; what has been begun, whatever came of it, from those at
+-- journals at entry to later ones; whose fault ends it, from the journals that it was given; what has been begun, whatever the result, from those at
 -- entry; and what was done where it came through, from those that it was given
 pub record Deed (Done : Type 0) : Type 1 where
   pub handed : List (List FullTx)
@@ -61,7 +61,7 @@ pub record IsBehind (K : Shape) (E M : ℕ → List Record) : Type 0 where
   pub keeps : OfKept K E (StaysKept K E M)
   pub resumed : OfKept K E (λ _ _. IsResumed K E M)
 
--- what a work leaves, whatever came of it, from journals M that it was given to X: they have grown at their ends, and where they were kept they are,
+-- what a work leaves, whatever the result, from journals M that it was given to X: they have grown at their ends, and where they were kept they are,
 -- with what was handed in besides; what is in flight may come next at its node, as before, and a Prepare was so before or is next for its lane; each
 -- lane is between batches, or its batch lacks a Lock, or the disk of a node that it asks has failed; and what may be next and what has been begun
 -- is so from all journals, too, from which M came by a resuming
@@ -84,7 +84,7 @@ pub record EndsBadly {Done : Type 0} (d : Deed Done) (K : Shape) (M X : ℕ → 
   pub cause : IsRunCause K (d.next K M X) M X failed may_hold e
   pub ends : d.ends K M X failed may_hold e
 
--- A work was done over the nodes of a ledger with no open batch: what the ledger is behind it, and what came of it.
+-- A work was done over the nodes of a ledger with no open batch: what the ledger is behind it, and the result.
 pub record HasWorked {D Done : Type 0} (device : Ghosts D) (d : Deed Done)
     (before now : LedgerOf D) (came : Result Done LaneFault) : Type 0 where
   pub keeps_ledger : KeepsLedgerOf device before now
@@ -128,7 +128,7 @@ EndsWork d K E X failed may_hold e =
 abbrev pub work_turns : {Done : Type 0} → Deed Done → Turns
 work_turns d = record { handed = d.handed; next = d.next; ends = EndsWork d; begun = BeginsWork d }
 
--- whatever came: as `LeavesWork`, from the journals at entry
+-- whatever the result: as `LeavesWork`, from the journals at entry
 pub record LeavesAll {Done : Type 0} (d : Deed Done) (K : Shape) (E X : ℕ → List Record) (before after : ℕ → Option Record) (failed : ℕ → Type 0) : Type 0 where
   pub grows : (n : ℕ) → IsEnd (E n) (X n)
   pub keeps : OfKept K E (λ mint submissions. StaysKept K E X mint (submissions ++ joined d.handed))
@@ -149,7 +149,7 @@ pub record AllBadly {Done : Type 0} (d : Deed Done) (K : Shape) (E X : ℕ → L
   pub cause : IsRunCause K (d.next K E X) E X failed may_hold e
   pub ends : EndsWork d K E X failed may_hold e
 
--- The open batches of a ledger were brought to their end, and a work was done: what the ledger is behind it, and what came of it.
+-- The open batches of a ledger were brought to their end, and a work was done: what the ledger is behind it, and the result.
 pub record HasRunWork {D Done : Type 0} (device : Ghosts D) (d : Deed Done)
     (before now : LedgerOf D) (resumed : List ResumedBatch) (came : Result Done LaneFault) : Type 0 where
   pub keeps_ledger : KeepsLedgerOf device before now
@@ -161,8 +161,8 @@ pub record HasRunWork {D Done : Type 0} (device : Ghosts D) (d : Deed Done)
   pub badly : IfErr came (AllBadly d before.header.shape (ledger_journals before) (ledger_journals now)
       (HaveFailed (ledger_opened now) (ledger_faults now)) (MayHoldBytes (ledger_capacity now)))
 
--- what a node says of itself: its count of faults and its capacity are its disk's, which has room for its journal, for what is kept for its open batches and
--- for what is in flight; and a record is in flight only where the disk failed
+-- what a node says of itself: its count of faults and its capacity are its disk's, which has room for its journal, for what is kept for its open batches
+-- and for what is in flight; and a record is in flight only where the disk failed
 pub record IsSeen {D : Type 0} (device : Ghosts D) (n : NodeOf D) : Type 0 where
   pub faults : n.faults ≡ device.count n.disk
   pub capacity : n.capacity ≡ device.limit n.disk
@@ -219,7 +219,7 @@ pub record HasEndedWork {D Done : Type 0} (device : Ghosts D) (held : ℕ → Op
   pub unspent : IsUnspentCount K exit told.unspent
   pub headline : Clean mint (submissions ++ joined d.handed) → Headline K mint (submissions ++ joined d.handed) exit
 
--- A work was done over the ledger on a rack: what came of it, and what that leaves of the disks.
+-- A work was done over the ledger on a rack: the result, and what that leaves of the disks.
 pub record HasDoneWork {D Done : Type 0} (device : Ghosts D) (before after : Disks D) (d : Deed Done) (came : Result (Told Done) Answer) : Type 0 where
   pub caused : OnOk came (TookLedger device before.held after.held)
   pub ended : IfOk came (λ told. OfShown device before.held (HasEndedWork device after.held d told))

@@ -79,7 +79,7 @@ where
     Err(answer_of(&fault))
 }
 
-/// Puts the disks of a ledger back behind the work of a command, and tells what came of it.
+/// Puts the disks of a ledger back behind the work of a command, and tells the result.
 pub fn end_on<R: Rack, K: Work>(
     rack: &mut R,
     work: &K,
@@ -158,7 +158,7 @@ where
     ensures ran { OnOk result (OfShown R.Disk.Disk (R.held rack.old)
         (IsRun R.Disk.Disk (R.held rack.new) (V.verdict_of verifier.now) files.now)) }
 
-    // And what was done is told: the batches that were open, what came of each submission, and how many hashes are unspent now.
+    // And what was done is told: the batches that were open, the result of each submission, and how many hashes are unspent now.
     ensures told { IfOk result (λ r. OfShown R.Disk.Disk (R.held rack.old)
         (IsRunTold R.Disk.Disk (R.held rack.new) (V.verdict_of verifier.now) files.now r)) }
 
