@@ -14,43 +14,59 @@ use Rattle.audit.specs.declared.verdict.Verdict.TheVariants.{Sound, Unsound}
 use Rattle.rack_ledgers.specs.Audited.{IsAudited, HistoryHasRoom, HistoryIsHeld, IsAccountedFor}
 use Rattle.file_runs.specs.Runs.{joined}
 use Rattle.printed_lines.specs.Reports.{audit_lines}
-use Rattle.rack_ledgers.specs.Racked.{AreUnchanged, AreBack}
+use Rattle.command_answers.specs.Causes.{FileRose, OnePlace, OneRose}
+use Rattle.command_answers.specs.Scene.{AreDisksBack, Disks, Scene}
+use Rattle.rack_ledgers.specs.Racked.{AreUnchanged}
 use Rattle.rack_ledgers.specs.Ledgers.{IsUnopenedBy}
 
--- the files held this mint and these transactions, with which an audit of the history of the ledger that the disks tell has this verdict; each of those
--- disks had room for its journal of that history and for what is kept for the batches that are open there, and still holds that journal; and all disks are
--- back unchanged
-pub record WasAudited {D : Type 0} (files : Text → Option (List ℕ)) (device : Ghosts D) (disks now : ℕ → Option D) (file : FileWord) (clients : List FileWord) (verdict : Verdict) : Type 0 where
+-- an audit of the history of the ledger that the disks tell has this verdict
+pub record WasAudited {D : Type 0} (device : Ghosts D) (files : Text → Option (List ℕ)) (before after : Disks D)
+    (file : FileWord) (clients : List FileWord) (verdict : Verdict) : Type 0 where
+  -- the files held this mint and these transactions
   pub mint : List Output
   pub handed : List (List FullTx)
   pub read : Tells (files file.name.now) (λ c. mint_of_file c ≡ Ok mint)
   pub clients_read : AreRead files 0 clients handed
-  pub audited : IsAudited device disks mint (joined handed) verdict
-  pub room : HistoryHasRoom device disks audited.shape audited.rows
-  pub holds : HistoryIsHeld device disks now audited.shape (genesis_id mint) audited.rows
-  pub unchanged : AreUnchanged device disks now
+  -- with them it has this verdict
+  pub audited : IsAudited device before.held mint (joined handed) verdict
+  -- each of those disks had room for its journal of that history and for what is kept for the batches that are open there
+  pub room : HistoryHasRoom device before.held audited.shape audited.rows
+  -- each still holds that journal, and all disks are back unchanged
+  pub holds : HistoryIsHeld device before.held after.held audited.shape (genesis_id mint) audited.rows
+  pub unchanged : AreUnchanged device before.held after.held
 
--- the verdict is that all is sound; the money of the ledger that the disks tell is accounted for, if its first records are those of the mint, no hashes
--- clash and each committed transaction has an input; and what it comes to was printed
-pub record DidAudit {D : Type 0} (files : Text → Option (List ℕ)) (device : Ghosts D) (before now : ℕ → Option D) (printed : Text → Type 0) (file : FileWord) (clients : List FileWord) : Type 0 where
+-- an audit found all sound
+pub record DidAudit {D : Type 0} (device : Ghosts D) (files : Text → Option (List ℕ)) (before after : Disks D) (printed : Text → Type 0)
+    (file : FileWord) (clients : List FileWord) : Type 0 where
   pub totals : Totals
-  pub was : WasAudited files device before now file clients (Sound totals)
-  pub sentence : IsAccountedFor device before was.mint (joined was.handed) totals
+  pub was : WasAudited device files before after file clients (Sound totals)
+  -- the money of the ledger that the disks tell is accounted for, if its first records are those of the mint, no hashes clash and each committed
+  -- transaction has an input
+  pub sentence : IsAccountedFor device before.held was.mint (joined was.handed) totals
+  -- what it comes to was printed
   pub prints : printed (audit_lines totals)
 
--- the ledger of this mint could not be opened: the first node that can't be, or node 0 where another mint began it; or memory ran out
-abbrev pub WhyUnopened : {D : Type 0} → Ghosts D → (ℕ → Option D) → (ℕ → ℕ) → (ℕ → ℕ) → List Output → Answer → Type 0
-WhyUnopened device disks disks_before disks_now mint answer =
-    IsUnopenedBy device disks disks_before disks_now (Some (genesis_id mint)) answer ⊎ (answer ≡ answers.Memory)
+-- one of the files of an audit has this place
+abbrev pub AuditPlace : FileWord → List FileWord → ℕ → Type 0
+AuditPlace file clients place = (place ≡ file.place) ⊎ OnePlace clients place
 
--- there is no verdict: the mint is not read; or it is, and a client file is the first that is not; or all files were read, and the ledger could not be opened
-abbrev pub WhyUnaudited : {D : Type 0} → (Text → Option (List ℕ)) → (Text → ℕ) → (Text → ℕ) → Ghosts D → (ℕ → Option D) → (ℕ → ℕ) → (ℕ → ℕ)
-    → FileWord → List FileWord → Answer → Type 0
-WhyUnaudited files files_before files_now device disks disks_before disks_now file clients answer =
-    IsNotRead file.place (files file.name.now) mint_of_file (files_before file.name.now) (files_now file.name.now) answer
-    ⊎ ((mint : List Output) × Tells (files file.name.now) (λ c. mint_of_file c ≡ Ok mint)
-    × (FirstNotRead files files_before files_now clients answer
-    ⊎ ((handed : List (List FullTx)) × AreRead files 0 clients handed × WhyUnopened device disks disks_before disks_now mint answer)))
+-- the count of faults of one of its files rose, and it has this place
+abbrev pub AuditRose : (Text → ℕ) → (Text → ℕ) → FileWord → List FileWord → ℕ → Type 0
+AuditRose before now file clients place = FileRose before now file place ⊎ OneRose before now clients place
+
+-- the ledger of this mint could not be opened: the first node that can't be, or node 0 where another mint began it; or memory ran out
+abbrev pub WhyUnopened : {D : Type 0} → Ghosts D → Disks D → Disks D → List Output → Answer → Type 0
+WhyUnopened device before after mint answer =
+    IsUnopenedBy device before.held before.faults after.faults (Some (genesis_id mint)) answer ⊎ (answer ≡ answers.Memory)
+
+-- there is no verdict: the mint is not read; or it is, and a client file is the first that is not; or all files were read, and the ledger could not be
+-- opened
+abbrev pub WhyUnaudited : {D : Type 0} → Ghosts D → Scene D → Scene D → FileWord → List FileWord → Answer → Type 0
+WhyUnaudited device before after file clients answer =
+    IsNotRead file.place (before.file file.name.now) mint_of_file (before.file_faults file.name.now) (after.file_faults file.name.now) answer
+    ⊎ ((mint : List Output) × Tells (before.file file.name.now) (λ c. mint_of_file c ≡ Ok mint)
+    × (FirstNotRead before.file before.file_faults after.file_faults clients answer
+    ⊎ ((handed : List (List FullTx)) × AreRead before.file 0 clients handed × WhyUnopened device before.disks after.disks mint answer)))
 
 -- the answer is Unsound, and so is the verdict, with this place and kind
 abbrev pub IsUnsoundBy : (Verdict → Type 0) → Answer → Type 0
@@ -58,9 +74,8 @@ IsUnsoundBy was (answers.Unsound place kind) = was (Unsound place kind)
 IsUnsoundBy was other = ⊥
 
 -- something is unsound, or there is no verdict; and the disks are back as they were read
-abbrev pub WhyNoAudit : {D : Type 0} → (Text → Option (List ℕ)) → (Text → ℕ) → (Text → ℕ) → Ghosts D → (ℕ → Option D) → (ℕ → Option D) → (ℕ → ℕ) → (ℕ → ℕ)
-    → FileWord → List FileWord → Answer → Type 0
-WhyNoAudit files files_before files_now device disks now disks_before disks_now file clients answer =
-    AreBack device disks_before disks_now disks now
-    × (IsUnsoundBy (WasAudited files device disks now file clients) answer
-    ⊎ WhyUnaudited files files_before files_now device disks disks_before disks_now file clients answer)
+abbrev pub WhyNoAudit : {D : Type 0} → Ghosts D → Scene D → Scene D → FileWord → List FileWord → Answer → Type 0
+WhyNoAudit device before after file clients answer =
+    AreDisksBack device before.disks after.disks
+    × (IsUnsoundBy (WasAudited device before.file before.disks after.disks file clients) answer
+    ⊎ WhyUnaudited device before after file clients answer)

@@ -1,11 +1,11 @@
 // `audit`: the journals against a mint and the transactions that were handed in.
-ghost use Rattle.std.specs.Prelude.{◌≡◌, ◌⊎◌, ◌≤◌, ℕ, IfOk, IfErr};
+ghost use Rattle.std.specs.Prelude.{◌≡◌, ◌≤◌, ℕ, IfOk, IfErr};
 ghost use Rattle.outside.specs.Counts.{Rose};
-ghost use Rattle.rack_ledgers.specs.Racked.{AreBack};
+ghost use Rattle.command_answers.specs.Scene.{AreDisksBack, disks_in, no_output, scene};
 ghost use Rattle.file_runs.specs.Runs.{joined as all_joined};
 ghost use Rattle.printed_lines.specs.Reports.{audit_lines};
-ghost use Rattle.command_answers.specs.Causes.{IsReadOrNodeFault, IsAnswerToRequest, HasToldCause, IsWell, OnePlace, OneRose, FileRose};
-ghost use Rattle.audit_command.specs.Audits.{WasAudited, DidAudit, WhyUnaudited, WhyNoAudit};
+ghost use Rattle.command_answers.specs.Causes.{IsReadOrNodeFault, IsAnswerToRequest, HasToldCause, IsWell};
+ghost use Rattle.audit_command.specs.Audits.{AuditPlace, AuditRose, WasAudited, DidAudit, WhyUnaudited, WhyNoAudit};
 ghost use Rattle.command_answers.specs.Texts.{IsPrinted, IsSilent};
 ghost use Rattle.line_text.specs.Lines.{Text};
 ghost use Rattle.command_answers.specs.Left.{IsBeforeDisks};
@@ -44,10 +44,14 @@ fn audit_all<W: Threads + Sync, I: Inbox, R: Rack>(
 where
     R::Disk: Send,
     requires { (n : ℕ) → R.can_take rack.old n }
-    ensures did { IfOk result (WasAudited (I.file inbox.old) R.Disk.Disk (R.held rack.old) (R.held rack.new) mint.now clients.now) }
-    ensures why { IfErr result (WhyUnaudited (I.file inbox.old) (I.count inbox.old) (I.count inbox.new) R.Disk.Disk (R.held rack.old) (R.count rack.old) (R.count rack.new) mint.now clients.now) }
-    ensures held { AreBack R.Disk.Disk (R.count rack.old) (R.count rack.new) (R.held rack.old) (R.held rack.new) }
-    ensures fault { IfErr result (IsReadOrNodeFault (λ place. (place ≡ mint.now.place) ⊎ OnePlace clients.now place) (λ place. FileRose (I.count inbox.old) (I.count inbox.new) mint.now place ⊎ OneRose (I.count inbox.old) (I.count inbox.new) clients.now place)) }
+    ensures did { IfOk result (WasAudited R.Disk.Disk (I.file inbox.old)
+        (disks_in R.Rack rack.old) (disks_in R.Rack rack.new) mint.now clients.now) }
+    ensures why { let before = scene I.Inbox R.Rack no_output inbox.old rack.old tt in
+        let after = scene I.Inbox R.Rack no_output inbox.new rack.new tt in
+        IfErr result (WhyUnaudited R.Disk.Disk before after mint.now clients.now) }
+    ensures held { AreDisksBack R.Disk.Disk (disks_in R.Rack rack.old) (disks_in R.Rack rack.new) }
+    ensures fault { IfErr result (IsReadOrNodeFault (AuditPlace mint.now clients.now)
+        (AuditRose (I.count inbox.old) (I.count inbox.new) mint.now clients.now)) }
     ensures untouched { IfErr result (λ e. IsBeforeDisks e → rack.new ≡ rack.old) }
     ensures files { (name : Text) → I.file inbox.new name ≡ I.file inbox.old name }
     ensures back { (n : ℕ) → R.can_take rack.new n }
@@ -68,7 +72,8 @@ where
 
 // Prints what a sound ledger comes to.
 fn print<O: Sink>(out: &mut O, totals: &Totals) -> Answer
-    ensures cause { IsAnswerToRequest (λ file. ⊥) (λ file. ⊥) (Rose (O.count out.old) (O.count out.new)) result }
+    ensures cause { IsAnswerToRequest (λ file. ⊥) (λ file. ⊥)
+        (Rose (O.count out.old) (O.count out.new)) result }
     ensures shown { IsWell result }
     ensures prints { IsPrinted (O.taken out.old) (O.taken out.new) result (audit_lines totals.now) }
     ensures silent { IsSilent (O.taken out.old) (O.taken out.new) result }
@@ -110,14 +115,19 @@ pub fn audit<W: Threads + Sync, I: Inbox, R: Rack, O: Sink>(
 where
     R::Disk: Send,
     requires { (n : ℕ) → R.can_take rack.old n }
-    ensures cause { IsAnswerToRequest (λ place. (place ≡ mint.now.place) ⊎ OnePlace clients.now place) (λ place. FileRose (I.count inbox.old) (I.count inbox.new) mint.now place ⊎ OneRose (I.count inbox.old) (I.count inbox.new) clients.now place)
+    ensures cause { IsAnswerToRequest (AuditPlace mint.now clients.now)
+        (AuditRose (I.count inbox.old) (I.count inbox.new) mint.now clients.now)
         (Rose (O.count out.old) (O.count out.new)) result }
-    ensures did { IsWell result → DidAudit (I.file inbox.old) R.Disk.Disk (R.held rack.old) (R.held rack.new) (IsPrinted (O.taken out.old) (O.taken out.new) result) mint.now clients.now }
-    ensures why { HasToldCause (WhyNoAudit (I.file inbox.old) (I.count inbox.old) (I.count inbox.new) R.Disk.Disk (R.held rack.old) (R.held rack.new) (R.count rack.old) (R.count rack.new) mint.now clients.now) result }
+    ensures did { IsWell result → DidAudit R.Disk.Disk (I.file inbox.old)
+        (disks_in R.Rack rack.old) (disks_in R.Rack rack.new)
+        (IsPrinted (O.taken out.old) (O.taken out.new) result) mint.now clients.now }
+    ensures why { let before = scene I.Inbox R.Rack O.Sink inbox.old rack.old out.old in
+        let after = scene I.Inbox R.Rack O.Sink inbox.new rack.new out.new in
+        HasToldCause (WhyNoAudit R.Disk.Disk before after mint.now clients.now) result }
     ensures silent { IsSilent (O.taken out.old) (O.taken out.new) result }
     ensures written_later { O.count out.old ≤ O.count out.new }
     ensures untouched { IsBeforeDisks result → rack.new ≡ rack.old }
-    ensures left { AreBack R.Disk.Disk (R.count rack.old) (R.count rack.new) (R.held rack.old) (R.held rack.new) }
+    ensures left { AreDisksBack R.Disk.Disk (disks_in R.Rack rack.old) (disks_in R.Rack rack.new) }
     ensures files { (name : Text) → I.file inbox.new name ≡ I.file inbox.old name }
     ensures back { (n : ℕ) → R.can_take rack.new n }
 {

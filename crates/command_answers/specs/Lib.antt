@@ -1,3 +1,4 @@
+pub mod Scene
 pub mod Causes
 pub mod Texts
 pub mod Left

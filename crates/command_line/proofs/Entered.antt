@@ -9,7 +9,7 @@ use Rattle.clap.specs.Kinds.{or_else}
 use Rattle.clap.specs.Lexer.{long_of}
 use Rattle.clap.specs.Simple.{App, Shape, built, entered, label_of, names_of, rows_at}
 use Rattle.clap.specs.Walk.{Held, Names, Row, Rule, Text, Walk, answers_to, arg_by_long, finished, has_long, idle, nothing_held, rows_after, settled, subcommand_met, subcommand_or_other, takes_values, value, walk, walked}
-use Rattle.command_line.specs.Asked.{Meets}
+use Rattle.command_line.specs.Asked.{NameCommand}
 use Rattle.command_line.specs.Command.{hamilton}
 use Rattle.command_line.specs.Places.{is_dashes}
 use Rattle.command_line.proofs.Known.{top_known}
@@ -107,7 +107,7 @@ pub record Entered (P : Shape → Type 0) (words : List Text) (command : Text) (
   pub taken : rows ≡ rows_after shape.rules [] (drop 2 words)
   pub sound : level_fault shape [] nothing_held (drop 2 words) false [] ≡ []
 
-pub entered_is : (P : Shape → Type 0) → AllByRecursion P app.subs → (words : List Text) (command : Text) (rows : List Row) → Meets words command rows → Entered P words command rows
+pub entered_is : (P : Shape → Type 0) → AllByRecursion P app.subs → (words : List Text) (command : Text) (rows : List Row) → NameCommand words command rows → Entered P words command rows
 entered_is P all words command rows m = at_stop (stop (drop 1 words)) refl
   where
     ws : List Text

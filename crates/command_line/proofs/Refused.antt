@@ -10,11 +10,11 @@ use Rattle.hex.proofs.HexLemmas.{decode_of-ok}
 use Rattle.cbdc_types.specs.Limits.{ShapeOf}
 use Rattle.clap.specs.Words.{Text, Row, Kinds, all_of, fault_of, first_of, subcommand_of}
 use Rattle.clap.specs.Kinds.{or_else}
-use Rattle.command_line.specs.Asked.{HasBadValue, HasMistake, HasNoHashes, HasNoNumber, HasNoRepeats, HasNoSeed, HasNoShape, HasNoWorkload, HasNumber, HasRepeats, HasSeed, HasShape, HasWish, Meets, faults_of, help_words, topic_faults}
+use Rattle.command_line.specs.Asked.{HasBadValue, HasMistake, HasNoHashes, HasNoNumber, HasNoRepeats, HasNoSeed, HasNoShape, HasNoWorkload, HasNumber, HasRepeats, HasSeed, HasShape, HasWish, NameCommand, word_faults, help_words, topic_faults}
 use Rattle.command_line.specs.Command.{hamilton}
-use Rattle.command_line.specs.Values.{IsHashText, IsNumber, IsUpTo, IsWhole}
+use Rattle.command_line.specs.Values.{IsHashText, IsNumber, IsUpTo, IsWholeNumber}
 use Rattle.requests.specs.declared.Request.TheVariants.{Init, Run, Recover, Status, Audit, Gen, Show}
-use Rattle.command_line.specs.Refused.{AskedLaw, AreWhole}
+use Rattle.command_line.specs.Refused.{AskedLaw, AreWholeHashes}
 use Rattle.command_line.proofs.Pure.{IsPure, none, after, either, fault_pure}
 
 -- ---- faults
@@ -28,19 +28,19 @@ topic_pure (Some found) =
     let asked = help_words (first_of (codes "command") found.1) in
     either (bytes_eq found.0 (codes "help")) (fault_of hamilton asked) [] (program_pure asked) none
 
-faults_pure : (words : List Text) → IsPure (faults_of words)
+faults_pure : (words : List Text) → IsPure (word_faults words)
 faults_pure words = after (fault_of hamilton words) (topic_faults (subcommand_of hamilton words)) (program_pure words) (topic_pure (subcommand_of hamilton words))
 
 -- a command other than `help` is met without a fault
-no_fault : (words : List Text) (command : Text) (rows : List Row) → Meets words command rows → bytes_eq command (codes "help") ≡ false → faults_of words ≡ []
+no_fault : (words : List Text) (command : Text) (rows : List Row) → NameCommand words command rows → bytes_eq command (codes "help") ≡ false → word_faults words ≡ []
 no_fault words command rows m other =
     ap (λ (k : Kinds). or_else k (topic_faults (subcommand_of hamilton words))) m.sound ∙ ap (λ (found : Option (Text × List Row)). topic_faults found) m.met
     ∙ ap (λ (c : Bool). if c then fault_of hamilton (help_words (first_of (codes "command") rows)) else []) other
 
-no_mistake : (words : List Text) (command : Text) (rows : List Row) → Meets words command rows → bytes_eq command (codes "help") ≡ false → HasMistake (faults_of words) → ⊥
+no_mistake : (words : List Text) (command : Text) (rows : List Row) → NameCommand words command rows → bytes_eq command (codes "help") ≡ false → HasMistake (word_faults words) → ⊥
 no_mistake words command rows m other mistake = absurd (subst (λ (k : Kinds). HasMistake k) (no_fault words command rows m other) mistake).1
 
-pub no_wish : (words : List Text) (command : Text) (rows : List Row) → Meets words command rows → bytes_eq command (codes "help") ≡ false → HasWish (faults_of words) → ⊥
+pub no_wish : (words : List Text) (command : Text) (rows : List Row) → NameCommand words command rows → bytes_eq command (codes "help") ≡ false → HasWish (word_faults words) → ⊥
 no_wish words command rows m other wish = absurd (subst (λ (k : Kinds). HasWish k) (no_fault words command rows m other) wish).1
 
 -- ---- the command and its matches
@@ -49,7 +49,7 @@ abbrev met_as : Text → List Row → Option (Text × List Row)
 met_as c rows = Some (c, rows)
 
 -- words meet one command
-pub one_met : (words : List Text) (c d : Text) (rows others : List Row) → Meets words c rows → Meets words d others → met_as c rows ≡ met_as d others
+pub one_met : (words : List Text) (c d : Text) (rows others : List Row) → NameCommand words c rows → NameCommand words d others → met_as c rows ≡ met_as d others
 one_met words c d rows others m n = sym m.met ∙ n.met
 
 pub same_rows : (c d : Text) (rows others : List Row) → met_as c rows ≡ met_as d others → rows ≡ others
@@ -58,7 +58,7 @@ same_rows c d rows others e = ap (λ (o : Option (Text × List Row)). option_map
 pub other_command : (c d : Text) (rows others : List Row) → met_as c rows ≡ met_as d others → bytes_eq c c ≡ true → bytes_eq d c ≡ false → ⊥
 other_command c d rows others e itself apart = true≢false (sym itself ∙ ap (λ (o : Option (Text × List Row)). option_map_or (λ p. bytes_eq p.0 c) o false) e ∙ apart)
 
-no_bad_value : (words : List Text) (c : Text) (rows : List Row) → Meets words c rows → bytes_eq c c ≡ true → bytes_eq (codes "init") c ≡ false → bytes_eq (codes "status") c ≡ false
+no_bad_value : (words : List Text) (c : Text) (rows : List Row) → NameCommand words c rows → bytes_eq c c ≡ true → bytes_eq (codes "init") c ≡ false → bytes_eq (codes "status") c ≡ false
     → bytes_eq (codes "gen") c ≡ false → bytes_eq (codes "run") c ≡ false → HasBadValue words → ⊥
 no_bad_value words c rows m itself init status gen run (inl b) = other_command c (codes "init") rows b.0 (one_met words c (codes "init") rows b.0 m b.1) itself init
 no_bad_value words c rows m itself init status gen run (inr (inl b)) = other_command c (codes "status") rows b.0 (one_met words c (codes "status") rows b.0 m b.2) itself status
@@ -83,7 +83,7 @@ no_shape rows shape has (inr (inr (inl none))) = no_number rows (codes "lanes") 
 no_shape rows shape has (inr (inr (inr none))) = no_number rows (codes "batch") 1024 shape.batch has.batch none
 
 no_seed : (rows : List Row) (n : ℕ) → HasSeed rows n → HasNoSeed rows → ⊥
-no_seed rows n has none = none.2 n (subst (λ (t : Text). IsWhole t n) (one_text has.0 none.0 (sym has.1 ∙ none.1)) has.2)
+no_seed rows n has none = none.2 n (subst (λ (t : Text). IsWholeNumber t n) (one_text has.0 none.0 (sym has.1 ∙ none.1)) has.2)
 
 no_repeats : (rows : List Row) (n : ℕ) → HasRepeats rows n → HasNoRepeats rows → ⊥
 no_repeats rows n has none = none.2 n (subst (λ (t : Text). IsUpTo 3 t n) (one_text has.0 none.0 (sym has.1 ∙ none.1)) has.2)
@@ -105,7 +105,7 @@ heads x y xs ys e = (cc, cc)
 nothing : (x : Result (List ℕ) FromHexError) (xs : List (Result (List ℕ) FromHexError)) → x ∷ xs ≡ [] → ⊥
 nothing x xs e = cc
 
-each_hash : (given : List Text) (hashes : List (List ℕ)) → map decode_of given ≡ map (λ h. Ok h) hashes → AreWhole hashes
+each_hash : (given : List Text) (hashes : List (List ℕ)) → map decode_of given ≡ map (λ h. Ok h) hashes → AreWholeHashes hashes
     → (text : Text) (k : ℕ) → k < length given → slice_index_or given k text ≡ text → IsHashText text
 each_hash [] hashes e whole text k lt is = absurd (omega (arith, lt))
 each_hash (t ∷ ts) [] e whole text k lt is = absurd (nothing (decode_of t) (map decode_of ts) e)
@@ -116,7 +116,7 @@ each_hash (t ∷ ts) (h ∷ hs) e whole text (suc k) lt is =
     let here = heads (decode_of t) (Ok h) (map decode_of ts) (map (λ h. Ok h) hs) e in
     each_hash ts hs here.1 (All-tail (λ (h : List ℕ). length h ≡ 32) h hs whole) text k (omega (arith, lt)) is
 
-no_hashes : (given : List Text) (hashes : List (List ℕ)) → map decode_of given ≡ map (λ h. Ok h) hashes → AreWhole hashes → HasNoHashes given → ⊥
+no_hashes : (given : List Text) (hashes : List (List ℕ)) → map decode_of given ≡ map (λ h. Ok h) hashes → AreWholeHashes hashes → HasNoHashes given → ⊥
 no_hashes given hashes e whole none = none.2 (each_hash given hashes e whole none.0 none.1.0 none.1.1 none.1.2)
 
 -- ---- the law

@@ -6,7 +6,7 @@ use Rattle.clap.specs.Words.{Text, Kinds, HasKind, kind_of}
 use Rattle.clap.specs.Kinds.{or_else}
 use Rattle.clap.specs.declared.error.Error.{Error}
 use Rattle.clap.specs.declared.error.kind.ErrorKind.TheVariants.{OutOfMemory}
-use Rattle.command_line.specs.Asked.{is_mistake, is_wish, HasMistake, HasWish, IsAsked, IsRefused, IsShow, faults_of}
+use Rattle.command_line.specs.Asked.{is_mistake, is_wish, HasMistake, HasWish, WordsAskFor, AreWordsRefused, IsShow, word_faults}
 use Rattle.requests.specs.declared.Request.{Request}
 use Rattle.requests.specs.declared.Request.TheVariants.{Init, Run, Recover, Status, Audit, Gen, Show}
 use Rattle.requests.specs.declared.WordsFault.{WordsFault}
@@ -34,7 +34,7 @@ first_mistake [] b (k, among, is) = absurd among
 first_mistake (x ∷ xs) b has = has
 
 -- an answer that is a text was asked for by a wish
-pub asked_by_wish : (words : List Text) (r : Result Request WordsFault) → IfOk r IsShow → (IsOk r → HasWish (faults_of words)) → IfOk r (λ q. IsAsked words q)
+pub asked_by_wish : (words : List Text) (r : Result Request WordsFault) → IfOk r IsShow → (IsOk r → HasWish (word_faults words)) → IfOk r (λ q. WordsAskFor words q)
 asked_by_wish words (Ok (Show text)) shows wish = wish (search rules)
 asked_by_wish words (Ok (Init shape mint)) shows wish = absurd shows
 asked_by_wish words (Ok (Run verdicts clients options)) shows wish = absurd shows
@@ -45,7 +45,7 @@ asked_by_wish words (Ok (Gen shape seed count)) shows wish = absurd shows
 asked_by_wish words (Err e) shows wish = tt
 
 -- bad words are refused by a mistake
-pub refused_by_mistake : (words : List Text) (r : Result Request WordsFault) → (r ≡ Err Bad → HasMistake (faults_of words)) → IfErr r (λ e. IsRefused words e)
+pub refused_by_mistake : (words : List Text) (r : Result Request WordsFault) → (r ≡ Err Bad → HasMistake (word_faults words)) → IfErr r (λ e. AreWordsRefused words e)
 refused_by_mistake words (Ok q) mistake = tt
 refused_by_mistake words (Err Bad) mistake = inl (mistake refl)
 refused_by_mistake words (Err Memory) mistake = tt

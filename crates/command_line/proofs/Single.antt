@@ -8,20 +8,20 @@ use Rattle.hex.specs.Hex.{decode_of}
 use Rattle.hex.specs.declared.error.FromHexError.{FromHexError}
 use Rattle.cbdc_types.specs.Limits.{ShapeOf}
 use Rattle.clap.specs.Words.{Text, Row, first_of}
-use Rattle.command_line.specs.Asked.{HasNumber, HasRepeats, HasSeed, HasShape, IsAudit, IsGen, IsInit, IsRun, IsStatus, Meets}
+use Rattle.command_line.specs.Asked.{HasNumber, HasRepeats, HasSeed, HasShape, AreAuditWords, AreGenWords, AreInitWords, AreRunWords, AreStatusWords, NameCommand}
 use Rattle.command_line.specs.Places.{option_at, option_place, positional_places}
-use Rattle.command_line.specs.Words.{IsFirst, IsGivenBy, StandsThere}
+use Rattle.command_line.specs.Words.{IsFirstWord, IsGivenBy, StandsThere}
 use Rattle.requests.specs.declared.FileWord.{FileWord}
 use Rattle.requests.specs.declared.Request.TheVariants.{Init, Run, Recover, Status, Audit, Gen, Show}
 use Rattle.command_line.specs.Single.{OneRequestLaw}
 use Rattle.command_line.proofs.Refused.{one_list, one_met, one_text, no_wish, other_command, same_rows}
 
 -- the rows that a command has are one list
-rows_of : (words : List Text) (c : Text) (rows others : List Row) → Meets words c rows → Meets words c others → rows ≡ others
+rows_of : (words : List Text) (c : Text) (rows others : List Row) → NameCommand words c rows → NameCommand words c others → rows ≡ others
 rows_of words c rows others m n = same_rows c c rows others (one_met words c c rows others m n)
 
 -- and words have one command
-apart : (words : List Text) (c d : Text) (rows others : List Row) → Meets words c rows → Meets words d others → bytes_eq c c ≡ true → bytes_eq d c ≡ false → ⊥
+apart : (words : List Text) (c d : Text) (rows others : List Row) → NameCommand words c rows → NameCommand words d others → bytes_eq c c ≡ true → bytes_eq d c ≡ false → ⊥
 apart words c d rows others m n itself other = other_command c d rows others (one_met words c d rows others m n) itself other
 
 module _ (rows : List Row) where
@@ -92,7 +92,7 @@ given_once name words f g (at, is, how) (other, also, so) = go how so
     go (inr a) (inl b) = absurd (joined_or_not (option_at words at) name name g.name.now (ap (option_at words) same ∙ b.0) a.0)
     go (inr a) (inr b) = a.1 ∙ ap (λ p. p + 1) same ∙ sym b.1
 
-first_once_placed : (words : List Text) (f g : FileWord) → IsFirst words f → IsFirst words g → f.place ≡ g.place
+first_once_placed : (words : List Text) (f g : FileWord) → IsFirstWord words f → IsFirstWord words g → f.place ≡ g.place
 first_once_placed words f g one other = one_place (slice_get (positional_places words) 0) f.place g.place one.0 other.0
 
 -- ---- the law
@@ -100,7 +100,7 @@ first_once_placed words f g one other = one_place (slice_get (positional_places 
 pub one_request_law : OneRequestLaw
 one_request_law words (Init shape mint) (Init kind file) asked also =
     let same : asked.0 ≡ also.0 = rows_of words (codes "init") asked.0 also.0 asked.1.0 also.1.0 in
-    let own : IsInit words also.0 shape mint = subst (λ (r : List Row). IsInit words r shape mint) same asked.1 in
+    let own : AreInitWords words also.0 shape mint = subst (λ (r : List Row). AreInitWords words r shape mint) same asked.1 in
     (one_shape also.0 shape kind own.1 also.1.1, first_once also.0 (codes "mint") mint.name.now file.name.now own.2 also.1.2, first_once_placed words mint file own.3 also.1.3)
 one_request_law words (Init shape mint) (Run told files others) asked also = absurd (apart words (codes "init") (codes "run") asked.0 also.0 asked.1.0 also.1.0 refl refl)
 one_request_law words (Init shape mint) Recover asked also = absurd (apart words (codes "init") (codes "recover") asked.0 also.0 asked.1.0 also.1 refl refl)
@@ -111,7 +111,7 @@ one_request_law words (Init shape mint) (Show other) asked also = absurd (no_wis
 one_request_law words (Run verdicts clients options) (Init kind file) asked also = absurd (apart words (codes "run") (codes "init") asked.0 also.0 asked.1.0 also.1.0 refl refl)
 one_request_law words (Run verdicts clients options) (Run told files others) asked also =
     let same : asked.0 ≡ also.0 = rows_of words (codes "run") asked.0 also.0 asked.1.0 also.1.0 in
-    let own : IsRun words also.0 verdicts clients.items options = subst (λ (r : List Row). IsRun words r verdicts clients.items options) same asked.1 in
+    let own : AreRunWords words also.0 verdicts clients.items options = subst (λ (r : List Row). AreRunWords words r verdicts clients.items options) same asked.1 in
     let named : own.3.0 ≡ also.1.3.0 = one_list own.3.0 also.1.3.0 (sym own.3.1 ∙ also.1.3.1) in (
       first_once also.0 (codes "verdicts") verdicts.name.now told.name.now own.1 also.1.1,
       own.3.2.named ∙ named ∙ sym also.1.3.2.named,
@@ -137,7 +137,7 @@ one_request_law words (Status hashes) (Run told files others) asked also = absur
 one_request_law words (Status hashes) Recover asked also = absurd (apart words (codes "status") (codes "recover") asked.0 also.0 asked.1.0 also.1 refl refl)
 one_request_law words (Status hashes) (Status sought) asked also =
     let same : asked.0 ≡ also.0 = rows_of words (codes "status") asked.0 also.0 asked.1.0 also.1.0 in
-    let own : IsStatus words also.0 hashes.items = subst (λ (r : List Row). IsStatus words r hashes.items) same asked.1 in
+    let own : AreStatusWords words also.0 hashes.items = subst (λ (r : List Row). AreStatusWords words r hashes.items) same asked.1 in
     let given : own.1.0 ≡ also.1.1.0 = one_list own.1.0 also.1.1.0 (sym own.1.1 ∙ also.1.1.1) in
     one_hashes hashes.items sought.items (sym own.1.2 ∙ ap (map decode_of) given ∙ also.1.1.2)
 one_request_law words (Status hashes) (Audit file files) asked also = absurd (apart words (codes "status") (codes "audit") asked.0 also.0 asked.1.0 also.1.0 refl refl)
@@ -149,7 +149,7 @@ one_request_law words (Audit mint clients) Recover asked also = absurd (apart wo
 one_request_law words (Audit mint clients) (Status sought) asked also = absurd (apart words (codes "audit") (codes "status") asked.0 also.0 asked.1.0 also.1.0 refl refl)
 one_request_law words (Audit mint clients) (Audit file files) asked also =
     let same : asked.0 ≡ also.0 = rows_of words (codes "audit") asked.0 also.0 asked.1.0 also.1.0 in
-    let own : IsAudit words also.0 mint clients.items = subst (λ (r : List Row). IsAudit words r mint clients.items) same asked.1 in (
+    let own : AreAuditWords words also.0 mint clients.items = subst (λ (r : List Row). AreAuditWords words r mint clients.items) same asked.1 in (
       first_once also.0 (codes "mint") mint.name.now file.name.now own.1 also.1.1,
       own.3.named ∙ sym also.1.3.named,
       first_once_placed words mint file own.2 also.1.2,
@@ -164,7 +164,7 @@ one_request_law words (Gen shape seed count) (Status sought) asked also = absurd
 one_request_law words (Gen shape seed count) (Audit file files) asked also = absurd (apart words (codes "gen") (codes "audit") asked.0 also.0 asked.1.0 also.1.0 refl refl)
 one_request_law words (Gen shape seed count) (Gen kind number size) asked also =
     let same : asked.0 ≡ also.0 = rows_of words (codes "gen") asked.0 also.0 asked.1.0 also.1.0 in
-    let own : IsGen words also.0 shape seed count = subst (λ (r : List Row). IsGen words r shape seed count) same asked.1 in
+    let own : AreGenWords words also.0 shape seed count = subst (λ (r : List Row). AreGenWords words r shape seed count) same asked.1 in
     (one_shape also.0 shape kind own.1 also.1.1, one_seed also.0 seed number own.2 also.1.2, one_number also.0 (codes "count") 10000 count size (omega arith) own.3 also.1.3)
 one_request_law words (Gen shape seed count) (Show other) asked also = absurd (no_wish words (codes "gen") asked.0 asked.1.0 refl also)
 one_request_law words (Show text) (Init kind file) asked also = absurd (no_wish words (codes "init") also.0 also.1.0 refl asked)

@@ -11,10 +11,10 @@ use Rattle.clap.specs.Kinds.{or_else}
 use Rattle.clap.specs.Simple.{Shape}
 use Rattle.clap.specs.Walk.{Row, Rule, Text, arg_by_index, arg_by_long, finished, has_long, idle, nothing_held, rows_after, settled, walk, walk_from}
 use Rattle.clap.specs.Words.{all_of, first_of}
-use Rattle.command_line.specs.Asked.{Meets, listed}
+use Rattle.command_line.specs.Asked.{NameCommand, names_or_none}
 use Rattle.command_line.specs.Command.{audit_shape, init_shape, run_shape}
 use Rattle.command_line.specs.Places.{is_positional, names_option, word_at}
-use Rattle.command_line.specs.Taken.{TakenLaw, option_word, positional_words, value_at}
+use Rattle.command_line.specs.Taken.{WordsTakenLaw, option_word, positional_words, value_at}
 use Rattle.command_line.proofs.Entered.{Entered, below_app, entered_is}
 use Rattle.command_line.proofs.Known.{AreKnown, audit_known, init_known, leaf, run_known}
 use Rattle.command_line.proofs.Own.{IsNamed, Picks, first, own, own_places, picked}
@@ -45,7 +45,7 @@ module _ (s : Shape) (known : AreKnown s) (once : s.args_override_self ≡ false
 first_values : (id : Text) (rows : List Row) → first_of id rows ≡ slice_get (values id rows) 0
 first_values id rows = go (find (λ r. bytes_eq r.id id) rows)
   where
-    go : (o : Option Row) → option_and_then (λ (r : Row). slice_get r.values 0) o ≡ slice_get (listed (option_map (λ (r : Row). r.values) o)) 0
+    go : (o : Option Row) → option_and_then (λ (r : Row). slice_get r.values 0) o ≡ slice_get (names_or_none (option_map (λ (r : Row). r.values) o)) 0
     go None = refl
     go (Some r) = refl
 
@@ -70,7 +70,7 @@ all_audit =
     (λ e. apart _ _ refl refl e, (λ e. apart _ _ refl refl e, (λ e. apart _ _ refl refl e, (λ e. apart _ _ refl refl e, (λ e. refl, (λ e. apart _ _ refl refl e, (λ e. apart _ _ refl refl e, tt)))))))
 
 -- what the rows of a command have under an id
-module _ (name : Text) (s : Shape) (all : below_app (Named name s)) (known : AreKnown s) (once : s.args_override_self ≡ false) (words : List Text) (rows : List Row) (m : Meets words name rows) where
+module _ (name : Text) (s : Shape) (all : below_app (Named name s)) (known : AreKnown s) (once : s.args_override_self ≡ false) (words : List Text) (rows : List Row) (m : NameCommand words name rows) where
   record Has (id : Text) : Type 0 where
     pub has : values id rows ≡ got id s.rules false None 1 (drop 2 words)
     pub follows : Follows false false (drop 2 words)
@@ -225,7 +225,7 @@ mint_first words = go (positional_words words)
     go [] = refl
     go (x ∷ xs) = refl
 
-init_law : (words : List Text) (rows : List Row) → Meets words (codes "init") rows → first_of (codes "mint") rows ≡ slice_get (positional_words words) 0
+init_law : (words : List Text) (rows : List Row) → NameCommand words (codes "init") rows → first_of (codes "mint") rows ≡ slice_get (positional_words words) 0
 init_law words rows m =
     let c = (leaf init_shape).rules in
     let h = has_of (codes "init") (leaf init_shape) all_init init_known refl words rows m (codes "mint")
@@ -234,8 +234,8 @@ init_law words rows m =
     first_values (codes "mint") rows
     ∙ ap (λ l. slice_get l 0) (h.has ∙ picked (codes "mint") c Either mint_pick mint_of_init (drop 2 words) false None 1 one tt h.follows ∙ ap (take 1) (own_positional words)) ∙ mint_first words
 
-run_law : (words : List Text) (rows : List Row) → Meets words (codes "run") rows
-    → (first_of (codes "verdicts") rows ≡ option_word (codes "verdicts") words) × (listed (all_of (codes "client") rows) ≡ positional_words words)
+run_law : (words : List Text) (rows : List Row) → NameCommand words (codes "run") rows
+    → (first_of (codes "verdicts") rows ≡ option_word (codes "verdicts") words) × (names_or_none (all_of (codes "client") rows) ≡ positional_words words)
 run_law words rows m =
     let c = (leaf run_shape).rules in
     let v = has_of (codes "run") (leaf run_shape) all_run run_known refl words rows m (codes "verdicts") (λ e. refl, (λ e. absurd (true≢false (sym e)), (λ e. refl, (λ e. refl, tt)))) in
@@ -245,8 +245,8 @@ run_law words rows m =
       h.has ∙ picked (codes "client") c First (λ k l. l) client_of_run (drop 2 words) false None 1 first_place tt h.follows ∙ own_positional words,
     )
 
-audit_law : (words : List Text) (rows : List Row) → Meets words (codes "audit") rows
-    → (first_of (codes "mint") rows ≡ slice_get (positional_words words) 0) × (listed (all_of (codes "client") rows) ≡ drop 1 (positional_words words))
+audit_law : (words : List Text) (rows : List Row) → NameCommand words (codes "audit") rows
+    → (first_of (codes "mint") rows ≡ slice_get (positional_words words) 0) × (names_or_none (all_of (codes "client") rows) ≡ drop 1 (positional_words words))
 audit_law words rows m =
     let c = (leaf audit_shape).rules in
     let mint = has_of (codes "audit") (leaf audit_shape) all_audit audit_known refl words rows m (codes "mint") (λ e. refl, (λ e. refl, (λ e. refl, tt))) in
@@ -256,5 +256,5 @@ audit_law words rows m =
       h.has ∙ picked (codes "client") c Either rest_pick clients_of_audit (drop 2 words) false None 1 one tt h.follows ∙ ap (drop 1) (own_positional words),
     )
 
-pub taken_law : TakenLaw
+pub taken_law : WordsTakenLaw
 taken_law words rows = (init_law words rows, run_law words rows, audit_law words rows)

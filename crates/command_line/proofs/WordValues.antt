@@ -16,7 +16,7 @@ use Rattle.clap.specs.declared.builder.value_parser.Reading.{Reading}
 use Rattle.clap.specs.declared.error.kind.ErrorKind.TheVariants.{ArgumentConflict}
 use Rattle.clap.specs.declared.parser.matches.ValueSource.{ValueSource}
 use Rattle.clap.specs.declared.parser.matches.ValueSource.TheVariants.{CommandLine, DefaultValue}
-use Rattle.command_line.specs.Asked.{listed}
+use Rattle.command_line.specs.Asked.{names_or_none}
 
 -- ---- lists of kinds
 
@@ -30,7 +30,7 @@ none≢some x e = true≢false (sym (ap is_some e))
 -- ---- rows
 
 abbrev pub values : Text → List Row → List Text
-values id rows = listed (all_of id rows)
+values id rows = names_or_none (all_of id rows)
 
 pub same_text : (a b : Text) → bytes_eq a b ≡ true → a ≡ b
 same_text a b e = (bytes_eq-Decides a b).0 e
@@ -49,7 +49,7 @@ module _ (id other : Text) (how : Reading) (source : ValueSource) (vs : List Tex
   pub values-more : (rows : List Row) → values id (with_values other how source vs rows) ≡ values id rows ++ cond (bytes_eq other id) vs []
   values-more [] = first (bytes_eq other id)
     where
-      first : (b : Bool) → listed (option_map (λ (r : Row). r.values) (cond b (Some new) None)) ≡ [] ++ cond b vs []
+      first : (b : Bool) → names_or_none (option_map (λ (r : Row). r.values) (cond b (Some new) None)) ≡ [] ++ cond b vs []
       first true = refl
       first false = refl
   values-more (r ∷ rs) = step (bytes_eq r.id other) refl (bytes_eq r.id id) refl (values-more rs)

@@ -8,9 +8,9 @@ use Rattle.clap.specs.Kinds.{or_else}
 use Rattle.clap.specs.declared.error.kind.ErrorKind.{ErrorKind}
 use Rattle.clap.specs.declared.error.kind.ErrorKind.TheVariants.{DisplayHelp, DisplayVersion, OutOfMemory}
 use Rattle.command_line.specs.Command.{hamilton}
-use Rattle.command_line.specs.Values.{IsHashText, IsNumber, IsUpTo, IsWhole}
+use Rattle.command_line.specs.Values.{IsHashText, IsNumber, IsUpTo, IsWholeNumber}
 use Rattle.command_line.specs.Places.{positional_places}
-use Rattle.command_line.specs.Words.{AreFiles, IsFirst, IsGivenBy}
+use Rattle.command_line.specs.Words.{AreFiles, IsFirstWord, IsGivenBy}
 use Rattle.requests.specs.declared.FileWord.{FileWord}
 use Rattle.requests.specs.declared.Request.{Request}
 use Rattle.requests.specs.declared.Request.TheVariants.{Init, Run, Recover, Status, Audit, Gen, Show}
@@ -53,13 +53,13 @@ topic_faults (Some found) =
     if bytes_eq found.0 (codes "help") then fault_of hamilton (help_words (first_of (codes "command") found.1)) else []
 
 -- the faults of the words
-abbrev pub faults_of : List Text → Kinds
-faults_of words = or_else (fault_of hamilton words) (topic_faults (subcommand_of hamilton words))
+abbrev pub word_faults : List Text → Kinds
+word_faults words = or_else (fault_of hamilton words) (topic_faults (subcommand_of hamilton words))
 
 -- ---- values
 
 -- the words name this command without a fault, with these matches
-pub record Meets (words : List Text) (command : Text) (rows : List Row) : Type 0 where
+pub record NameCommand (words : List Text) (command : Text) (rows : List Row) : Type 0 where
   pub sound : fault_of hamilton words ≡ []
   pub met : subcommand_of hamilton words ≡ Some (command, rows)
 
@@ -95,10 +95,10 @@ HasNoRepeats rows = (text : Text) × (first_of (codes "repeats") rows ≡ Some t
 
 -- the workload's seed is this number, or is none
 abbrev pub HasSeed : List Row → ℕ → Type 0
-HasSeed rows seed = (text : Text) × (first_of (codes "seed") rows ≡ Some text) × IsWhole text seed
+HasSeed rows seed = (text : Text) × (first_of (codes "seed") rows ≡ Some text) × IsWholeNumber text seed
 
 abbrev pub HasNoSeed : List Row → Type 0
-HasNoSeed rows = (text : Text) × (first_of (codes "seed") rows ≡ Some text) × ((n : ℕ) → ¬ (IsWhole text n))
+HasNoSeed rows = (text : Text) × (first_of (codes "seed") rows ≡ Some text) × ((n : ℕ) → ¬ (IsWholeNumber text n))
 
 -- a number of `gen` is out of form
 abbrev pub HasNoWorkload : List Row → Type 0
@@ -110,58 +110,63 @@ HasNoHashes given = (text : Text) × Contains given text × (¬ (IsHashText text
 
 -- ---- requests
 
--- `IsInit`, `IsRun`, `IsStatus`, `IsAudit`, `IsGen`, `IsShow`, `IsAsked`, `listed`: what the words of each command ask for
+-- what is asked for is that a text be shown: help, or the version
 abbrev pub IsShow : Request → Type 0
 IsShow (Show text) = Unit {0}
 IsShow _ = ⊥
 
--- what the matches of a command ask for
-abbrev pub IsInit : List Text → List Row → ShapeOf → FileWord → Type 0
-IsInit words rows shape mint =
-    Meets words (codes "init") rows × HasShape rows shape × (first_of (codes "mint") rows ≡ Some mint.name.now) × IsFirst words mint
+-- the words of `init`: a shape, and the first word that is no option names the file of the mint
+abbrev pub AreInitWords : List Text → List Row → ShapeOf → FileWord → Type 0
+AreInitWords words rows shape mint =
+    NameCommand words (codes "init") rows × HasShape rows shape × (first_of (codes "mint") rows ≡ Some mint.name.now) × IsFirstWord words mint
 
-abbrev pub IsRun : List Text → List Row → FileWord → List FileWord → RunOptions → Type 0
-IsRun words rows verdicts clients options =
-    Meets words (codes "run") rows × (first_of (codes "verdicts") rows ≡ Some verdicts.name.now) × IsGivenBy (codes "verdicts") words verdicts
+-- the words of `run`: the file of the verdicts, the client files in order, and how often each call is made
+abbrev pub AreRunWords : List Text → List Row → FileWord → List FileWord → RunOptions → Type 0
+AreRunWords words rows verdicts clients options =
+    NameCommand words (codes "run") rows × (first_of (codes "verdicts") rows ≡ Some verdicts.name.now) × IsGivenBy (codes "verdicts") words verdicts
     × ((names : List Text) × (all_of (codes "client") rows ≡ Some names) × AreFiles words (positional_places words) names clients)
     × HasRepeats rows options.repeats
 
-abbrev pub IsStatus : List Text → List Row → List (List ℕ) → Type 0
-IsStatus words rows hashes =
-    Meets words (codes "status") rows
+-- the words of `status`: these hashes, in order
+abbrev pub AreStatusWords : List Text → List Row → List (List ℕ) → Type 0
+AreStatusWords words rows hashes =
+    NameCommand words (codes "status") rows
     × ((given : List Text) × (all_of (codes "hash") rows ≡ Some given) × (map decode_of given ≡ map (λ h. Ok h) hashes))
 
--- the texts of words that may be left out
-abbrev pub listed : Option (List Text) → List Text
-listed None = []
-listed (Some names) = names
+-- the texts of words that may be left out: none where they are
+abbrev pub names_or_none : Option (List Text) → List Text
+names_or_none None = []
+names_or_none (Some names) = names
 
-abbrev pub IsAudit : List Text → List Row → FileWord → List FileWord → Type 0
-IsAudit words rows mint clients =
-    Meets words (codes "audit") rows × (first_of (codes "mint") rows ≡ Some mint.name.now) × IsFirst words mint
-    × AreFiles words (drop 1 (positional_places words)) (listed (all_of (codes "client") rows)) clients
+-- the words of `audit`: the first names the file of the mint, and those behind it the client files, in order
+abbrev pub AreAuditWords : List Text → List Row → FileWord → List FileWord → Type 0
+AreAuditWords words rows mint clients =
+    NameCommand words (codes "audit") rows × (first_of (codes "mint") rows ≡ Some mint.name.now) × IsFirstWord words mint
+    × AreFiles words (drop 1 (positional_places words)) (names_or_none (all_of (codes "client") rows)) clients
 
-abbrev pub IsGen : List Text → List Row → ShapeOf → ℕ → ℕ → Type 0
-IsGen words rows shape seed count = Meets words (codes "gen") rows × HasShape rows shape × HasSeed rows seed × HasNumber rows (codes "count") 10000 count
+-- the words of `gen`: a shape, a seed, and how many transactions
+abbrev pub AreGenWords : List Text → List Row → ShapeOf → ℕ → ℕ → Type 0
+AreGenWords words rows shape seed count = NameCommand words (codes "gen") rows × HasShape rows shape × HasSeed rows seed × HasNumber rows (codes "count") 10000 count
 
-abbrev pub IsAsked : List Text → Request → Type 0
-IsAsked words (Init shape mint) = (rows : List Row) × IsInit words rows shape mint
-IsAsked words (Run verdicts clients options) = (rows : List Row) × IsRun words rows verdicts clients.items options
-IsAsked words Recover = (rows : List Row) × Meets words (codes "recover") rows
-IsAsked words (Status hashes) = (rows : List Row) × IsStatus words rows hashes.items
-IsAsked words (Audit mint clients) = (rows : List Row) × IsAudit words rows mint clients.items
-IsAsked words (Gen shape seed count) = (rows : List Row) × IsGen words rows shape seed count
-IsAsked words (Show text) = HasWish (faults_of words)
+-- the words ask for this request
+abbrev pub WordsAskFor : List Text → Request → Type 0
+WordsAskFor words (Init shape mint) = (rows : List Row) × AreInitWords words rows shape mint
+WordsAskFor words (Run verdicts clients options) = (rows : List Row) × AreRunWords words rows verdicts clients.items options
+WordsAskFor words Recover = (rows : List Row) × NameCommand words (codes "recover") rows
+WordsAskFor words (Status hashes) = (rows : List Row) × AreStatusWords words rows hashes.items
+WordsAskFor words (Audit mint clients) = (rows : List Row) × AreAuditWords words rows mint clients.items
+WordsAskFor words (Gen shape seed count) = (rows : List Row) × AreGenWords words rows shape seed count
+WordsAskFor words (Show text) = HasWish (word_faults words)
 
 -- a value is out of form: a number of `init`, of `gen` or of `run`, or a hash of `status`
 abbrev pub HasBadValue : List Text → Type 0
 HasBadValue words =
-    ((rows : List Row) × Meets words (codes "init") rows × HasNoShape rows)
-    ⊎ (((rows : List Row) × (given : List Text) × Meets words (codes "status") rows × (all_of (codes "hash") rows ≡ Some given) × HasNoHashes given)
-    ⊎ (((rows : List Row) × Meets words (codes "gen") rows × HasNoWorkload rows)
-    ⊎ ((rows : List Row) × Meets words (codes "run") rows × HasNoRepeats rows)))
+    ((rows : List Row) × NameCommand words (codes "init") rows × HasNoShape rows)
+    ⊎ (((rows : List Row) × (given : List Text) × NameCommand words (codes "status") rows × (all_of (codes "hash") rows ≡ Some given) × HasNoHashes given)
+    ⊎ (((rows : List Row) × NameCommand words (codes "gen") rows × HasNoWorkload rows)
+    ⊎ ((rows : List Row) × NameCommand words (codes "run") rows × HasNoRepeats rows)))
 
 -- why words are refused
-abbrev pub IsRefused : List Text → WordsFault → Type 0
-IsRefused words Bad = HasMistake (faults_of words) ⊎ HasBadValue words
-IsRefused words Memory = Unit {0}
+abbrev pub AreWordsRefused : List Text → WordsFault → Type 0
+AreWordsRefused words Bad = HasMistake (word_faults words) ⊎ HasBadValue words
+AreWordsRefused words Memory = Unit {0}

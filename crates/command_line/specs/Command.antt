@@ -14,8 +14,8 @@ abbrev pub required : Text → Rule
 required id = record (new_rule id) { required = true; value_names = 1 }
 
 -- one word or more
-abbrev pub some : Text → Rule
-some id = record (required id) { range = Some (record { start_inclusive = 1; end_inclusive = usize_max }) }
+abbrev pub one_or_more : Text → Rule
+one_or_more id = record (required id) { range = Some (record { start_inclusive = 1; end_inclusive = usize_max }) }
 
 -- an option with a value, and its value where it is left out
 abbrev pub option : Text → Text → Rule
@@ -45,14 +45,14 @@ abbrev pub repeats_rule : Rule
 repeats_rule = option (codes "repeats") (codes "0")
 
 abbrev pub client_rule : Rule
-client_rule = some (codes "client")
+client_rule = one_or_more (codes "client")
 
 -- words that may be left out
 abbrev pub rest_rule : Rule
-rest_rule = record (some (codes "client")) { required = false }
+rest_rule = record (one_or_more (codes "client")) { required = false }
 
 abbrev pub hash_rule : Rule
-hash_rule = some (codes "hash")
+hash_rule = one_or_more (codes "hash")
 
 abbrev pub seed_rule : Rule
 seed_rule = required (codes "seed")
@@ -74,7 +74,7 @@ with_arg s r = record s { rules = s.rules ++ r ∷ [] }
 abbrev pub nodes_shape : Text → Text → Text → Shape
 nodes_shape name shards coordinators = with_arg (with_arg (new_app name).top (shards_rule shards)) (coordinators_rule coordinators)
 
--- `required`, `some`, `option`, `with_arg`, `nodes_shape`, `sized_shape`: an argument that has to be there; one or more; an option with its
+-- `required`, `one_or_more`, `option`, `with_arg`, `nodes_shape`, `sized_shape`: an argument that has to be there; one or more; an option with its
 -- default; a command with one argument more; with the options of a shape
 abbrev pub sized_shape : Shape → Text → Text → Shape
 sized_shape s lanes batch = with_arg (with_arg s (lanes_rule lanes)) (batch_rule batch)

@@ -1,7 +1,7 @@
 -- Words ask for one thing.
 use Rattle.std.specs.Prelude.{◌≡◌, ℕ, List, map}
 use Rattle.clap.specs.Words.{Text}
-use Rattle.command_line.specs.Asked.{IsAsked}
+use Rattle.command_line.specs.Asked.{WordsAskFor}
 use Rattle.requests.specs.declared.FileWord.{FileWord}
 use Rattle.requests.specs.declared.Request.{Request}
 use Rattle.requests.specs.declared.Request.TheVariants.{Init, Run, Recover, Status, Audit, Gen, Show}
@@ -30,4 +30,4 @@ AreAlike _ _ = ⊥
 
 -- whatever the same words ask for is the same
 abbrev pub OneRequestLaw : Type 0
-OneRequestLaw = (words : List Text) (r other : Request) → IsAsked words r → IsAsked words other → AreAlike r other
+OneRequestLaw = (words : List Text) (r other : Request) → WordsAskFor words r → WordsAskFor words other → AreAlike r other

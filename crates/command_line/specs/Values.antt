@@ -16,7 +16,7 @@ pub record IsUpTo (most : ℕ) (text : Text) (n : ℕ) : Type 0 where
   pub bound : n ≤ most
 
 -- the text spells the number in decimal digits, and 64 bits hold it
-pub record IsWhole (text : Text) (n : ℕ) : Type 0 where
+pub record IsWholeNumber (text : Text) (n : ℕ) : Type 0 where
   pub spelled : text ≡ decimal n
   pub bound : n < 2 ^ 64
 

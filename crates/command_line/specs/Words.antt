@@ -16,8 +16,8 @@ abbrev pub StandsThere : List Text → FileWord → Type 0
 StandsThere words file = slice_get words file.place ≡ Some file.name.now
 
 -- the file is named by the first word that is a value of its own
-abbrev pub IsFirst : List Text → FileWord → Type 0
-IsFirst words file = (slice_get (positional_places words) 0 ≡ Some file.place) × StandsThere words file
+abbrev pub IsFirstWord : List Text → FileWord → Type 0
+IsFirstWord words file = (slice_get (positional_places words) 0 ≡ Some file.place) × StandsThere words file
 
 -- the file is named by the value of the first option of this name: what a `=` joins to it, or else the next word
 abbrev pub IsGivenBy : Text → List Text → FileWord → Type 0

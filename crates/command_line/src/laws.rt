@@ -1,8 +1,8 @@
 // What words ask for, and when they are refused. The laws have no body that runs.
 ghost use Rattle.std.specs.Prelude.{◌≡◌, length};
-ghost use Rattle.command_line.specs.Refused.{AreWhole, AskedLaw, HasHashes};
+ghost use Rattle.command_line.specs.Refused.{AreWholeHashes, AskedLaw, HasHashes};
 ghost use Rattle.command_line.specs.Single.{OneRequestLaw};
-ghost use Rattle.command_line.specs.Taken.{TakenLaw};
+ghost use Rattle.command_line.specs.Taken.{WordsTakenLaw};
 
 use cbdc_types::Hash;
 use requests::Request;
@@ -26,7 +26,7 @@ pub fn one_request_law()
 /// For all words that name `init`, `run` or `audit` without a fault: the mint that clap takes is the first word that is a value of its own; the
 /// clients are all such words, in order, or at `audit` all but the first; the verdicts are the value of the first `--verdicts`.
 pub fn taken_law()
-    ensures { TakenLaw }
+    ensures { WordsTakenLaw }
 {}
 
 // A hash has its 32 bytes.
@@ -38,7 +38,7 @@ fn see_hash(hash: &Hash)
 
 // So has each of these.
 fn see_hashes(hashes: &[Hash])
-    ensures { AreWhole hashes.now }
+    ensures { AreWholeHashes hashes.now }
 {
     'hashes: for hash in hashes {
         see_hash(hash);

@@ -2,10 +2,10 @@
 ghost use Rattle.std.specs.Prelude.{◌≡◌, ◌≤◌, [], codes, drop, length, map, IsTrue, IfSome, IfOk, IfErr, IsErrOf, IsOk, Some, None, Ok};
 ghost use Rattle.hex.specs.Hex.{decode_of};
 ghost use Rattle.clap.specs.Words.{all_of, fault_of, first_of, found_of, kind_of, rows_of, subcommand_of, subcommand_rows_of};
-ghost use Rattle.command_line.specs.Asked.{IsAsked, IsRefused, IsShow, HasMistake, HasWish, HasNumber, HasNoNumber, HasShape, HasNoShape, HasNoHashes, HasRepeats, HasNoRepeats, HasSeed, HasNoSeed, HasNoWorkload, Meets, is_mistake, is_wish, help_words, listed};
+ghost use Rattle.command_line.specs.Asked.{WordsAskFor, AreWordsRefused, IsShow, HasMistake, HasWish, HasNumber, HasNoNumber, HasShape, HasNoShape, HasNoHashes, HasRepeats, HasNoRepeats, HasSeed, HasNoSeed, HasNoWorkload, NameCommand, is_mistake, is_wish, help_words, names_or_none};
 ghost use Rattle.command_line.specs.Command.{hamilton};
 ghost use Rattle.command_line.specs.Places.{positional_places};
-ghost use Rattle.command_line.specs.Words.{AreFiles, IsFirst, IsGivenBy, StandsThere, texts};
+ghost use Rattle.command_line.specs.Words.{AreFiles, IsFirstWord, IsGivenBy, StandsThere, texts};
 
 use crate::matching::matches_of;
 use crate::places::{option_of, positional_places};
@@ -81,9 +81,9 @@ fn help_asked<'a, 'b>(
     words: &'b [String],
     inner: &ArgMatches<'b>,
 ) -> Result<Request<'a>, WordsFault>
-    requires { Meets (texts words.now) (codes "help") (rows_of (found_of inner.now)) }
-    ensures asked { IfOk result (λ r. IsAsked (texts words.entry.now) r) }
-    ensures refused { IfErr result (λ e. IsRefused (texts words.entry.now) e) }
+    requires { NameCommand (texts words.now) (codes "help") (rows_of (found_of inner.now)) }
+    ensures asked { IfOk result (λ r. WordsAskFor (texts words.entry.now) r) }
+    ensures refused { IfErr result (λ e. AreWordsRefused (texts words.entry.now) e) }
 {
     help_request(alloc, inner)
 }
@@ -162,7 +162,7 @@ fn files_at<'a>(
 // The file that the first word names that is a value of its own.
 fn first_file<'a>(words: &'a [String], places: &[usize], name: &'a str) -> Option<FileWord<'a>>
     requires { places.now ≡ positional_places (texts words.now) }
-    ensures first { IfSome result (λ f. IsFirst (texts words.entry.now) f) }
+    ensures first { IfSome result (λ f. IsFirstWord (texts words.entry.now) f) }
     ensures name { IfSome result (λ f. f.name.now ≡ name.entry.now) }
 {
     match places.first() {
@@ -178,9 +178,9 @@ fn init_request<'a>(
     words: &'a [String],
     inner: &ArgMatches<'a>,
 ) -> Result<Request<'a>, WordsFault>
-    requires { Meets (texts words.now) (codes "init") (rows_of (found_of inner.now)) }
-    ensures asked { IfOk result (λ r. IsAsked (texts words.entry.now) r) }
-    ensures refused { IfErr result (λ e. IsRefused (texts words.entry.now) e) }
+    requires { NameCommand (texts words.now) (codes "init") (rows_of (found_of inner.now)) }
+    ensures asked { IfOk result (λ r. WordsAskFor (texts words.entry.now) r) }
+    ensures refused { IfErr result (λ e. AreWordsRefused (texts words.entry.now) e) }
 {
     let shape = match shape_of(inner) {
         Ok(shape) => shape,
@@ -237,9 +237,9 @@ fn files_to_run<'a>(
     inner: &ArgMatches<'a>,
     options: RunOptions,
 ) -> Option<Request<'a>>
-    requires met { Meets (texts words.now) (codes "run") (rows_of (found_of inner.now)) }
+    requires met { NameCommand (texts words.now) (codes "run") (rows_of (found_of inner.now)) }
     requires repeats { HasRepeats (rows_of (found_of inner.now)) options.repeats }
-    ensures { IfSome result (λ r. IsAsked (texts words.entry.now) r) }
+    ensures { IfSome result (λ r. WordsAskFor (texts words.entry.now) r) }
 {
     let Some(name) = inner.get_str("verdicts") else {
         return None;
@@ -269,9 +269,9 @@ fn run_request<'a>(
     words: &'a [String],
     inner: &ArgMatches<'a>,
 ) -> Result<Request<'a>, WordsFault>
-    requires { Meets (texts words.now) (codes "run") (rows_of (found_of inner.now)) }
-    ensures asked { IfOk result (λ r. IsAsked (texts words.entry.now) r) }
-    ensures refused { IfErr result (λ e. IsRefused (texts words.entry.now) e) }
+    requires { NameCommand (texts words.now) (codes "run") (rows_of (found_of inner.now)) }
+    ensures asked { IfOk result (λ r. WordsAskFor (texts words.entry.now) r) }
+    ensures refused { IfErr result (λ e. AreWordsRefused (texts words.entry.now) e) }
 {
     match repeats_of(inner) {
         Ok(repeats) => {
@@ -289,7 +289,7 @@ fn rest_of<'a>(
     places: &[usize],
     inner: &ArgMatches<'a>,
 ) -> Option<Vec<FileWord<'a>>>
-    ensures { IfSome result (λ files. AreFiles (texts words.entry.now) places.now (listed (all_of (codes "client") (rows_of (found_of inner.now)))) files.items) }
+    ensures { IfSome result (λ files. AreFiles (texts words.entry.now) places.now (names_or_none (all_of (codes "client") (rows_of (found_of inner.now)))) files.items) }
 {
     match inner.get_strs("client") {
         Some(names) => files_at(alloc, words, places, names),
@@ -304,8 +304,8 @@ fn audit_request<'a>(
     words: &'a [String],
     inner: &ArgMatches<'a>,
 ) -> Option<Request<'a>>
-    requires { Meets (texts words.now) (codes "audit") (rows_of (found_of inner.now)) }
-    ensures { IfSome result (λ r. IsAsked (texts words.entry.now) r) }
+    requires { NameCommand (texts words.now) (codes "audit") (rows_of (found_of inner.now)) }
+    ensures { IfSome result (λ r. WordsAskFor (texts words.entry.now) r) }
 {
     let Some(name) = inner.get_str("mint") else {
         return None;
@@ -349,9 +349,9 @@ fn status_request<'a, 'b>(
     words: &'b [String],
     inner: &ArgMatches<'b>,
 ) -> Result<Request<'a>, WordsFault>
-    requires { Meets (texts words.now) (codes "status") (rows_of (found_of inner.now)) }
-    ensures asked { IfOk result (λ r. IsAsked (texts words.entry.now) r) }
-    ensures refused { IfErr result (λ e. IsRefused (texts words.entry.now) e) }
+    requires { NameCommand (texts words.now) (codes "status") (rows_of (found_of inner.now)) }
+    ensures asked { IfOk result (λ r. WordsAskFor (texts words.entry.now) r) }
+    ensures refused { IfErr result (λ e. AreWordsRefused (texts words.entry.now) e) }
 {
     let Some(given) = inner.get_strs("hash") else {
         return Err(WordsFault::Memory);
@@ -384,10 +384,10 @@ fn workload_of<'a, 'b>(
     inner: &ArgMatches<'b>,
     shape: Shape,
 ) -> Result<Request<'a>, WordsFault>
-    requires met { Meets (texts words.now) (codes "gen") (rows_of (found_of inner.now)) }
+    requires met { NameCommand (texts words.now) (codes "gen") (rows_of (found_of inner.now)) }
     requires shape { HasShape (rows_of (found_of inner.now)) shape }
-    ensures asked { IfOk result (λ r. IsAsked (texts words.entry.now) r) }
-    ensures refused { IfErr result (λ e. IsRefused (texts words.entry.now) e) }
+    ensures asked { IfOk result (λ r. WordsAskFor (texts words.entry.now) r) }
+    ensures refused { IfErr result (λ e. AreWordsRefused (texts words.entry.now) e) }
 {
     let seed = match seed_of(inner) {
         Ok(seed) => seed,
@@ -404,9 +404,9 @@ fn gen_request<'a, 'b>(
     words: &'b [String],
     inner: &ArgMatches<'b>,
 ) -> Result<Request<'a>, WordsFault>
-    requires { Meets (texts words.now) (codes "gen") (rows_of (found_of inner.now)) }
-    ensures asked { IfOk result (λ r. IsAsked (texts words.entry.now) r) }
-    ensures refused { IfErr result (λ e. IsRefused (texts words.entry.now) e) }
+    requires { NameCommand (texts words.now) (codes "gen") (rows_of (found_of inner.now)) }
+    ensures asked { IfOk result (λ r. WordsAskFor (texts words.entry.now) r) }
+    ensures refused { IfErr result (λ e. AreWordsRefused (texts words.entry.now) e) }
 {
     match shape_of(inner) {
         Ok(shape) => workload_of(words, inner, shape),
@@ -422,8 +422,8 @@ fn asked_of<'a>(
 ) -> Result<Request<'a>, WordsFault>
     requires sound { fault_of hamilton (texts words.now) ≡ [] }
     requires met { subcommand_of hamilton (texts words.now) ≡ subcommand_rows_of matches.now }
-    ensures asked { IfOk result (λ r. IsAsked (texts words.entry.now) r) }
-    ensures refused { IfErr result (λ e. IsRefused (texts words.entry.now) e) }
+    ensures asked { IfOk result (λ r. WordsAskFor (texts words.entry.now) r) }
+    ensures refused { IfErr result (λ e. AreWordsRefused (texts words.entry.now) e) }
 {
     let Some((name, inner)) = matches.subcommand() else {
         return Err(WordsFault::Memory);
@@ -464,8 +464,8 @@ fn asked_of<'a>(
 /// Bad only where there is a mistake, an option of Init or of Gen or the repeats of Run are no number within their limit, or a word of Status is
 /// not 64 hexadecimal digits.
 pub fn parse<'a>(alloc: Global, words: &'a [String]) -> Result<Request<'a>, WordsFault>
-    ensures asked { IfOk result (λ r. IsAsked (texts words.entry.now) r) }
-    ensures refused { IfErr result (λ e. IsRefused (texts words.entry.now) e) }
+    ensures asked { IfOk result (λ r. WordsAskFor (texts words.entry.now) r) }
+    ensures refused { IfErr result (λ e. AreWordsRefused (texts words.entry.now) e) }
 {
     match matches_of(alloc, words) {
         Ok(matches) => asked_of(alloc, words, &matches),

@@ -1,7 +1,7 @@
 // What texts among the words spell.
 ghost use Rattle.std.specs.Prelude.{◌≡◌, ◌≤◌, ℕ, map, decimal, MatchOption, IfOk, IsErrOf, Ok};
 ghost use Rattle.hex.specs.Hex.{decode_of};
-ghost use Rattle.command_line.specs.Values.{IsHashText, IsNumber, IsUpTo, IsWhole};
+ghost use Rattle.command_line.specs.Values.{IsHashText, IsNumber, IsUpTo, IsWholeNumber};
 
 use base_types::Hash;
 use hex::FromHex;
@@ -30,7 +30,7 @@ pub(crate) fn number_in(text: &str, most: u32) -> Option<u32>
 
 /// The number that a text spells in decimal digits, without a sign or a leading zero, where 64 bits hold it.
 pub(crate) fn whole_in(text: &str) -> Option<u64>
-    ensures { MatchOption result ((n : ℕ) → ¬ (IsWhole text.now n)) (λ n. IsWhole text.now n) }
+    ensures { MatchOption result ((n : ℕ) → ¬ (IsWholeNumber text.now n)) (λ n. IsWholeNumber text.now n) }
 {
     let Ok(n) = text.parse::<u64>() else {
         return None;

@@ -1,5 +1,5 @@
 -- Where nothing hinders what is asked, it is done, unless memory runs out.
-use Rattle.std.proofs.Common.{◌≡◌, ◌⊎◌, inl, inr, ℕ, Bool, List, [], Option, Some, None, Ok, refl, sym, ap, subst}
+use Rattle.std.proofs.Common.{◌≡◌, ◌⊎◌, inl, inr, ℕ, Bool, List, [], Some, None, Ok, refl, sym, ap, subst}
 use Rattle.outside.specs.Images.{Tells}
 use Rattle.outside.specs.declared.disk.Disk.{Ghosts}
 use Rattle.line_text.specs.Lines.{Text}
@@ -8,7 +8,7 @@ use Rattle.cbdc_types.specs.declared.answer.Answer.TheVariants as answers
 use Rattle.cbdc_types.specs.declared.answer.UnsoundKind.{UnsoundKind}
 use Rattle.cbdc_model.specs.Records.{Shape}
 use Rattle.cbdc_model.specs.Coins.{Output, FullTx, genesis_id}
-use Rattle.command_line.specs.Asked.{IsAsked, IsRefused}
+use Rattle.command_line.specs.Asked.{WordsAskFor, AreWordsRefused}
 use Rattle.requests.specs.declared.FileWord.{FileWord}
 use Rattle.requests.specs.declared.Request.{Request}
 use Rattle.requests.specs.declared.Request.TheVariants.{Init, Run, Recover, Status, Audit, Gen, Show}
@@ -16,7 +16,7 @@ use Rattle.requests.specs.declared.WordsFault.TheVariants.{Bad}
 use Rattle.cbdc_model.specs.Clean.{Clean}
 use Rattle.workload.specs.Generator.{mint_of}
 use Rattle.submission_laws.specs.Files.{all_submissions}
-use Rattle.command_line.specs.Refused.{AreWhole, HasHashes}
+use Rattle.command_line.specs.Refused.{AreWholeHashes, HasHashes}
 use Rattle.command_line.specs.Single.{AreAlike, names_of}
 use Rattle.command_line.proofs.Refused.{asked_law}
 use Rattle.command_line.proofs.Single.{one_request_law}
@@ -26,14 +26,13 @@ use Rattle.audit.specs.declared.verdict.Verdict.TheVariants.{Unsound}
 use Rattle.rack_ledgers.specs.Audited.{IsAudited}
 use Rattle.run_laws.specs.Ample.{Ample}
 use Rattle.rack_ledgers.specs.Caused.{IsUnresumed}
-use Rattle.ledger_runs.specs.Least.{IsLeastOpen}
-use Rattle.rack_runs.specs.Endings.{EndsRun}
-use Rattle.rack_runs.specs.Runs.{NonePrepared, NothingNext, PieceNext, PiecesPrepared}
+use Rattle.command_answers.specs.Scene.{Scene}
+use Rattle.rack_runs.specs.Runs.{file_turns, open_turns}
 use Rattle.submissions.specs.SoundTest.{sound_by}
 use Rattle.submissions.specs.Checks.{VerdictsOf}
 use Rattle.sentinel.specs.Files.{told}
 use Rattle.rack_laws.specs.Making.{CanMake}
-use Rattle.rack_laws.specs.Ready.{IsRackReady, limit_at}
+use Rattle.rack_laws.specs.Ready.{limit_at}
 use Rattle.rack_laws.proofs.Audited.{audit_sound}
 use Rattle.rack_laws.proofs.Files.{read_once, not_read_none, clients_once, clients_none}
 use Rattle.rack_laws.proofs.Caused.{unsound_none}
@@ -44,86 +43,86 @@ use Rattle.rack_laws.proofs.KeptRooms.{ample_rooms, idle_rooms}
 use Rattle.rack_laws.proofs.Verdicts.{verdicts_none, verdicts_once}
 use Rattle.audit_command.specs.Audits.{IsUnsoundBy, WasAudited, WhyUnopened, WhyUnaudited, WhyNoAudit}
 use Rattle.command_answers.specs.Causes.{HasToldCause, IsWell}
-use Rattle.commands.specs.Complete.{CanInit, CanRun, CanAudit, IsUnhindered, none_sound}
+use Rattle.commands.specs.Complete.{AreReadyFor, CanInit, CanRun, CanAudit, IsUnhindered, none_sound}
 use Rattle.gen_command.specs.Generated.{WhyNoWorkload}
 use Rattle.init_command.specs.Outcomes.{WhyNoInit}
 use Rattle.rack_runs.specs.Stops.{WhyNoTurns}
 use Rattle.run_command.specs.Outcomes.{WhyNoRun}
 use Rattle.status_command.specs.Outcomes.{WhyNoStatus}
-use Rattle.commands.specs.Outcomes.{Why}
+use Rattle.commands.specs.Outcomes.{AskedWhy, Why}
 
-module _ {D : Type 0} (files : Text → Option (List ℕ)) (files_before files_now : Text → ℕ) (device : Ghosts D) (held back : ℕ → Option D) (before now : ℕ → ℕ) where
-  init_none : (shape : Shape) (file : FileWord) (answer : Answer) → CanInit files files_before files_now device held before now shape file.name.now
-      → WhyNoInit files files_before files_now device held before now shape file answer → answer ≡ answers.Memory
-  init_none shape file answer can (inl not_read) = not_read_none files files_before files_now file.place mint_of_file file.name.now can.mint answer can.holds not_read
+module _ {D : Type 0} (device : Ghosts D) (before after : Scene D) where
+  init_none : (shape : Shape) (file : FileWord) (answer : Answer) → CanInit device before after shape file.name.now
+      → WhyNoInit device before after shape file answer → answer ≡ answers.Memory
+  init_none shape file answer can (inl not_read) = not_read_none before.file before.file_faults after.file_faults file.place mint_of_file file.name.now can.mint answer can.holds not_read
   init_none shape file answer can (inr unmade) =
-      let same : unmade.0 ≡ can.mint = read_once files files_before files_now mint_of_file file.name.now can.mint unmade.0 can.holds unmade.1 in
-      made device held before now shape unmade.0 answer (subst (λ (m : List Output). CanMake device held shape m) (sym same) can.can) can.steady unmade.2
+      let same : unmade.0 ≡ can.mint = read_once before.file before.file_faults after.file_faults mint_of_file file.name.now can.mint unmade.0 can.holds unmade.1 in
+      made device before.disks.held before.disks.faults after.disks.faults shape unmade.0 answer (subst (λ (m : List Output). CanMake device before.disks.held shape m) (sym same) can.can) can.steady unmade.2
 
-  status_none : (answer : Answer) → IsRackReady device held before now none_sound [] → WhyNoStatus device held back before now answer → answer ≡ answers.Memory
+  status_none : (answer : Answer) → AreReadyFor device before after none_sound [] → WhyNoStatus device before.disks after.disks answer → answer ≡ answers.Memory
   status_none answer ready why =
       let shows = ready.shows in
-      let rooms = ample_rooms ready.shape ready.mint ready.submissions ready.journals (λ n. limit_at device (held n)) shows.limits shows.kept none_sound [] ready.ample in
-      unopened_none device held before now ready.shape ready.mint ready.submissions ready.journals ready.shows rooms ready.steady None answer tt why.0
+      let rooms = ample_rooms ready.shape ready.mint ready.submissions ready.journals (λ n. limit_at device (before.disks.held n)) shows.limits shows.kept none_sound [] ready.ample in
+      unopened_none device before.disks.held before.disks.faults after.disks.faults ready.shape ready.mint ready.submissions ready.journals ready.shows rooms ready.steady None answer tt why.0
 
   -- what is not resumed
-  unresumed : (sound : FullTx → Bool) (handed : List (List FullTx)) (answer : Answer) → IsRackReady device held before now sound handed → IsUnresumed device held before now answer → answer ≡ answers.Memory
+  unresumed : (sound : FullTx → Bool) (handed : List (List FullTx)) (answer : Answer) → AreReadyFor device before after sound handed → IsUnresumed device before.disks.held before.disks.faults after.disks.faults answer → answer ≡ answers.Memory
   unresumed sound handed answer ready (inl unopened) =
       let shows = ready.shows in
-      let rooms = ample_rooms ready.shape ready.mint ready.submissions ready.journals (λ n. limit_at device (held n)) shows.limits shows.kept sound handed ready.ample in
-      unopened_none device held before now ready.shape ready.mint ready.submissions ready.journals ready.shows rooms ready.steady None answer tt unopened
-  unresumed sound handed answer ready (inr (inl unsound)) = absurd (unsound_none device held ready.shape ready.mint ready.submissions ready.journals ready.shows answer unsound)
+      let rooms = ample_rooms ready.shape ready.mint ready.submissions ready.journals (λ n. limit_at device (before.disks.held n)) shows.limits shows.kept sound handed ready.ample in
+      unopened_none device before.disks.held before.disks.faults after.disks.faults ready.shape ready.mint ready.submissions ready.journals ready.shows rooms ready.steady None answer tt unopened
+  unresumed sound handed answer ready (inr (inl unsound)) = absurd (unsound_none device before.disks.held ready.shape ready.mint ready.submissions ready.journals ready.shows answer unsound)
   unresumed sound handed answer ready (inr (inr memory)) = memory
 
-  recover_none : (answer : Answer) → IsRackReady device held before now none_sound [] → WhyNoTurns device held back before now NothingNext IsLeastOpen NonePrepared [] answer → answer ≡ answers.Memory
+  recover_none : (answer : Answer) → AreReadyFor device before after none_sound [] → WhyNoTurns device before.disks after.disks open_turns answer → answer ≡ answers.Memory
   recover_none answer ready (inl unbegun) = unresumed none_sound [] answer ready unbegun.0
   recover_none answer ready (inr lane) =
-      recovery_none device held back before now ready.shape ready.mint ready.submissions ready.journals ready.shows ready.steady none_sound ready.ample answer lane
+      recovery_none device before.disks after.disks ready.shape ready.mint ready.submissions ready.journals ready.shows ready.steady none_sound ready.ample answer lane
 
-  module _ (verdicts : FileWord) (clients : List FileWord) (can : CanRun files files_before files_now device held before now verdicts.name.now (names_of clients)) where
+  module _ (verdicts : FileWord) (clients : List FileWord) (can : CanRun device before after verdicts.name.now (names_of clients)) where
     -- over the transactions and verdicts that the files hold
     turns_none : (handed : List (List FullTx)) (tells : VerdictsOf) (answer : Answer) → handed ≡ can.handed → tells ≡ told can.known
-        → WhyNoTurns device held back before now (PieceNext tells handed) (EndsRun tells handed) (PiecesPrepared tells handed) handed answer → answer ≡ answers.Memory
+        → WhyNoTurns device before.disks after.disks (file_turns tells handed) answer → answer ≡ answers.Memory
     turns_none handed tells answer these known (inl unbegun) = unresumed (sound_by (told can.known)) can.handed answer can.ready unbegun.0
     turns_none handed tells answer these known (inr lane) =
         let ready = can.ready in
-        run_none device held back before now ready.shape ready.mint ready.submissions ready.journals ready.shows ready.steady tells handed
-        (subst (λ v. Ample ready.shape (sound_by v) (λ n. limit_at device (held n)) handed ready.journals) (sym known)
-        (subst (λ hs. Ample ready.shape (sound_by (told can.known)) (λ n. limit_at device (held n)) hs ready.journals) (sym these) ready.ample)) answer lane
+        run_none device before.disks after.disks ready.shape ready.mint ready.submissions ready.journals ready.shows ready.steady tells handed
+        (subst (λ v. Ample ready.shape (sound_by v) (λ n. limit_at device (before.disks.held n)) handed ready.journals) (sym known)
+        (subst (λ hs. Ample ready.shape (sound_by (told can.known)) (λ n. limit_at device (before.disks.held n)) hs ready.journals) (sym these) ready.ample)) answer lane
 
-    run_unhindered : (answer : Answer) → WhyNoRun files files_before files_now device held back before now verdicts clients answer → answer ≡ answers.Memory
-    run_unhindered answer (inl not_read) = clients_none files files_before files_now clients can.handed answer can.holds not_read
-    run_unhindered answer (inr (handed, read, inl unknown)) = verdicts_none files files_before files_now verdicts.name.now can.known can.knows verdicts.place answer unknown
+    run_unhindered : (answer : Answer) → WhyNoRun device before after verdicts clients answer → answer ≡ answers.Memory
+    run_unhindered answer (inl not_read) = clients_none before.file before.file_faults after.file_faults clients can.handed answer can.holds not_read
+    run_unhindered answer (inr (handed, read, inl unknown)) = verdicts_none before.file before.file_faults after.file_faults verdicts.name.now can.known can.knows verdicts.place answer unknown
     run_unhindered answer (inr (handed, read, inr (known, knows, why))) =
-        turns_none handed (told known) answer (clients_once files files_before files_now clients 0 can.handed handed can.holds read)
-        (verdicts_once files files_before files_now verdicts.name.now can.known can.knows known knows) why
+        turns_none handed (told known) answer (clients_once before.file before.file_faults after.file_faults clients 0 can.handed handed can.holds read)
+        (verdicts_once before.file before.file_faults after.file_faults verdicts.name.now can.known can.knows known knows) why
 
-  module _ (file : FileWord) (clients : List FileWord) (can : CanAudit files files_before files_now device held before now file.name.now (names_of clients)) where
-    this_mint : (mint : List Output) → Tells (files file.name.now) (λ c. mint_of_file c ≡ Ok mint) → mint ≡ can.mint
-    this_mint mint tells = read_once files files_before files_now mint_of_file file.name.now can.mint mint can.holds tells
+  module _ (file : FileWord) (clients : List FileWord) (can : CanAudit device before after file.name.now (names_of clients)) where
+    this_mint : (mint : List Output) → Tells (before.file file.name.now) (λ c. mint_of_file c ≡ Ok mint) → mint ≡ can.mint
+    this_mint mint tells = read_once before.file before.file_faults after.file_faults mint_of_file file.name.now can.mint mint can.holds tells
 
-    these_files : (handed : List (List FullTx)) → AreRead files 0 clients handed → handed ≡ can.handed
-    these_files handed read = clients_once files files_before files_now clients 0 can.handed handed can.clients_hold read
+    these_files : (handed : List (List FullTx)) → AreRead before.file 0 clients handed → handed ≡ can.handed
+    these_files handed read = clients_once before.file before.file_faults after.file_faults clients 0 can.handed handed can.clients_hold read
 
-    unopened : (mint : List Output) (answer : Answer) → mint ≡ can.mint → WhyUnopened device held before now mint answer → answer ≡ answers.Memory
+    unopened : (mint : List Output) (answer : Answer) → mint ≡ can.mint → WhyUnopened device before.disks after.disks mint answer → answer ≡ answers.Memory
     unopened mint answer same (inr memory) = memory
     unopened mint answer same (inl why) =
         let shows = can.shows in
-        let rooms = idle_rooms can.shape can.mint (joined can.handed) can.journals (λ n. limit_at device (held n)) shows.limits shows.kept can.idle can.fits in
-        unopened_none device held before now can.shape can.mint (joined can.handed) can.journals can.shows rooms can.steady (Some (genesis_id mint)) answer (ap genesis_id same) why
+        let rooms = idle_rooms can.shape can.mint (joined can.handed) can.journals (λ n. limit_at device (before.disks.held n)) shows.limits shows.kept can.idle can.fits in
+        unopened_none device before.disks.held before.disks.faults after.disks.faults can.shape can.mint (joined can.handed) can.journals can.shows rooms can.steady (Some (genesis_id mint)) answer (ap genesis_id same) why
 
-    unaudited : (answer : Answer) → WhyUnaudited files files_before files_now device held before now file clients answer → answer ≡ answers.Memory
-    unaudited answer (inl not_read) = not_read_none files files_before files_now file.place mint_of_file file.name.now can.mint answer can.holds not_read
-    unaudited answer (inr (mint, read, inl not_read)) = clients_none files files_before files_now clients can.handed answer can.clients_hold not_read
+    unaudited : (answer : Answer) → WhyUnaudited device before after file clients answer → answer ≡ answers.Memory
+    unaudited answer (inl not_read) = not_read_none before.file before.file_faults after.file_faults file.place mint_of_file file.name.now can.mint answer can.holds not_read
+    unaudited answer (inr (mint, read, inl not_read)) = clients_none before.file before.file_faults after.file_faults clients can.handed answer can.clients_hold not_read
     unaudited answer (inr (mint, read, inr (handed, are_read, why))) = unopened mint answer (this_mint mint read) why
 
-    never_wrong : (place : ℕ) (kind : UnsoundKind) → WasAudited files device held back file clients (Unsound place kind) → ⊥
+    never_wrong : (place : ℕ) (kind : UnsoundKind) → WasAudited device before.file before.disks after.disks file clients (Unsound place kind) → ⊥
     never_wrong place kind was =
-        audit_sound device held can.shape can.mint (joined can.handed) can.journals can.shows can.idle can.clean place kind
-        (subst (λ (m : List Output). IsAudited device held m (joined can.handed) (Unsound place kind)) (this_mint was.mint was.read)
-        (subst (λ (hs : List (List FullTx)). IsAudited device held was.mint (joined hs) (Unsound place kind)) (these_files was.handed was.clients_read) was.audited))
+        audit_sound device before.disks.held can.shape can.mint (joined can.handed) can.journals can.shows can.idle can.clean place kind
+        (subst (λ (m : List Output). IsAudited device before.disks.held m (joined can.handed) (Unsound place kind)) (this_mint was.mint was.read)
+        (subst (λ (hs : List (List FullTx)). IsAudited device before.disks.held was.mint (joined hs) (Unsound place kind)) (these_files was.handed was.clients_read) was.audited))
 
-    unsound : (answer : Answer) → IsUnsoundBy (WasAudited files device held back file clients) answer → answer ≡ answers.Memory
+    unsound : (answer : Answer) → IsUnsoundBy (WasAudited device before.file before.disks after.disks file clients) answer → answer ≡ answers.Memory
     unsound (answers.Unsound place kind) was = absurd (never_wrong place kind was)
     unsound answers.Ok was = absurd was
     unsound answers.BadWords was = absurd was
@@ -140,7 +139,7 @@ module _ {D : Type 0} (files : Text → Option (List ℕ)) (files_before files_n
     unsound (answers.DiskFault n) was = absurd was
     unsound answers.Memory was = absurd was
 
-    audit_none : (answer : Answer) → WhyNoAudit files files_before files_now device held back before now file clients answer → answer ≡ answers.Memory
+    audit_none : (answer : Answer) → WhyNoAudit device before after file clients answer → answer ≡ answers.Memory
     audit_none answer why = elim why.1 [
       | inl wrong ↦ unsound answer wrong
       | inr without ↦ unaudited answer without
@@ -164,12 +163,12 @@ module _ {D : Type 0} (files : Text → Option (List ℕ)) (files_before files_n
   gen_none shape seed size (answers.DiskFault n) clean why = absurd why
 
   abbrev Free : Request → Type 0
-  Free r = IsUnhindered files files_before files_now device held before now r
+  Free r = IsUnhindered device before after r
 
   abbrev Caused : Request → Answer → Type 0
-  Caused r answer = Why files files_before files_now device held back before now r answer
+  Caused r answer = Why device before after r answer
 
-  -- nothing but want of memory is the cause
+  -- nothing but that memory ran out is the cause
   why_none : (r : Request) (answer : Answer) → Free r → Caused r answer → answer ≡ answers.Memory
   why_none (Init shape mint) answer free why = init_none shape mint answer free why
   why_none (Run verdicts clients options) answer free why = run_unhindered verdicts clients.items free answer why
@@ -182,16 +181,16 @@ module _ {D : Type 0} (files : Text → Option (List ℕ)) (files_before files_n
   -- the same request is hindered no more
   free_alike : (r other : Request) → AreAlike r other → Free r → Free other
   free_alike (Init shape mint) (Init kind file) alike free =
-      subst (λ (s : Shape). CanInit files files_before files_now device held before now s file.name.now) alike.0
-      (subst (λ (name : Text). CanInit files files_before files_now device held before now shape name) alike.1 free)
+      subst (λ (s : Shape). CanInit device before after s file.name.now) alike.0
+      (subst (λ (name : Text). CanInit device before after shape name) alike.1 free)
   free_alike (Run verdicts clients options) (Run others words settings) alike free =
-      subst (λ (names : List Text). CanRun files files_before files_now device held before now others.name.now names) alike.1
-      (subst (λ (name : Text). CanRun files files_before files_now device held before now name (names_of clients.items)) alike.0 free)
+      subst (λ (names : List Text). CanRun device before after others.name.now names) alike.1
+      (subst (λ (name : Text). CanRun device before after name (names_of clients.items)) alike.0 free)
   free_alike Recover Recover alike free = free
-  free_alike (Status hashes) (Status sought) alike free = (subst AreWhole alike free.0, free.1)
+  free_alike (Status hashes) (Status sought) alike free = (subst AreWholeHashes alike free.0, free.1)
   free_alike (Audit mint clients) (Audit file others) alike free =
-      subst (λ (names : List Text). CanAudit files files_before files_now device held before now file.name.now names) alike.1
-      (subst (λ (name : Text). CanAudit files files_before files_now device held before now name (names_of clients.items)) alike.0 free)
+      subst (λ (names : List Text). CanAudit device before after file.name.now names) alike.1
+      (subst (λ (name : Text). CanAudit device before after name (names_of clients.items)) alike.0 free)
   free_alike (Gen shape seed size) (Gen kind number count) alike free = subst (λ k. Clean (mint_of number k) (all_submissions number k)) alike.2 (subst (λ k. Clean (mint_of k size) (all_submissions k size)) alike.1 free)
   free_alike (Show text) (Show other) alike free = tt
   free_alike _ _ alike free = absurd alike
@@ -205,11 +204,11 @@ module _ {D : Type 0} (files : Text → Option (List ℕ)) (files_before files_n
   has_hashes (Gen shape seed size) free = tt
   has_hashes (Show text) free = tt
 
-  module _ (words : List Text) (r : Request) (asked : IsAsked words r) (free : Free r) where
-    told_none : (answer : Answer) → (other : Request) × IsAsked words other × Caused other answer → answer ≡ answers.Memory
+  module _ (words : List Text) (r : Request) (asked : WordsAskFor words r) (free : Free r) where
+    told_none : (answer : Answer) → (other : Request) × WordsAskFor words other × Caused other answer → answer ≡ answers.Memory
     told_none answer told = why_none told.0 answer (free_alike r told.0 (one_request_law words r told.0 asked told.1) free) told.2
 
-    pub complete : (answer : Answer) → HasToldCause (λ a. (other : Request) × IsAsked words other × Caused other a) answer → (answer ≡ answers.BadWords → IsRefused words Bad) → IsWell answer ⊎ (answer ≡ answers.Memory)
+    pub complete : (answer : Answer) → HasToldCause (AskedWhy device before after words) answer → (answer ≡ answers.BadWords → AreWordsRefused words Bad) → IsWell answer ⊎ (answer ≡ answers.Memory)
     complete answers.Ok told bad = inl tt
     complete answers.Memory told bad = inr refl
     complete answers.BadWords told bad = absurd (asked_law words r (has_hashes r free) asked (bad refl))

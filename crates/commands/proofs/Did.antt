@@ -9,13 +9,21 @@ use Rattle.requests.specs.declared.Request.{Request}
 use Rattle.requests.specs.declared.Request.TheVariants.{Init, Run, Recover, Status, Audit, Gen, Show}
 use Rattle.line_text.specs.Lines.{Text, Prints}
 use Rattle.line_text.specs.Faults.{fault_text}
+use Rattle.command_answers.specs.Scene.{Disks, Scene}
 use Rattle.init_command.proofs.Did.{init_by}
-use Rattle.commands.specs.Outcomes.{Did}
+use Rattle.commands.specs.Exact.{IsEndedLater}
+use Rattle.commands.specs.Left.{AskedLeaves, RequestLeaves}
+use Rattle.commands.specs.Outcomes.{AskedWhy, Did, Why}
 use Rattle.command_answers.specs.Texts.{IsPrinted}
 
-module _ {D : Type 0} (files : Text → Option (List ℕ)) (device : Ghosts D) (before now : ℕ → Option D) (P Q : Text → Type 0) (by : (text : Text) → P text → Q text) where
-  pub did_by : (r : Request) → Did files device before now P r → Did files device before now Q r
-  did_by (Init shape mint) is = init_by files device before now P Q by shape mint is
+-- the scene of these, where an output took this
+abbrev pub behind : {D : Type 0} → (Text → Option (List ℕ)) → (Text → ℕ) → Disks D → Option Text → ℕ → Scene D
+behind file file_faults disks printed print_faults = record { file = file; file_faults = file_faults; disks = disks; printed = printed; print_faults = print_faults }
+
+module _ {D : Type 0} (device : Ghosts D) (before : Scene D) (file : Text → Option (List ℕ)) (file_faults : Text → ℕ) (disks : Disks D) (mid now : Option Text) (mid_faults now_faults : ℕ)
+    (a : Answer) (by : (text : Text) → IsPrinted before.printed mid a text → IsPrinted before.printed now a text) where
+  pub did_by : (r : Request) → Did device before (behind file file_faults disks mid mid_faults) r a → Did device before (behind file file_faults disks now now_faults) r a
+  did_by (Init shape mint) is = init_by device before.file before.disks disks (IsPrinted before.printed mid a) (IsPrinted before.printed now a) by shape mint is
   did_by (Run verdicts clients options) is = record {
     handed = is.handed;
     known = is.known;
@@ -37,6 +45,47 @@ module _ {D : Type 0} (files : Text → Option (List ℕ)) (device : Ghosts D) (
   did_by (Audit mint clients) is = record { totals = is.totals; was = is.was; sentence = is.sentence; prints = by _ is.prints }
   did_by (Gen shape seed count) is = (is.0, (is.1.0, is.1.1, by is.1.0 is.1.2))
   did_by (Show text) is = by _ is
+
+-- why it was not done, and what is left, is the same whatever more is printed
+module _ {D : Type 0} (device : Ghosts D) (before : Scene D) (file : Text → Option (List ℕ)) (file_faults : Text → ℕ) (disks : Disks D) (mid now : Option Text) (mid_faults now_faults : ℕ) (a : Answer) where
+  abbrev Mid : Scene D
+  Mid = behind file file_faults disks mid mid_faults
+
+  abbrev Now : Scene D
+  Now = behind file file_faults disks now now_faults
+
+  why_same : (r : Request) → Why device before Mid r a → Why device before Now r a
+  why_same (Init shape mint) is = is
+  why_same (Run verdicts clients options) is = is
+  why_same Recover is = is
+  why_same (Status hashes) is = is
+  why_same (Audit mint clients) is = is
+  why_same (Gen shape seed count) is = is
+  why_same (Show text) is = is
+
+  pub why_by : (words : List Text) → AskedWhy device before Mid words a → AskedWhy device before Now words a
+  why_by words (r, asked, is) = (r, asked, why_same r is)
+
+  left_same : (r : Request) → RequestLeaves device before Mid r a → RequestLeaves device before Now r a
+  left_same (Init shape mint) is = is
+  left_same (Run verdicts clients options) is = is
+  left_same Recover is = is
+  left_same (Status hashes) is = is
+  left_same (Audit mint clients) is = is
+  left_same (Gen shape seed count) is = is
+  left_same (Show text) is = is
+
+  pub left_by : (words : List Text) → AskedLeaves device before Mid words a → AskedLeaves device before Now words a
+  left_by words (r, asked, is) = (r, asked, left_same r is)
+
+  pub later_by : (r : Request) → IsEndedLater device before Now r a → IsEndedLater device before Mid r a
+  later_by (Init shape mint) is = is
+  later_by (Run verdicts clients options) is = is
+  later_by Recover is = is
+  later_by (Status hashes) is = is
+  later_by (Audit mint clients) is = is
+  later_by (Gen shape seed count) is = is
+  later_by (Show text) is = is
 
 -- nothing more was printed
 nothing_more : {E : Type 0} (mid new : Option Text) (t : Text) (r : Result (Unit {0}) E) → Prints mid new [] r → mid ≡ Some t → new ≡ Some t

@@ -10,7 +10,7 @@ use Rattle.cbdc_types.specs.declared.answer.UnsoundKind.{UnsoundKind}
 use Rattle.cbdc_model.specs.Records.{Digest, Shape, Record, journal}
 use Rattle.cbdc_model.specs.Coins.{Output, genesis_id}
 use Rattle.cbdc_model.specs.History.{header_of}
-use Rattle.command_line.specs.Asked.{IsAsked}
+use Rattle.command_line.specs.Asked.{WordsAskFor}
 use Rattle.requests.specs.declared.FileWord.{FileWord}
 use Rattle.requests.specs.declared.Request.{Request}
 use Rattle.requests.specs.declared.Request.TheVariants.{Init, Run, Recover, Status, Audit, Gen, Show}
@@ -26,7 +26,8 @@ use Rattle.rack_ledgers.specs.RefusalLaws.{AllTell, EachOpens, AllHaveRoom}
 use Rattle.rack_ledgers.proofs.Refused.{none_refused, tell_told}
 use Rattle.rack_ledgers.proofs.CausedOnce.{not_both}
 use Rattle.commands.specs.Exact.{IsOfDisks, HasNoCause, IsUnopenedOf, IsExact, IsEndedLater}
-use Rattle.commands.specs.Outcomes.{Did}
+use Rattle.commands.specs.Outcomes.{AskedDid, Did}
+use Rattle.command_answers.specs.Scene.{Disks, Scene}
 
 same_mint : (r : Result (List Output) BadFile) (a b : List Output) → r ≡ Ok a → r ≡ Ok b → a ≡ b
 same_mint r a b is also = let same = sym is ∙ also in cc
@@ -59,64 +60,65 @@ module _ {D : Type 0} (device : Ghosts D) (held : ℕ → Option D) where
     ];
   }
 
-  module _ (files : Text → Option (List ℕ)) where
-    audited : (now : ℕ → Option D) (file : FileWord) (clients : List FileWord) (verdict : Verdict) → WasAudited files device held now file clients verdict → HasNoCause device held (IsUnopenedOf files device held file.name.now)
-    audited now file clients verdict was =
-        let is = was.audited in
-        let J : ℕ → List Record = λ n. journal n (reverse is.rows) in
-        record {
-          shape = is.shape;
-          genesis = genesis_id was.mint;
-          journals = J;
-          limits = is.history.limits;
-          opens = is.history.opened;
-          none = λ tell before now answer of cause.
-              let (bytes, other, told, reads, unopened) = cause in
-              let same : was.mint ≡ other = same_mint (mint_of_file bytes) was.mint other (was.read bytes told) reads in
-              opened is.shape (genesis_id was.mint) J is.history.limits is.history.opened was.room tell (Some (genesis_id other)) (ap genesis_id same) before now answer of unopened;
-        }
+module _ {D : Type 0} (device : Ghosts D) (before : Scene D) where
+  audited : (after : Disks D) (file : FileWord) (clients : List FileWord) (verdict : Verdict) → WasAudited device before.file before.disks after file clients verdict
+      → HasNoCause device before.disks.held (IsUnopenedOf device before file.name.now)
+  audited after file clients verdict was =
+      let is = was.audited in
+      let J : ℕ → List Record = λ n. journal n (reverse is.rows) in
+      record {
+        shape = is.shape;
+        genesis = genesis_id was.mint;
+        journals = J;
+        limits = is.history.limits;
+        opens = is.history.opened;
+        none = λ tell faults faults_now answer of cause.
+            let (bytes, other, told, reads, unopened) = cause in
+            let same : was.mint ≡ other = same_mint (mint_of_file bytes) was.mint other (was.read bytes told) reads in
+            opened device before.disks.held is.shape (genesis_id was.mint) J is.history.limits is.history.opened was.room tell (Some (genesis_id other)) (ap genesis_id same) faults faults_now answer of unopened;
+      }
 
-    -- what was done
-    did_exact : (now : ℕ → Option D) (printed : Text → Type 0) (r : Request) → Did files device held now printed r → IsExact files device held r
-    did_exact now printed (Run verdicts clients options) did = resumed did.caused.ledger did.caused.room
-    did_exact now printed Recover did = resumed did.0.ledger did.0.room
-    did_exact now printed (Status hashes) did = record {
-      shape = did.shape;
-      genesis = did.genesis;
-      journals = did.journals;
-      limits = did.limits;
-      opens = did.opened;
-      none = λ tell before now answer of cause. opened did.shape did.genesis did.journals did.limits did.opened did.room tell None tt before now answer of cause;
-    }
-    did_exact now printed (Audit mint clients) did = audited now mint clients.items (Sound did.totals) did.was
-    did_exact now printed (Init shape mint) did = tt
-    did_exact now printed (Gen shape seed size) did = tt
-    did_exact now printed (Show text) did = tt
+  -- what was done
+  did_exact : (after : Scene D) (answer : Answer) (r : Request) → Did device before after r answer → IsExact device before r
+  did_exact after answer (Run verdicts clients options) did = resumed device before.disks.held did.caused.ledger did.caused.room
+  did_exact after answer Recover did = resumed device before.disks.held did.0.ledger did.0.room
+  did_exact after answer (Status hashes) did = record {
+    shape = did.shape;
+    genesis = did.genesis;
+    journals = did.journals;
+    limits = did.limits;
+    opens = did.opened;
+    none = λ tell faults faults_now told of cause. opened device before.disks.held did.shape did.genesis did.journals did.limits did.opened did.room tell None tt faults faults_now told of cause;
+  }
+  did_exact after answer (Audit mint clients) did = audited after.disks mint clients.items (Sound did.totals) did.was
+  did_exact after answer (Init shape mint) did = tt
+  did_exact after answer (Gen shape seed size) did = tt
+  did_exact after answer (Show text) did = tt
 
-    -- what ended later
-    unsound_exact : (now : ℕ → Option D) (file : FileWord) (clients : List FileWord) (answer : Answer) → IsUnsoundBy (WasAudited files device held now file clients) answer → HasNoCause device held (IsUnopenedOf files device held file.name.now)
-    unsound_exact now file clients (answers.Unsound place kind) was = audited now file clients (Unsound place kind) was
-    unsound_exact now file clients answer was = absurd was
+  -- what ended later
+  unsound_exact : (after : Disks D) (file : FileWord) (clients : List FileWord) (answer : Answer) → IsUnsoundBy (WasAudited device before.file before.disks after file clients) answer
+      → HasNoCause device before.disks.held (IsUnopenedOf device before file.name.now)
+  unsound_exact after file clients (answers.Unsound place kind) was = audited after file clients (Unsound place kind) was
+  unsound_exact after file clients answer was = absurd was
 
-    later_exact : (now : ℕ → Option D) (disks_before disks_now : ℕ → ℕ) (r : Request) (answer : Answer) → IsEndedLater files device held now disks_before disks_now r answer → IsExact files device held r
-    later_exact now disks_before disks_now (Run verdicts clients options) answer later = let lane = later.2 in resumed lane.ledger lane.room
-    later_exact now disks_before disks_now Recover answer lane = resumed lane.ledger lane.room
-    later_exact now disks_before disks_now (Audit mint clients) answer was = unsound_exact now mint clients.items answer was
-    later_exact now disks_before disks_now r answer later = absurd later
+  later_exact : (after : Scene D) (r : Request) (answer : Answer) → IsEndedLater device before after r answer → IsExact device before r
+  later_exact after (Run verdicts clients options) answer later = let lane = later.2 in resumed device before.disks.held lane.ledger lane.room
+  later_exact after Recover answer lane = resumed device before.disks.held lane.ledger lane.room
+  later_exact after (Audit mint clients) answer was = unsound_exact after.disks mint clients.items answer was
+  later_exact after r answer later = absurd later
 
-    -- the same request
-    exact_alike : (r other : Request) → AreAlike r other → IsExact files device held r → IsExact files device held other
-    exact_alike (Init shape mint) (Init kind file) alike exact = tt
-    exact_alike (Run verdicts clients options) (Run told words settings) alike exact = exact
-    exact_alike Recover Recover alike exact = exact
-    exact_alike (Status hashes) (Status sought) alike exact = exact
-    exact_alike (Audit mint clients) (Audit file words) alike exact = subst (λ (name : Text). HasNoCause device held (IsUnopenedOf files device held name)) alike.0 exact
-    exact_alike (Gen shape seed size) (Gen kind number count) alike exact = tt
-    exact_alike (Show text) (Show other) alike exact = tt
-    exact_alike _ _ alike exact = absurd alike
+  -- the same request
+  exact_alike : (r other : Request) → AreAlike r other → IsExact device before r → IsExact device before other
+  exact_alike (Init shape mint) (Init kind file) alike exact = tt
+  exact_alike (Run verdicts clients options) (Run told words settings) alike exact = exact
+  exact_alike Recover Recover alike exact = exact
+  exact_alike (Status hashes) (Status sought) alike exact = exact
+  exact_alike (Audit mint clients) (Audit file words) alike exact = subst (λ (name : Text). HasNoCause device before.disks.held (IsUnopenedOf device before name)) alike.0 exact
+  exact_alike (Gen shape seed size) (Gen kind number count) alike exact = tt
+  exact_alike (Show text) (Show other) alike exact = tt
+  exact_alike _ _ alike exact = absurd alike
 
-    pub exact : (now : ℕ → Option D) (disks_before disks_now : ℕ → ℕ) (printed : Text → Type 0) (words : List Text) (r : Request) (answer : Answer) → IsAsked words r
-        → ((other : Request) × IsAsked words other × Did files device held now printed other) ⊎ IsEndedLater files device held now disks_before disks_now r answer
-        → IsExact files device held r
-    exact now disks_before disks_now printed words r answer asked (inl did) = exact_alike did.0 r (one_request_law words did.0 r did.1 asked) (did_exact now printed did.0 did.2)
-    exact now disks_before disks_now printed words r answer asked (inr later) = later_exact now disks_before disks_now r answer later
+  pub exact : (after : Scene D) (words : List Text) (r : Request) (answer : Answer) → WordsAskFor words r
+      → AskedDid device before after words answer ⊎ IsEndedLater device before after r answer → IsExact device before r
+  exact after words r answer asked (inl did) = exact_alike did.0 r (one_request_law words did.0 r did.1 asked) (did_exact after answer did.0 did.2)
+  exact after words r answer asked (inr later) = later_exact after r answer later

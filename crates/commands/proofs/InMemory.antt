@@ -10,26 +10,28 @@ use Rattle.cbdc_types.specs.declared.answer.Answer.TheVariants as answers
 use Rattle.client_files.specs.declared.fault.BadFile.{BadFile}
 use Rattle.cbdc_model.specs.Records.{Shape}
 use Rattle.cbdc_model.specs.Coins.{FullTx}
-use Rattle.command_line.specs.Asked.{IsAsked}
+use Rattle.command_line.specs.Asked.{WordsAskFor}
 use Rattle.requests.specs.declared.Request.{Request}
 use Rattle.requests.specs.declared.Request.TheVariants.{Init, Run, Recover, Status, Audit, Gen, Show}
 use Rattle.sentinel.specs.declared.file.VerdictFile.{VerdictFile}
 use Rattle.rack_laws.specs.Files.{HoldsFile, HoldsVerdicts, HoldClients}
-use Rattle.rack_laws.specs.Ready.{IsRackReady, NoneRises}
+use Rattle.rack_laws.specs.Ready.{NoneRises}
 use Rattle.mem_devices.specs.Sinks.{misses_at}
 use Rattle.command_answers.specs.Causes.{IsWell}
-use Rattle.commands.specs.Complete.{IsUnhindered}
-use Rattle.commands.specs.InMemory.{IsUnhinderedWhereSteady}
+use Rattle.commands.specs.Complete.{AreReadyFor, IsUnhindered}
+use Rattle.command_answers.specs.Scene.{Scene}
+use Rattle.commands.specs.InMemory.{IsUnhinderedWhereSteady, faultless}
 
-module _ {D : Type 0} (files : Text → Option (List ℕ)) (files_before files_now : Text → ℕ) (device : Ghosts D) (held : ℕ → Option D) (before now : ℕ → ℕ)
-    (files_steady : (name : Text) (bytes : List ℕ) → files name ≡ Some bytes → Rose (files_before name) (files_now name) → ⊥) (nodes_steady : (n : ℕ) → n < 80 → Rose (before n) (now n) → ⊥) where
-  holds_file : {X : Type 0} (read : List ℕ → Result X BadFile) (name : Text) (held : X) → HoldsFile files (λ _. 0) (λ _. 0) read name held → HoldsFile files files_before files_now read name held
+module _ {D : Type 0} (device : Ghosts D) (before after : Scene D)
+    (files_steady : (name : Text) (bytes : List ℕ) → before.file name ≡ Some bytes → Rose (before.file_faults name) (after.file_faults name) → ⊥)
+    (nodes_steady : (n : ℕ) → n < 80 → Rose (before.disks.faults n) (after.disks.faults n) → ⊥) where
+  holds_file : {X : Type 0} (read : List ℕ → Result X BadFile) (name : Text) (held : X) → HoldsFile before.file (λ _. 0) (λ _. 0) read name held → HoldsFile before.file before.file_faults after.file_faults read name held
   holds_file read name held holds = record { bytes = holds.bytes; told = holds.told; reads = holds.reads; steady = files_steady name holds.bytes holds.told }
 
-  holds_verdicts : (name : Text) (known : VerdictFile) → HoldsVerdicts files (λ _. 0) (λ _. 0) name known → HoldsVerdicts files files_before files_now name known
+  holds_verdicts : (name : Text) (known : VerdictFile) → HoldsVerdicts before.file (λ _. 0) (λ _. 0) name known → HoldsVerdicts before.file before.file_faults after.file_faults name known
   holds_verdicts name known holds = record { bytes = holds.bytes; told = holds.told; reads = holds.reads; steady = files_steady name holds.bytes holds.told }
 
-  hold_clients : (count : ℕ) (names : List Text) (handed : List (List FullTx)) → HoldClients files (λ _. 0) (λ _. 0) count names handed → HoldClients files files_before files_now count names handed
+  hold_clients : (count : ℕ) (names : List Text) (handed : List (List FullTx)) → HoldClients before.file (λ _. 0) (λ _. 0) count names handed → HoldClients before.file before.file_faults after.file_faults count names handed
   hold_clients count [] [] holds = holds
   hold_clients count [] (txs ∷ more) holds = holds
   hold_clients count (name ∷ names) [] holds = holds
@@ -38,10 +40,10 @@ module _ {D : Type 0} (files : Text → Option (List ℕ)) (files_before files_n
     hold_clients (count + length txs) names more holds.1,
   )
 
-  steady : (K : Shape) → K.shards ≤ 64 → K.coordinators ≤ 16 → NoneRises K before now
+  steady : (K : Shape) → K.shards ≤ 64 → K.coordinators ≤ 16 → NoneRises K before.disks.faults after.disks.faults
   steady K shards coordinators n low = nodes_steady n (omega (arith, low, shards, coordinators))
 
-  ready : (sound : FullTx → Bool) (handed : List (List FullTx)) → IsRackReady device held (λ _. 0) (λ _. 0) sound handed → IsRackReady device held before now sound handed
+  ready : (sound : FullTx → Bool) (handed : List (List FullTx)) → AreReadyFor device (faultless before) (faultless before) sound handed → AreReadyFor device before after sound handed
   ready sound handed is = record {
     shape = is.shape;
     mint = is.mint;
@@ -52,7 +54,7 @@ module _ {D : Type 0} (files : Text → Option (List ℕ)) (files_before files_n
     steady = steady is.shape is.shows.limits.shards is.shows.limits.coordinators;
   }
 
-  pub unhindered : (words : List Text) (r : Request) → IsAsked words r → IsUnhinderedWhereSteady files device held r → IsUnhindered files files_before files_now device held before now r
+  pub unhindered : (words : List Text) (r : Request) → WordsAskFor words r → IsUnhinderedWhereSteady device before r → IsUnhindered device before after r
   unhindered words (Init shape mint) asked free =
       let shaped = asked.1.1 in
       record {

@@ -3,7 +3,7 @@ use Rattle.std.proofs.Common.{⊎_elim, inl, inr, ℕ, List}
 use Rattle.line_text.specs.Lines.{Text}
 use Rattle.cbdc_types.specs.declared.answer.Answer.{Answer}
 use Rattle.cbdc_types.specs.declared.answer.Answer.TheVariants as answers
-use Rattle.command_line.specs.Asked.{IsAsked}
+use Rattle.command_line.specs.Asked.{WordsAskFor}
 use Rattle.requests.specs.declared.Request.{Request}
 use Rattle.requests.specs.declared.Request.TheVariants.{Init, Run, Recover, Status, Audit, Gen, Show}
 use Rattle.printed_lines.specs.Reports.{Names}
@@ -21,7 +21,7 @@ rose_placed (Gen shape seed count) b n place rose = absurd rose
 rose_placed (Show text) b n place rose = absurd rose
 
 -- the name that a request has for the file that is spoken of is one that the words ask for
-pub asked_name : (words : List Text) (r : Request) (b n : Text → ℕ) (written : Type 0) (name : Text) (a : Answer) → IsAsked words r → IsAnswerToRequest (RequestPlace r) (RequestRose r b n) written a
+pub asked_name : (words : List Text) (r : Request) (b n : Text → ℕ) (written : Type 0) (name : Text) (a : Answer) → WordsAskFor words r → IsAnswerToRequest (RequestPlace r) (RequestRose r b n) written a
     → Names (λ file name. RequestPlace r file → RequestNames r file name) a name → Names (AskedName words) a name
 asked_name words r b n written name (answers.BadInput file at kind) asked is named = (r, asked, named is)
 asked_name words r b n written name (answers.ReadFault file) asked is named = (r, asked, named (rose_placed r b n file is))

@@ -1,7 +1,7 @@
 -- What the words ask for is of no rack, whichever request they are read as.
 use Rattle.line_text.specs.Lines.{Text}
 use Rattle.std.specs.Prelude.{List}
-use Rattle.command_line.specs.Asked.{IsAsked}
+use Rattle.command_line.specs.Asked.{WordsAskFor}
 use Rattle.requests.specs.declared.Request.{Request}
 use Rattle.requests.specs.declared.Request.TheVariants.{Init, Run, Recover, Status, Audit, Gen, Show}
 use Rattle.command_line.specs.Single.{AreAlike}
@@ -18,7 +18,7 @@ alike_spared (Status hashes) _ alike of = absurd of
 alike_spared (Audit mint clients) _ alike of = absurd of
 alike_spared _ _ alike of = absurd alike
 
-pub of_no_rack : (words : List Text) (r other : Request) → IsAsked words r → IsAsked words other → IsOfNoRack r → IsOfNoRack other
+pub of_no_rack : (words : List Text) (r other : Request) → WordsAskFor words r → WordsAskFor words other → IsOfNoRack r → IsOfNoRack other
 of_no_rack words r other asked also of = alike_spared r other (one_request_law words r other asked also) of
 
 -- nor of any file
@@ -32,5 +32,5 @@ alike_unread (Run verdicts clients options) _ alike of = absurd of
 alike_unread (Audit mint clients) _ alike of = absurd of
 alike_unread _ _ alike of = absurd alike
 
-pub of_no_file : (words : List Text) (r other : Request) → IsAsked words r → IsAsked words other → IsOfNoFile r → IsOfNoFile other
+pub of_no_file : (words : List Text) (r other : Request) → WordsAskFor words r → WordsAskFor words other → IsOfNoFile r → IsOfNoFile other
 of_no_file words r other asked also of = alike_unread r other (one_request_law words r other asked also) of

@@ -16,7 +16,7 @@ use Rattle.cbdc_model.specs.Lanes.{IsEnd}
 use Rattle.cbdc_model.specs.World.{KeptJournals}
 use Rattle.ledger_laws.proofs.FirstJournals.{never_empty}
 use Rattle.command_answers.specs.Causes.{IsWell}
-use Rattle.command_line.specs.Asked.{IsAsked}
+use Rattle.command_line.specs.Asked.{WordsAskFor}
 use Rattle.requests.specs.declared.Request.{Request}
 use Rattle.requests.specs.declared.Request.TheVariants.{Init, Run, Recover, Status, Audit, Gen, Show}
 use Rattle.file_runs.specs.Runs.{joined}
@@ -24,11 +24,12 @@ use Rattle.ledger_init.specs.Made.{MayBeMade}
 use Rattle.record_log.specs.Held.{OpensTo}
 use Rattle.rack_ledgers.proofs.Fronts.{has_first, whole_fronts}
 use Rattle.rack_ledgers.proofs.Once.{opens_once_law}
-use Rattle.rack_ledgers.specs.Racked.{OfTold, AreBack, AreUnchanged}
+use Rattle.rack_ledgers.specs.Racked.{OfTold, AreUnchanged}
 use Rattle.rack_laws.specs.Shown.{AreImagesLeft, HoldsEach, OpenTo, Shows, node_count}
 use Rattle.rack_runs.specs.Runs.{IsGrown, SurvivesCrashes}
-use Rattle.commands.specs.Left.{IsOfNoRack, RequestLeaves}
-use Rattle.commands.specs.Outcomes.{Did}
+use Rattle.command_answers.specs.Scene.{AreDisksBack, Scene}
+use Rattle.commands.specs.Left.{AskedLeaves, IsOfNoRack, RequestLeaves}
+use Rattle.commands.specs.Outcomes.{AskedDid, Did}
 use Rattle.commands.specs.Spared.{AreBadOr}
 use Rattle.commands.specs.Survival.{GrewFrom, GrowsWhatever, IsKeptWhatever, Survives}
 
@@ -169,82 +170,83 @@ module _ {D : Type 0} (device : Ghosts D) (reads : (d : D) (c : List ℕ) → de
       let is = s.2.2 in
       was.unused 0 (omega (arith, some)) s.0 s.1 s.2.0 s.2.1 (has_first (header_of K (genesis_id mint) 0) (E 0) is.opens.rest s.2.0 (whole_fronts (header_of K (genesis_id mint) 0) (E 0) s.2.0 is.limits is.journal is.opens))
 
-  module _ (files : Text → Option (List ℕ)) (words : List Text) (disks_before disks_now : ℕ → ℕ) (printed : Text → Type 0) (whatever : IsKeptWhatever device before K mint submissions)
-      (spared : AreBadOr IsOfNoRack words → (n : ℕ) → now n ≡ before n) where
-    abbrev Survived : Type 0
-    Survived = Survives files device before now words K mint submissions E
+module _ {D : Type 0} (device : Ghosts D) (reads : (d : D) (c : List ℕ) → device.content d ≡ Some c → device.images d c) (before after : Scene D)
+    (K : Shape) (mint : List Output) (submissions : List FullTx) (E : ℕ → List Record) (within : IsWithinLimits K) (shown : Shows device before.disks.held K (genesis_id mint) E) (kept : KeptJournals K mint submissions E)
+    (words : List Text) (whatever : IsKeptWhatever device before.disks.held K mint submissions) (spared : AreBadOr IsOfNoRack words → (n : ℕ) → after.disks.held n ≡ before.disks.held n) where
+  abbrev Survived : Type 0
+  Survived = Survives device before after words K mint submissions E
 
-    no_more : GrowsWhatever device before now K mint (submissions ++ []) E → Survived
-    no_more grows = record { txs = []; handed_in = inl refl; grows = grows }
+  no_more : GrowsWhatever device before.disks.held after.disks.held K mint (submissions ++ []) E → Survived
+  no_more grows = record { txs = []; handed_in = inl refl; grows = grows }
 
-    stayed : LeavesNoMore → Survived
-    stayed fewer = no_more (subst (λ (l : List FullTx). GrowsWhatever device before now K mint l E) (sym (append-nil submissions)) (stays fewer whatever))
+  stayed : LeavesNoMore device reads before.disks.held after.disks.held K mint submissions E within shown kept → Survived
+  stayed fewer = no_more (subst (λ (l : List FullTx). GrowsWhatever device before.disks.held after.disks.held K mint l E) (sym (append-nil submissions)) (stays device reads before.disks.held after.disks.held K mint submissions E within shown kept fewer whatever))
 
-    same : ((n : ℕ) → now n ≡ before n) → Survived
-    same e = stayed (λ n inside was told is back c image. let one : was ≡ is = let z : Some was ≡ Some is = sym told ∙ sym (e n) ∙ back in cc in subst (λ (x : D). device.images x c) (sym one) image)
+  same : ((n : ℕ) → after.disks.held n ≡ before.disks.held n) → Survived
+  same e = stayed (λ n inside was told is back c image. let one : was ≡ is = let z : Some was ≡ Some is = sym told ∙ sym (e n) ∙ back in cc in subst (λ (x : D). device.images x c) (sym one) image)
 
-    unchanged : AreUnchanged device before now → Survived
-    unchanged are = stayed (λ n inside was told is back. (are n was told is back).read.leaves)
+  unchanged : AreUnchanged device before.disks.held after.disks.held → Survived
+  unchanged are = stayed (λ n inside was told is back. (are n was told is back).read.leaves)
 
-    returned : AreBack device disks_before disks_now before now → Survived
-    returned are = stayed (λ n inside was told is back. (are n was told is back).read.leaves)
+  returned : AreDisksBack device before.disks after.disks → Survived
+  returned are = stayed (λ n inside was told is back. (are n was told is back).read.leaves)
 
-    made_none : (shape : Shape) (other : List Output) → 1 ≤ shape.coordinators → MayBeMade shape other device before → Survived
-    made_none shape other some was = absurd (in_use shape other (omega (arith, some)) was)
+  made_none : (shape : Shape) (other : List Output) → 1 ≤ shape.coordinators → MayBeMade shape other device before.disks.held → Survived
+  made_none shape other some was = absurd (in_use device reads before.disks.held after.disks.held K mint submissions E within shown kept shape other (omega (arith, some)) was)
 
-    did_survive : (r : Request) → IsAsked words r → Did files device before now printed r → Survived
-    did_survive (Init shape mint) asked did = made_none shape did.mint asked.1.1.coordinators.2.some did.was
-    did_survive (Run verdicts clients options) asked did =
-        let told = did.ran K mint submissions E within shown kept in
-        record {
-          txs = joined did.handed;
-          handed_in = inr (Run verdicts clients options, asked, (did.handed, did.read, refl));
-          grows = come_through (joined did.handed) told.run.exit told.run.disks told.run.grown;
-        }
-    did_survive Recover asked did =
-        let told = (did.1 K mint submissions E within shown kept).recovered in
-        let grown : IsGrown K mint (submissions ++ []) E told.exit = subst (λ (l : List FullTx). IsGrown K mint l E told.exit) (sym (append-nil submissions)) told.grown in
-        no_more (come_through [] told.exit told.disks grown)
-    did_survive (Status hashes) asked did = unchanged did.back
-    did_survive (Audit mint clients) asked did = unchanged did.was.unchanged
-    did_survive (Gen shape seed size) asked did = same did.0
-    did_survive (Show text) asked did = same (spared (inr (Show text, asked, tt)))
+  did_survive : (answer : Answer) (r : Request) → WordsAskFor words r → Did device before after r answer → Survived
+  did_survive answer (Init shape mint) asked did = made_none shape did.mint asked.1.1.coordinators.2.some did.was
+  did_survive answer (Run verdicts clients options) asked did =
+      let told = did.ran K mint submissions E within shown kept in
+      record {
+        txs = joined did.handed;
+        handed_in = inr (Run verdicts clients options, asked, (did.handed, did.read, refl));
+        grows = come_through device reads before.disks.held after.disks.held K mint submissions E within shown kept (joined did.handed) told.run.exit told.run.disks told.run.grown;
+      }
+  did_survive answer Recover asked did =
+      let told = (did.1 K mint submissions E within shown kept).recovered in
+      let grown : IsGrown K mint (submissions ++ []) E told.exit = subst (λ (l : List FullTx). IsGrown K mint l E told.exit) (sym (append-nil submissions)) told.grown in
+      no_more (come_through device reads before.disks.held after.disks.held K mint submissions E within shown kept [] told.exit told.disks grown)
+  did_survive answer (Status hashes) asked did = unchanged did.back
+  did_survive answer (Audit mint clients) asked did = unchanged did.was.unchanged
+  did_survive answer (Gen shape seed size) asked did = same did.0
+  did_survive answer (Show text) asked did = same (spared (inr (Show text, asked, tt)))
 
-    left_survives : (r : Request) (answer : Answer) → IsAsked words r → RequestLeaves files device before now disks_before disks_now r answer → Survived
-    left_survives (Init shape mint) answer asked (other, told, inl back) = returned back
-    left_survives (Init shape mint) answer asked (other, told, inr (k, stopped)) = made_none shape other asked.1.1.coordinators.2.some stopped.was
-    left_survives (Run verdicts clients options) answer asked (handed, read, known, told, inl back) = returned back
-    left_survives (Run verdicts clients options) answer asked (handed, read, known, told, inr lane) = record {
-      txs = joined handed;
-      handed_in = inr (Run verdicts clients options, asked, (handed, read, refl));
-      grows = cut_short (joined handed) (lane.kept K mint submissions E within shown kept).crashes;
-    }
-    left_survives Recover answer asked (inl back) = returned back
-    left_survives Recover answer asked (inr lane) = no_more (cut_short [] (lane.kept K mint submissions E within shown kept).crashes)
-    left_survives (Status hashes) answer asked back = returned back
-    left_survives (Audit mint clients) answer asked back = returned back
-    left_survives (Gen shape seed size) answer asked left = same (spared (inr (Gen shape seed size, asked, tt)))
-    left_survives (Show text) answer asked left = same (spared (inr (Show text, asked, tt)))
+  left_survives : (r : Request) (answer : Answer) → WordsAskFor words r → RequestLeaves device before after r answer → Survived
+  left_survives (Init shape mint) answer asked (other, told, inl back) = returned back
+  left_survives (Init shape mint) answer asked (other, told, inr (k, stopped)) = made_none shape other asked.1.1.coordinators.2.some stopped.was
+  left_survives (Run verdicts clients options) answer asked (handed, read, known, told, inl back) = returned back
+  left_survives (Run verdicts clients options) answer asked (handed, read, known, told, inr lane) = record {
+    txs = joined handed;
+    handed_in = inr (Run verdicts clients options, asked, (handed, read, refl));
+    grows = cut_short device reads before.disks.held after.disks.held K mint submissions E within shown kept (joined handed) (lane.kept K mint submissions E within shown kept).crashes;
+  }
+  left_survives Recover answer asked (inl back) = returned back
+  left_survives Recover answer asked (inr lane) = no_more (cut_short device reads before.disks.held after.disks.held K mint submissions E within shown kept [] (lane.kept K mint submissions E within shown kept).crashes)
+  left_survives (Status hashes) answer asked back = returned back
+  left_survives (Audit mint clients) answer asked back = returned back
+  left_survives (Gen shape seed size) answer asked left = same (spared (inr (Gen shape seed size, asked, tt)))
+  left_survives (Show text) answer asked left = same (spared (inr (Show text, asked, tt)))
 
-    by_left : (answer : Answer) → ((n : ℕ) → now n ≡ before n) ⊎ ((r : Request) × IsAsked words r × RequestLeaves files device before now disks_before disks_now r answer) → Survived
-    by_left answer (inl e) = same e
-    by_left answer (inr left) = left_survives left.0 answer left.1 left.2
+  by_left : (answer : Answer) → ((n : ℕ) → after.disks.held n ≡ before.disks.held n) ⊎ AskedLeaves device before after words answer → Survived
+  by_left answer (inl e) = same e
+  by_left answer (inr left) = left_survives left.0 answer left.1 left.2
 
-    -- whatever was answered
-    pub survives : (answer : Answer) → (IsWell answer → (r : Request) × IsAsked words r × Did files device before now printed r)
-        → ((IsWell answer → ⊥) → ((n : ℕ) → now n ≡ before n) ⊎ ((r : Request) × IsAsked words r × RequestLeaves files device before now disks_before disks_now r answer)) → Survived
-    survives answers.Ok did left = let d = did tt in did_survive d.0 d.1 d.2
-    survives answers.WriteFault did left = let d = did tt in did_survive d.0 d.1 d.2
-    survives answers.BadWords did left = by_left answers.BadWords (left (λ w. w))
-    survives (answers.BadInput file at kind) did left = by_left (answers.BadInput file at kind) (left (λ w. w))
-    survives (answers.TooMuch total) did left = by_left (answers.TooMuch total) (left (λ w. w))
-    survives (answers.NotReady n) did left = by_left (answers.NotReady n) (left (λ w. w))
-    survives (answers.Foreign n held asked) did left = by_left (answers.Foreign n held asked) (left (λ w. w))
-    survives (answers.NotEmpty n) did left = by_left (answers.NotEmpty n) (left (λ w. w))
-    survives (answers.Full n used need capacity) did left = by_left (answers.Full n used need capacity) (left (λ w. w))
-    survives (answers.Unsound place kind) did left = by_left (answers.Unsound place kind) (left (λ w. w))
-    survives (answers.ClockEnd n stamp) did left = by_left (answers.ClockEnd n stamp) (left (λ w. w))
-    survives (answers.Damaged n at) did left = by_left (answers.Damaged n at) (left (λ w. w))
-    survives (answers.ReadFault file) did left = by_left (answers.ReadFault file) (left (λ w. w))
-    survives (answers.DiskFault n) did left = by_left (answers.DiskFault n) (left (λ w. w))
-    survives answers.Memory did left = by_left answers.Memory (left (λ w. w))
+  -- whatever was answered
+  pub survives : (answer : Answer) → (IsWell answer → AskedDid device before after words answer)
+      → ((IsWell answer → ⊥) → ((n : ℕ) → after.disks.held n ≡ before.disks.held n) ⊎ AskedLeaves device before after words answer) → Survived
+  survives answers.Ok did left = let d = did tt in did_survive answers.Ok d.0 d.1 d.2
+  survives answers.WriteFault did left = let d = did tt in did_survive answers.WriteFault d.0 d.1 d.2
+  survives answers.BadWords did left = by_left answers.BadWords (left (λ w. w))
+  survives (answers.BadInput file at kind) did left = by_left (answers.BadInput file at kind) (left (λ w. w))
+  survives (answers.TooMuch total) did left = by_left (answers.TooMuch total) (left (λ w. w))
+  survives (answers.NotReady n) did left = by_left (answers.NotReady n) (left (λ w. w))
+  survives (answers.Foreign n held asked) did left = by_left (answers.Foreign n held asked) (left (λ w. w))
+  survives (answers.NotEmpty n) did left = by_left (answers.NotEmpty n) (left (λ w. w))
+  survives (answers.Full n used need capacity) did left = by_left (answers.Full n used need capacity) (left (λ w. w))
+  survives (answers.Unsound place kind) did left = by_left (answers.Unsound place kind) (left (λ w. w))
+  survives (answers.ClockEnd n stamp) did left = by_left (answers.ClockEnd n stamp) (left (λ w. w))
+  survives (answers.Damaged n at) did left = by_left (answers.Damaged n at) (left (λ w. w))
+  survives (answers.ReadFault file) did left = by_left (answers.ReadFault file) (left (λ w. w))
+  survives (answers.DiskFault n) did left = by_left (answers.DiskFault n) (left (λ w. w))
+  survives answers.Memory did left = by_left answers.Memory (left (λ w. w))

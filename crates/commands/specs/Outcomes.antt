@@ -1,41 +1,57 @@
--- What was done when all went well, by what the files and the disks told before and tell behind it; and why not.
-use Rattle.std.specs.Prelude.{◌≡◌, ℕ, List, [], Option, string_bytes}
+-- What was done when all went well, by what stood outside before and what stands there behind it; and why not.
+use Rattle.std.specs.Prelude.{◌≡◌, ℕ, List, string_bytes}
 use Rattle.outside.specs.declared.disk.Disk.{Ghosts}
 use Rattle.line_text.specs.Lines.{Text}
 use Rattle.cbdc_types.specs.declared.answer.Answer.{Answer}
+use Rattle.command_line.specs.Asked.{WordsAskFor}
 use Rattle.requests.specs.declared.Request.{Request}
 use Rattle.requests.specs.declared.Request.TheVariants.{Init, Run, Recover, Status, Audit, Gen, Show}
-use Rattle.ledger_runs.specs.Least.{IsLeastOpen}
-use Rattle.rack_runs.specs.Runs.{NonePrepared, NothingNext}
+use Rattle.command_answers.specs.Scene.{Scene}
+use Rattle.command_answers.specs.Texts.{IsPrinted}
+use Rattle.rack_runs.specs.Runs.{open_turns}
+use Rattle.rack_runs.specs.Stops.{WhyNoTurns}
 use Rattle.audit_command.specs.Audits.{DidAudit, WhyNoAudit}
 use Rattle.gen_command.specs.Generated.{PrintsWorkload, WhyNoWorkload}
 use Rattle.status_command.specs.Outcomes.{DidStatus, WhyNoStatus}
 use Rattle.init_command.specs.Outcomes.{DidInit, WhyNoInit}
 use Rattle.run_command.specs.RecoverOutcomes.{DidRecover}
-use Rattle.rack_runs.specs.Stops.{WhyNoTurns}
 use Rattle.run_command.specs.Outcomes.{DidRun, WhyNoRun}
 
--- what was asked for was done, and this was printed
-abbrev pub Did : {D : Type 0} → (Text → Option (List ℕ)) → Ghosts D → (ℕ → Option D) → (ℕ → Option D) → (Text → Type 0) → Request → Type 0
-Did files device before now printed (Init shape mint) = DidInit files device before now printed shape mint
-Did files device before now printed (Run verdicts clients options) = DidRun files device before now printed verdicts clients.items
-Did files device before now printed Recover = DidRecover device before now printed
-Did files device before now printed (Status hashes) = DidStatus device before now printed hashes.items
-Did files device before now printed (Audit mint clients) = DidAudit files device before now printed mint clients.items
-Did files device before now printed (Gen shape seed size) = ((n : ℕ) → now n ≡ before n) × PrintsWorkload printed shape seed size
-Did files device before now printed (Show text) = printed (string_bytes text)
+-- the output took this text between the two moments, all of it at Ok, and at WriteFault a front
+abbrev pub Took : {D : Type 0} → Scene D → Scene D → Answer → Text → Type 0
+Took before after answer = IsPrinted before.printed after.printed answer
 
--- why what was asked for was not done
-abbrev pub Why : {D : Type 0} → (Text → Option (List ℕ)) → (Text → ℕ) → (Text → ℕ) → Ghosts D → (ℕ → Option D) → (ℕ → Option D) → (ℕ → ℕ) → (ℕ → ℕ) → Request → Answer → Type 0
-Why files files_before files_now device disks now disks_before disks_now (Init shape mint) answer =
-    WhyNoInit files files_before files_now device disks disks_before disks_now shape mint answer
-Why files files_before files_now device disks now disks_before disks_now (Run verdicts clients options) answer =
-    WhyNoRun files files_before files_now device disks now disks_before disks_now verdicts clients.items answer
-Why files files_before files_now device disks now disks_before disks_now Recover answer =
-    WhyNoTurns device disks now disks_before disks_now NothingNext IsLeastOpen NonePrepared [] answer
-Why files files_before files_now device disks now disks_before disks_now (Status hashes) answer =
-    WhyNoStatus device disks now disks_before disks_now answer
-Why files files_before files_now device disks now disks_before disks_now (Gen shape seed size) answer = ((n : ℕ) → now n ≡ disks n) × WhyNoWorkload shape seed size answer
-Why files files_before files_now device disks now disks_before disks_now (Show text) answer = ⊥
-Why files files_before files_now device disks now disks_before disks_now (Audit mint clients) answer =
-    WhyNoAudit files files_before files_now device disks now disks_before disks_now mint clients.items answer
+-- what was asked for was done, and its lines were printed (`Took`): a ledger was made (`DidInit`), files were run over one (`DidRun`), its open batches
+-- were brought to their end (`DidRecover`), hashes were looked up (`DidStatus`), its journals were audited and are sound (`DidAudit`), a workload was
+-- run in memory, and the disks are as before (`PrintsWorkload`), or a text was shown
+abbrev pub Did : {D : Type 0} → Ghosts D → Scene D → Scene D → Request → Answer → Type 0
+Did device before after (Init shape mint) answer = DidInit device before.file before.disks after.disks (Took before after answer) shape mint
+Did device before after (Run verdicts clients options) answer =
+    DidRun device before.file before.disks after.disks (Took before after answer) verdicts clients.items
+Did device before after Recover answer = DidRecover device before.disks after.disks (Took before after answer)
+Did device before after (Status hashes) answer = DidStatus device before.disks after.disks (Took before after answer) hashes.items
+Did device before after (Audit mint clients) answer =
+    DidAudit device before.file before.disks after.disks (Took before after answer) mint clients.items
+Did device before after (Gen shape seed size) answer =
+    ((n : ℕ) → after.disks.held n ≡ before.disks.held n) × PrintsWorkload (Took before after answer) shape seed size
+Did device before after (Show text) answer = Took before after answer (string_bytes text)
+
+-- why what was asked for was not done: of `init`, `run`, `recover`, `status` and `audit` a file that is the first not read, what the disks told of the
+-- ledger, a lane's fault, or what an audit found; of a workload that hashes of it clash; a text that is shown has no other cause
+abbrev pub Why : {D : Type 0} → Ghosts D → Scene D → Scene D → Request → Answer → Type 0
+Why device before after (Init shape mint) answer = WhyNoInit device before after shape mint answer
+Why device before after (Run verdicts clients options) answer = WhyNoRun device before after verdicts clients.items answer
+Why device before after Recover answer = WhyNoTurns device before.disks after.disks open_turns answer
+Why device before after (Status hashes) answer = WhyNoStatus device before.disks after.disks answer
+Why device before after (Audit mint clients) answer = WhyNoAudit device before after mint clients.items answer
+Why device before after (Gen shape seed size) answer =
+    ((n : ℕ) → after.disks.held n ≡ before.disks.held n) × WhyNoWorkload shape seed size answer
+Why device before after (Show text) answer = ⊥
+
+-- what the words ask for was done
+abbrev pub AskedDid : {D : Type 0} → Ghosts D → Scene D → Scene D → List Text → Answer → Type 0
+AskedDid device before after words answer = (r : Request) × WordsAskFor words r × Did device before after r answer
+
+-- why what the words ask for was not done
+abbrev pub AskedWhy : {D : Type 0} → Ghosts D → Scene D → Scene D → List Text → Answer → Type 0
+AskedWhy device before after words answer = (r : Request) × WordsAskFor words r × Why device before after r answer

@@ -7,13 +7,14 @@ use Rattle.cbdc_model.specs.Records.{Shape, Record}
 use Rattle.cbdc_model.specs.Coins.{Output, FullTx}
 use Rattle.cbdc_model.specs.Lanes.{IsEnd}
 use Rattle.cbdc_model.specs.World.{KeptJournals}
-use Rattle.command_line.specs.Asked.{IsAsked}
+use Rattle.command_line.specs.Asked.{WordsAskFor}
 use Rattle.requests.specs.declared.Request.{Request}
 use Rattle.requests.specs.declared.Request.TheVariants.{Run}
 use Rattle.input_files.specs.Contents.{AreRead}
 use Rattle.file_runs.specs.Runs.{joined}
 use Rattle.record_log.specs.Held.{OpensTo}
 use Rattle.rack_ledgers.specs.Racked.{OfTold}
+use Rattle.command_answers.specs.Scene.{Scene}
 use Rattle.rack_laws.specs.Shown.{AreImagesLeft, OfShown, OpenTo, node_count}
 
 -- whatever a crash leaves of the disks opens to kept journals
@@ -34,7 +35,8 @@ pub record GrewFrom {D : Type 0} (device : Ghosts D) (d : D) (E J : List Record)
 abbrev pub GrowsWhatever : {D : Type 0} → Ghosts D → (ℕ → Option D) → (ℕ → Option D) → Shape → List Output → List FullTx → (ℕ → List Record) → Type 0
 GrowsWhatever device before now K mint submissions E =
     (contents : ℕ → List ℕ) → AreImagesLeft device now K contents
-    → (X : ℕ → List Record) × OpenTo now K contents X × KeptJournals K mint submissions X × ((n : ℕ) → n < node_count K → OfTold (before n) (λ d. GrewFrom device d (E n) (X n)))
+    → (X : ℕ → List Record) × OpenTo now K contents X × KeptJournals K mint submissions X
+    × ((n : ℕ) → n < node_count K → OfTold (before n) (λ d. GrewFrom device d (E n) (X n)))
 
 -- the transactions of all client files that are to be run
 abbrev pub AreToRun : (Text → Option (List ℕ)) → Request → List FullTx → Type 0
@@ -42,12 +44,13 @@ AreToRun files (Run verdicts clients options) txs = (handed : List (List FullTx)
 AreToRun files other txs = ⊥
 
 -- it survives any crash, with those handed in besides, or with nothing
-pub record Survives {D : Type 0} (files : Text → Option (List ℕ)) (device : Ghosts D) (before now : ℕ → Option D) (words : List Text) (K : Shape) (mint : List Output) (submissions : List FullTx) (E : ℕ → List Record) : Type 0 where
+pub record Survives {D : Type 0} (device : Ghosts D) (before after : Scene D) (words : List Text) (K : Shape) (mint : List Output)
+    (submissions : List FullTx) (E : ℕ → List Record) : Type 0 where
   pub txs : List FullTx
-  pub handed_in : (txs ≡ []) ⊎ ((r : Request) × IsAsked words r × AreToRun files r txs)
-  pub grows : GrowsWhatever device before now K mint (submissions ++ txs) E
+  pub handed_in : (txs ≡ []) ⊎ ((r : Request) × WordsAskFor words r × AreToRun before.file r txs)
+  pub grows : GrowsWhatever device before.disks.held after.disks.held K mint (submissions ++ txs) E
 
 -- of the kept ledger that the disks showed: if it was kept whatever a crash left, it is so still
-abbrev pub StaysKeptWhatever : {D : Type 0} → (Text → Option (List ℕ)) → Ghosts D → (ℕ → Option D) → (ℕ → Option D) → List Text → Type 0
-StaysKeptWhatever files device before now words =
-    OfShown device before (λ K mint submissions E. IsKeptWhatever device before K mint submissions → Survives files device before now words K mint submissions E)
+abbrev pub StaysKeptWhatever : {D : Type 0} → Ghosts D → Scene D → Scene D → List Text → Type 0
+StaysKeptWhatever device before after words = OfShown device before.disks.held (λ K mint submissions E.
+    IsKeptWhatever device before.disks.held K mint submissions → Survives device before after words K mint submissions E)

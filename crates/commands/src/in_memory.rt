@@ -1,14 +1,12 @@
 // The top call over devices in memory.
-ghost use Rattle.std.specs.Prelude.{◌≡◌, ◌≤◌, ◌⊎◌, Some, length};
+ghost use Rattle.std.specs.Prelude.{◌≡◌, ◌≤◌, ◌⊎◌, length};
 ghost use Rattle.command_answers.specs.Causes.{IsWell};
-ghost use Rattle.command_answers.specs.Texts.{IsPrinted};
-ghost use Rattle.command_line.specs.Asked.{IsAsked};
+ghost use Rattle.command_line.specs.Asked.{WordsAskFor};
 ghost use Rattle.command_line.specs.Words.{texts};
 ghost use Rattle.requests.specs.declared.Request.{Request as Asked};
-ghost use Rattle.commands.specs.InMemory.{IsUnhinderedWhereSteady};
-ghost use Rattle.commands.specs.Outcomes.{Did};
-ghost use Rattle.mem_devices.specs.Named.{file_of};
-ghost use Rattle.mem_devices.specs.PlainRacks.{AllIn, disk_at, plain};
+ghost use Rattle.commands.specs.InMemory.{IsUnhinderedWhereSteady, memory_scene};
+ghost use Rattle.commands.specs.Outcomes.{AskedDid};
+ghost use Rattle.mem_devices.specs.PlainRacks.{AllIn, plain};
 
 use crate::top::{Done, process};
 use cbdc_types::Answer;
@@ -18,13 +16,13 @@ use std::alloc::Global;
 use std::sync::Wait;
 use std::thread::Threads;
 
-/// The same over files, nodes and an output in memory: a file that is there is read; the rack, which has a place for each node that a ledger may have, with
-/// a disk that never fails, stands for any rack of plain disks for all nodes of a ledger; and the output, which takes `N` bytes, fails only where it is
-/// full. So none of their counts of faults rises, but the output's at its end.
+/// The same over files, nodes and an output in memory: a file that is there is read; the rack, which has a place for each node that a ledger may have,
+/// with a disk that never fails, stands for any rack of plain disks for all nodes of a ledger; and the output, which takes `N` bytes, fails only where
+/// it is full. So none of their counts of faults rises, but the output's at its end.
 ///
 /// The same over files, nodes and an output in memory, of which none fails but an output that is full (`MemInbox`, `PlainRack`, `PlainSink`): where
-/// nothing hinders what is asked, with no premise on counts of faults (`IsUnhinderedWhereSteady`), it ends with Ok or Memory, or with WriteFault, where the output
-/// is full; what it does is `did` (`complete`, `did`, `back`). Tested in `ledger_rows` (`run.rows`), used by no other program.
+/// nothing hinders what is asked, with no premise on counts of faults (`IsUnhinderedWhereSteady`), it ends with Ok or Memory, or with WriteFault, where
+/// the output is full; what it does is `did` (`complete`, `did`, `back`). Tested in `ledger_rows` (`run.rows`), used by no other program.
 pub fn process_in_memory<const N: usize, W: Wait + Threads + Sync, G: Gate + Sync>(
     rt: &W,
     alloc: Global,
@@ -38,12 +36,15 @@ pub fn process_in_memory<const N: usize, W: Wait + Threads + Sync, G: Gate + Syn
     ensures back { AllIn result.rack }
 
     // What was done, as `process` says it.
-    ensures did { IsWell result.status → (r : Asked) × IsAsked (texts words.now) r × Did (λ name. file_of inbox.old.files.items name) plain (disk_at rack) (disk_at result.rack)
-        (IsPrinted (Some out.old.bytes.items) (Some out.new.bytes.items) result.status) r }
+    ensures did { let before = memory_scene inbox.old.files.items rack out.old.bytes.items in
+        let after = memory_scene inbox.new.files.items result.rack out.new.bytes.items in
+        IsWell result.status → AskedDid plain before after (texts words.now) result.status }
 
     // Where nothing hinders what is asked, it was done, unless memory ran out, and its lines were written, unless the output is full.
-    ensures complete { (r : Asked) → IsAsked (texts words.now) r → IsUnhinderedWhereSteady (λ name. file_of inbox.old.files.items name) plain (disk_at rack) r
-        → (result.status ≡ Answer.Ok) ⊎ ((result.status ≡ Answer.Memory) ⊎ ((result.status ≡ Answer.WriteFault) × (N ≤ length out.new.bytes.items))) }
+    ensures complete { let before = memory_scene inbox.old.files.items rack out.old.bytes.items in
+        (r : Asked) → WordsAskFor (texts words.now) r → IsUnhinderedWhereSteady plain before r
+        → (result.status ≡ Answer.Ok) ⊎ ((result.status ≡ Answer.Memory)
+        ⊎ ((result.status ≡ Answer.WriteFault) × (N ≤ length out.new.bytes.items))) }
 {
     process(rt, alloc, words, inbox, rack, out, gate)
 }

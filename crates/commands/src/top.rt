@@ -2,18 +2,18 @@
 ghost use Rattle.std.specs.Prelude.{◌≡◌, ◌≤◌, ◌⊎◌, ℕ, List, Some, MatchOption};
 ghost use Rattle.commands.specs.Texts.{IsFaultPrinted};
 ghost use Rattle.command_answers.specs.Texts.{IsPrinted, IsSilent};
-ghost use Rattle.command_line.specs.Asked.{IsRefused};
+ghost use Rattle.command_line.specs.Asked.{AreWordsRefused, WordsAskFor};
 ghost use Rattle.command_line.specs.Words.{texts};
-ghost use Rattle.command_line.specs.Asked.{IsAsked};
 ghost use Rattle.requests.specs.declared.Request.{Request as Asked};
 ghost use Rattle.commands.specs.Causes.{IsAnswerToWords, NamedRose, RequestPlace, RequestRose, AskedName, OneNamed, RequestNames};
 ghost use Rattle.command_answers.specs.Causes.{IsAnswerToRequest, HasToldCause, IsWell, OnePlace};
 ghost use Rattle.commands.specs.Complete.{IsUnhindered};
 ghost use Rattle.commands.specs.Exact.{IsEndedLater, IsExact};
 ghost use Rattle.commands.specs.Sizes.{IsSized};
-ghost use Rattle.commands.specs.Outcomes.{Did, Why};
+ghost use Rattle.commands.specs.Outcomes.{AskedDid, AskedWhy, Did, Why};
+ghost use Rattle.command_answers.specs.Scene.{scene};
 ghost use Rattle.command_answers.specs.Left.{IsBeforeDisks};
-ghost use Rattle.commands.specs.Left.{IsOfNoFile, IsOfNoRack, RequestLeaves};
+ghost use Rattle.commands.specs.Left.{AskedLeaves, IsOfNoFile, IsOfNoRack, RequestLeaves};
 ghost use Rattle.commands.specs.Spared.{AreBadOr};
 ghost use Rattle.commands.specs.Survival.{StaysKeptWhatever};
 ghost use Rattle.line_text.specs.Lines.{Text};
@@ -53,7 +53,8 @@ fn see_images<D: Disk>()
 
 // Prints a text that the words ask for.
 fn show<O: Sink>(out: &mut O, text: &str) -> Answer
-    ensures cause { IsAnswerToRequest (λ file. ⊥) (λ file. ⊥) (Rose (O.count out.old) (O.count out.new)) result }
+    ensures cause { IsAnswerToRequest (λ file. ⊥) (λ file. ⊥)
+        (Rose (O.count out.old) (O.count out.new)) result }
     ensures shown { IsWell result }
     ensures prints { IsPrinted (O.taken out.old) (O.taken out.new) result text.now }
     ensures silent { IsSilent (O.taken out.old) (O.taken out.new) result }
@@ -67,7 +68,8 @@ fn show<O: Sink>(out: &mut O, text: &str) -> Answer
 
 // The name of a client file that has a place.
 fn client_at<'a>(clients: &[FileWord<'a>], place: u64) -> Option<&'a str>
-    ensures { MatchOption result (OnePlace clients.now place → ⊥) (λ name. OneNamed clients.now place name.now) }
+    ensures { MatchOption result (OnePlace clients.now place → ⊥)
+        (λ name. OneNamed clients.now place name.now) }
 {
     'clients: for client in clients {
         if client.place == place {
@@ -101,7 +103,8 @@ fn name_at<'a>(request: &Request<'a>, place: u64) -> &'a str
 
 // The name of the file that an answer speaks of.
 fn name_of<'a>(request: &Request<'a>, answer: &Answer) -> &'a str
-    ensures { Names (λ file name. RequestPlace request.now file → RequestNames request.now file name) answer.now result.now }
+    ensures { Names (λ file name. RequestPlace request.now file → RequestNames request.now file name)
+        answer.now result.now }
 {
     match answer {
         Answer::BadInput { file, .. } => name_at(request, *file),
@@ -125,14 +128,23 @@ where
     requires all { (n : ℕ) → R.can_take rack.old n }
     requires sized { IsSized request.now }
     ensures back { (n : ℕ) → R.can_take rack.new n }
-    ensures cause { IsAnswerToRequest (RequestPlace request.now) (RequestRose request.now (I.count inbox.old) (I.count inbox.new)) (Rose (O.count out.old) (O.count out.new)) result }
-    ensures did { IsWell result → Did (I.file inbox.old) R.Disk.Disk (R.held rack.old) (R.held rack.new) (IsPrinted (O.taken out.old) (O.taken out.new) result) request.now }
-    ensures why { HasToldCause (Why (I.file inbox.old) (I.count inbox.old) (I.count inbox.new) R.Disk.Disk (R.held rack.old) (R.held rack.new) (R.count rack.old) (R.count rack.new) request.now) result }
+    ensures cause { IsAnswerToRequest (RequestPlace request.now)
+        (RequestRose request.now (I.count inbox.old) (I.count inbox.new))
+        (Rose (O.count out.old) (O.count out.new)) result }
+    ensures did { let before = scene I.Inbox R.Rack O.Sink inbox.old rack.old out.old in
+        let after = scene I.Inbox R.Rack O.Sink inbox.new rack.new out.new in
+        IsWell result → Did R.Disk.Disk before after request.now result }
+    ensures why { let before = scene I.Inbox R.Rack O.Sink inbox.old rack.old out.old in
+        let after = scene I.Inbox R.Rack O.Sink inbox.new rack.new out.new in
+        HasToldCause (Why R.Disk.Disk before after request.now) result }
     ensures untouched { IsBeforeDisks result → rack.new ≡ rack.old }
     ensures spared { IsOfNoRack request.now → rack.new ≡ rack.old }
     ensures unread { IsOfNoFile request.now → inbox.new ≡ inbox.old }
     ensures files { (name : Text) → I.file inbox.new name ≡ I.file inbox.old name }
-    ensures left { (IsWell result → ⊥) → (rack.new ≡ rack.old) ⊎ RequestLeaves (I.file inbox.old) R.Disk.Disk (R.held rack.old) (R.held rack.new) (R.count rack.old) (R.count rack.new) request.now result }
+    ensures left { let before = scene I.Inbox R.Rack O.Sink inbox.old rack.old out.old in
+        let after = scene I.Inbox R.Rack O.Sink inbox.new rack.new out.new in
+        (IsWell result → ⊥)
+        → (rack.new ≡ rack.old) ⊎ RequestLeaves R.Disk.Disk before after request.now result }
     ensures silent { IsSilent (O.taken out.old) (O.taken out.new) result }
     ensures written_later { O.count out.old ≤ O.count out.new }
 {
@@ -169,15 +181,24 @@ where
     R::Disk: Send,
     requires { (n : ℕ) → R.can_take rack.old n }
     ensures back { (n : ℕ) → R.can_take rack.new n }
-    ensures cause { IsAnswerToWords (texts words.entry.now) (I.count inbox.old) (I.count inbox.new) (Rose (O.count out.old) (O.count out.new)) result.status }
-    ensures told { IsRefused (texts words.entry.now) WordsFault.Bad → (result.status ≡ Answer.BadWords) ⊎ (result.status ≡ Answer.Memory) }
-    ensures did { IsWell result.status → (r : Asked) × IsAsked (texts words.entry.now) r × Did (I.file inbox.old) R.Disk.Disk (R.held rack.old) (R.held rack.new) (IsPrinted (O.taken out.old) (O.taken out.new) result.status) r }
-    ensures why { HasToldCause (λ a. (r : Asked) × IsAsked (texts words.entry.now) r × Why (I.file inbox.old) (I.count inbox.old) (I.count inbox.new) R.Disk.Disk (R.held rack.old) (R.held rack.new) (R.count rack.old) (R.count rack.new) r a) result.status }
+    ensures cause { IsAnswerToWords (texts words.entry.now) (I.count inbox.old) (I.count inbox.new)
+        (Rose (O.count out.old) (O.count out.new)) result.status }
+    ensures told { AreWordsRefused (texts words.entry.now) WordsFault.Bad
+        → (result.status ≡ Answer.BadWords) ⊎ (result.status ≡ Answer.Memory) }
+    ensures did { let before = scene I.Inbox R.Rack O.Sink inbox.old rack.old out.old in
+        let after = scene I.Inbox R.Rack O.Sink inbox.new rack.new out.new in
+        IsWell result.status → AskedDid R.Disk.Disk before after (texts words.entry.now) result.status }
+    ensures why { let before = scene I.Inbox R.Rack O.Sink inbox.old rack.old out.old in
+        let after = scene I.Inbox R.Rack O.Sink inbox.new rack.new out.new in
+        HasToldCause (AskedWhy R.Disk.Disk before after (texts words.entry.now)) result.status }
     ensures untouched { IsBeforeDisks result.status → rack.new ≡ rack.old }
     ensures spared { AreBadOr IsOfNoRack (texts words.entry.now) → rack.new ≡ rack.old }
     ensures unread { AreBadOr IsOfNoFile (texts words.entry.now) → inbox.new ≡ inbox.old }
     ensures files { (name : Text) → I.file inbox.new name ≡ I.file inbox.old name }
-    ensures left { (IsWell result.status → ⊥) → (rack.new ≡ rack.old) ⊎ ((r : Asked) × IsAsked (texts words.entry.now) r × RequestLeaves (I.file inbox.old) R.Disk.Disk (R.held rack.old) (R.held rack.new) (R.count rack.old) (R.count rack.new) r result.status) }
+    ensures left { let before = scene I.Inbox R.Rack O.Sink inbox.old rack.old out.old in
+        let after = scene I.Inbox R.Rack O.Sink inbox.new rack.new out.new in
+        (IsWell result.status → ⊥)
+        → (rack.new ≡ rack.old) ⊎ AskedLeaves R.Disk.Disk before after (texts words.entry.now) result.status }
     ensures named { Names (AskedName (texts words.entry.now)) result.status result.name.now }
     ensures silent { IsSilent (O.taken out.old) (O.taken out.new) result.status }
     ensures written_later { O.count out.old ≤ O.count out.new }
@@ -240,51 +261,29 @@ where
 
     // All disks of the rack may be taken again when it ends.
     ensures back { (n : ℕ) → R.can_take result.rack n }
-    // What the words ask for was done, whether its lines could be written or not: a ledger was made, files were run over one, its open
-    // batches were brought to their end, hashes were looked up, or its journals were audited and are sound. Each disk of a ledger that was
-    // made had the place for its first record. What was run over or brought to an end was a ledger that the disks told, each record of which
-    // was caused by what stood before it. Its journals, kept or not, have grown at their ends by records that are caused too, its disks have
-    // room for them and for what is kept for the batches open there, and all other disks are as before. Where all its disks tell, whatever a
-    // crash leaves of one then opens to exactly its node's journal; and where that ledger was kept besides, its batches are at their end, and
-    // where no two outputs share a hash, the headline holds of the journals at exit. The lines of each command are those of the mint and of
-    // the journals (of `run` and `recover` where that ledger was kept, at that exit too; of `gen` those of a run of its workload in memory and
-    // of the audit behind it), or at WriteFault a front. Each sound submission of a run over a kept ledger has its one place in one new
-    // Prepare, and nothing else has one; its line confirms it exactly where every shard held it, and always where its inputs are unspent when
-    // its file's wave begins and no other sound one of the file spends them. The text of a workload is one, where no hashes of it clash. Each
-    // disk of a ledger that was looked at, audited, run over or brought to an end had room for its journal and for what is kept for the
-    // batches open there. In each place of a ledger that was made, run over or brought to an end there is as much room as there was. A look
-    // and an audit change nothing: each disk reads as it did, and whatever a crash leaves of one that told its content opens to exactly the
-    // journal that was read.
-    ensures did { IsWell result.status → (r : Asked) × IsAsked (texts words.now) r × Did (I.file inbox.old) R.Disk.Disk (R.held rack) (R.held result.rack) (IsPrinted (O.taken out.old) (O.taken out.new) result.status) r }
+    // What the words ask for was done, and its lines were printed, all of them at Ok and a front at WriteFault: a ledger was made (`DidInit`), files were
+    // run over one (`DidRun`), its open batches were brought to their end (`DidRecover`), hashes were looked up (`DidStatus`), its journals were audited
+    // and are sound (`DidAudit`), or a workload was run in memory (`PrintsWorkload`). What was run over or brought to an end was a ledger that the disks
+    // told, in which each record was caused (`TookLedger` says what is left of it), and where it was kept all that `IsPrintedRun` and
+    // `IsPrintedRecovery` say is so: the headline holds of the journals at exit. A look and an audit change nothing.
+    ensures did { let before = scene I.Inbox R.Rack O.Sink inbox.old rack out.old in
+        let after = scene I.Inbox R.Rack O.Sink inbox.new result.rack out.new in
+        IsWell result.status → AskedDid R.Disk.Disk before after (texts words.now) result.status }
 
     // At every other status the sink took the line of the fault and nothing else, or, where its count rose, a front of it. At BadInput and
     // ReadFault the file has a place among the words, and the name in the line is the one that stands there (verdicts may stand behind their
     // option).
-    ensures fault_line { IsFaultPrinted (texts words.now) (O.taken out.old) (O.taken out.new) (Rose (O.count out.old) (O.count out.new)) result.status }
+    ensures fault_line { let before = scene I.Inbox R.Rack O.Sink inbox.old rack out.old in
+        let after = scene I.Inbox R.Rack O.Sink inbox.new result.rack out.new in
+        IsFaultPrinted before after (texts words.now) result.status }
 
-    // Every other answer of `init`, `run`, `recover`, `status` and `audit` but BadWords and Memory has its cause: a file that is the first not
-    // read, with its place; verdicts that are not read, where all client files are; a ledger that can't be made, by the first reason (a DiskFault
-    // only where that node's count rose, no node before it being in use); one that can't be opened, by the first node in order or (at `run` and
-    // `recover`) the first record that is not caused, and the disks are back as they were read; a lane's fault, where the disks told a ledger in
-    // which each record was caused; or, of an audit, that the one verdict of the rows of which `did` speaks is Unsound with just this place and
-    // kind: the disks had the room that is said there, hold their journals in these rows still, and are back unchanged.
-    // A lane's fault has its own cause, as of `run_on`: the count of that node, which the lane asks, rose in this call; or the numbers, or the
-    // stamp, are those of the first Lock that a prepared batch still lacks, or of the Prepare of the next piece of what the files send an idle
-    // lane. Whatever a lane wants may come next where it would stand, but for a stamp past the last one. The fault is that of the least lane that
-    // met one.
-    // It leaves this: the journals of that ledger have grown at their ends, by records that are caused too, and for them and for what is kept each
-    // disk has room, in each place as much as there was; where all disks were told each keeps its journal, with what is in flight there or without;
-    // the disks that are no nodes of it are as before. Each lane has prepared the first of the pieces that the files send it, in order, and nothing
-    // else (at a recovery, nothing), and the open batches are taken up in rising order of their lanes, before all else. Nothing was written then,
-    // or each lane is idle, or its batch lacks a Lock, or the disk of a node that it asks has failed, or its batch is prepared still, because
-    // memory ran out. A record is in flight only where the node's count rose, a Prepare only that of its lane's next piece.
-    // Of whatever kept ledger the disks showed, the journals are kept then, each by its disk, with one record more or without; whatever a crash
-    // leaves of the disks is kept; nothing of the files behind the one at which the run ended was prepared; and at every node, shards too, the
-    // records of the open batches come first and then those of one file after another.
-    // `gen` ends with Ok, WriteFault or Memory; or its audit is Unsound with just this place and kind, and then two outputs of the workload share a
-    // hash or two transactions an id. No other answer comes: the workload fits, its nodes in memory have room and stamps for all that it writes,
-    // none of them is at fault or in use, and no record is without its cause.
-    ensures why { HasToldCause (λ a. (r : Asked) × IsAsked (texts words.now) r × Why (I.file inbox.old) (I.count inbox.old) (I.count inbox.new) R.Disk.Disk (R.held rack) (R.held result.rack) (R.count rack) (R.count result.rack) r a) result.status }
+    // Every other answer but BadWords and Memory has its cause (`Why`): a file that is the first not read, with its place; a ledger that can't be made
+    // (`IsUnmade`) or opened (`IsUnopened`), by the first reason, or a record of it that is the first not caused (`IsUnresumed`), and the disks are back
+    // as they were read; a lane's fault (`IsLaneFault`), which has its own cause and leaves what is said there; or what an audit found (`WasAudited`).
+    // `gen` ends so only where its audit is Unsound, and then hashes of its workload clash (`WhyNoWorkload`).
+    ensures why { let before = scene I.Inbox R.Rack O.Sink inbox.old rack out.old in
+        let after = scene I.Inbox R.Rack O.Sink inbox.new result.rack out.new in
+        HasToldCause (AskedWhy R.Disk.Disk before after (texts words.now)) result.status }
 
     // At BadWords, BadInput, ReadFault and TooMuch the rack is as it was: no disk was taken. Tested in `ledger_rows` (`left.rows`,
     // `bad_words.rows`).
@@ -299,51 +298,51 @@ where
     // The inbox tells of each file what it told before.
     ensures files { (name : Text) → I.file inbox.new name ≡ I.file inbox.old name }
 
-    // Behind `status` and `audit` all disks are as they were read, whatever was answered: a crash leaves nothing of a disk that it could not leave
-    // before, and the disk reads as it did wherever its node's count of faults did not rise in this call.
-    // Where a run or a recovery did not come through, whatever the answer, also where memory ran out, all disks are as they were or as they were
-    // read, or all is as a lane's fault leaves it (`why`): the journals of the ledger that the disks told have grown at their ends, each lane by
-    // the first pieces that it got, in each of its places there is as much room as there was, and all other disks are as before; where it was kept
-    // it still is, whatever a crash leaves of the disks.
-    // Where a ledger was not made (any status of `init` but 0 and 11), the rack is as it was, or all disks are as they were read (so where a node
-    // is in use); or the writing of first records stopped at a node that has no room or whose disk failed, or where memory ran out: the disks of
-    // the nodes below it are unchanged, those above it hold their first records, and a crash leaves of its own no first record, or what it might
-    // have left before, or, where the disk failed, the new one alone. Tested in `left.rows`.
-    ensures left { (IsWell result.status → ⊥) → (result.rack ≡ rack) ⊎ ((r : Asked) × IsAsked (texts words.now) r × RequestLeaves (I.file inbox.old) R.Disk.Disk (R.held rack) (R.held result.rack) (R.count rack) (R.count result.rack) r result.status) }
+    // Where it was not done the rack is as it was, or: behind `status` and `audit` all disks are as they were read (`AreDisksBack`); where a run or a
+    // recovery did not come through, also where memory ran out, they are as they were read, or all is as a lane's fault leaves it (`TurnsLeave`); where a
+    // ledger was not made (any status of `init` but 0 and 11), they are as they were read, or the writing of first records stopped at a node
+    // (`InitStoppedAt`). Tested in `left.rows`.
+    ensures left { let before = scene I.Inbox R.Rack O.Sink inbox.old rack out.old in
+        let after = scene I.Inbox R.Rack O.Sink inbox.new result.rack out.new in
+        (IsWell result.status → ⊥)
+        → (result.rack ≡ rack) ⊎ AskedLeaves R.Disk.Disk before after (texts words.now) result.status }
 
     // Whatever was answered: of a kept ledger that the disks showed, and that was kept whatever a crash before the call left of them, whatever a
     // crash behind it leaves opens to kept journals, with the transactions of the files that were to be run besides or without. Each of these has
     // grown at its end from a journal that a crash before might have left of its disk: where nothing was unsynced there, from the one that it told.
-    ensures survives { StaysKeptWhatever (I.file inbox.old) R.Disk.Disk (R.held rack) (R.held result.rack) (texts words.now) }
+    ensures survives { let before = scene I.Inbox R.Rack O.Sink inbox.old rack out.old in
+        let after = scene I.Inbox R.Rack O.Sink inbox.new result.rack out.new in
+        StaysKeptWhatever R.Disk.Disk before after (texts words.now) }
 
-    // Of `run`, `recover`, `status`, `audit`: where it comes through (Ok or WriteFault), where a lane's fault ends a run or a recovery, and where
-    // an audit finds something wrong, nothing that the disks held at entry was to be refused: what is told of them opens to the journals of a
-    // ledger within its limits, and if each of its nodes' disks is told, with its content, then no node has a cause to be refused as NotReady,
-    // Damaged, Foreign or Full, whatever the counts of faults (at `audit` in the ledger of the mint that the file is told to hold), nor at `run`
-    // and `recover` any record to be the first that is not caused. So, but for a disk's fault and running out of memory, the ledger is refused only
-    // where it is so (`why`), and nothing is done over one where it is so.
-    ensures exact { (r : Asked) → IsAsked (texts words.now) r → IsWell result.status ⊎ IsEndedLater (I.file inbox.old) R.Disk.Disk (R.held rack) (R.held result.rack) (R.count rack) (R.count result.rack) r result.status
-        → IsExact (I.file inbox.old) R.Disk.Disk (R.held rack) r }
+    // Of `run`, `recover`, `status`, `audit`: where it comes through (Ok or WriteFault), where a lane's fault ends a run or a recovery, and where an
+    // audit finds something wrong (`IsEndedLater`), nothing that the disks held at entry was to be refused (`HasNoCause`): if each of the ledger's disks
+    // tells its content, no node has a cause to be refused as NotReady, Damaged, Foreign or Full, whatever the counts of faults, nor at `run` and
+    // `recover` any record to be the first that is not caused. So, but for a disk's fault and running out of memory, the ledger is refused only where it
+    // is so (`why`), and nothing is done over one where it is so.
+    ensures exact { let before = scene I.Inbox R.Rack O.Sink inbox.old rack out.old in
+        let after = scene I.Inbox R.Rack O.Sink inbox.new result.rack out.new in
+        (r : Asked) → WordsAskFor (texts words.now) r
+        → IsWell result.status ⊎ IsEndedLater R.Disk.Disk before after r result.status
+        → IsExact R.Disk.Disk before r }
 
-    // Where nothing hinders what is asked it ends with Ok or Memory, or with WriteFault, where the sink's count rose (`written`). Nothing does
-    // where no count of a file that is named or of a node of the ledger rises, all files and disks that it is about are told, and
-    // of `init` the file holds a mint whose values fit, no node is in use, and each has room for its first record and a gate;
-    // of `run` the files hold verdicts and transactions, and the disks show a kept ledger with room for every record that is still to come of its
-    // open batches and of the sound transactions, each record at its largest, and with stamps for them all up to 2^62 (`Ample`); of `recover` the
-    // same of no transactions; of `status` the same, and each hash has its 32 bytes;
-    // of `audit` the files hold the mint of the kept ledger that the disks show and transactions of which it is kept, all lanes are idle, no hashes
-    // clash, and what is used is within each disk's limit; of `gen` no hashes of its workload clash.
-    ensures complete { (r : Asked) → IsAsked (texts words.now) r → IsUnhindered (I.file inbox.old) (I.count inbox.old) (I.count inbox.new) R.Disk.Disk (R.held rack) (R.count rack) (R.count result.rack) r
+    // Where nothing hinders what is asked it ends with Ok or Memory, or with WriteFault, where the sink's count rose (`written`). Nothing does where no
+    // count of a file that is named or of a node of the ledger rises, all files and disks that it is about are told, and what `CanInit`, `CanRun`,
+    // `CanAudit` and `AreReadyFor` say of them is so (`IsUnhindered`): above all, that there is room for every record that is still to come (`Ample`).
+    ensures complete { let before = scene I.Inbox R.Rack O.Sink inbox.old rack out.old in
+        let after = scene I.Inbox R.Rack O.Sink inbox.new result.rack out.new in
+        (r : Asked) → WordsAskFor (texts words.now) r → IsUnhindered R.Disk.Disk before after r
         → IsWell result.status ⊎ (result.status ≡ Answer.Memory) }
 
     // BadWords only where the words have a mistake, or a value is out of form (as `parse` refuses them).
-    ensures bad_words { result.status ≡ Answer.BadWords → IsRefused (texts words.now) WordsFault.Bad }
+    ensures bad_words { result.status ≡ Answer.BadWords → AreWordsRefused (texts words.now) WordsFault.Bad }
 
     // Words that have a mistake, or a value out of form, end as BadWords, or as Memory where memory ran out.
-    ensures told { IsRefused (texts words.now) WordsFault.Bad → (result.status ≡ Answer.BadWords) ⊎ (result.status ≡ Answer.Memory) }
+    ensures told { AreWordsRefused (texts words.now) WordsFault.Bad
+        → (result.status ≡ Answer.BadWords) ⊎ (result.status ≡ Answer.Memory) }
 
     // ReadFault only where the words ask for a file with that place, and the inbox's count of its name rose.
-    ensures read { (file : ℕ) → result.status ≡ Answer.ReadFault file → NamedRose (texts words.now) (I.count inbox.old) (I.count inbox.new) file }
+    ensures read { (file : ℕ) → result.status ≡ Answer.ReadFault file
+        → NamedRose (texts words.now) (I.count inbox.old) (I.count inbox.new) file }
 
     // WriteFault only where the sink's count rose.
     ensures written { result.status ≡ Answer.WriteFault → Rose (O.count out.old) (O.count out.new) }

@@ -1,5 +1,5 @@
 -- What a workload's run and audit come to, over nodes in memory.
-use Rattle.std.proofs.Common.{◌≡◌, ◌⊎◌, inl, inr, ◌<◌, ◌≤◌, ◌++◌, ℕ, List, [], length, reverse, Option, Some, None, refl, sym, ap, ◌∙◌, subst, arith}
+use Rattle.std.proofs.Common.{◌≡◌, inl, inr, ◌<◌, ◌≤◌, ◌++◌, ℕ, List, [], length, reverse, Option, Some, None, refl, sym, ap, ◌∙◌, subst, arith}
 use Rattle.std.proofs.lemmas.Bool.{cases_lt}
 use Rattle.std.proofs.lemmas.List.FromFn.{length-map-range_with_len}
 use Rattle.outside.specs.declared.disk.Disk.{Ghosts}
@@ -30,12 +30,12 @@ use Rattle.audit.specs.declared.verdict.Totals.{Totals}
 use Rattle.audit.specs.declared.verdict.Verdict.{Verdict}
 use Rattle.audit.specs.declared.verdict.Verdict.TheVariants.{Sound, Unsound}
 use Rattle.audit.specs.Verdicts.{IsVerdict}
-use Rattle.rack_ledgers.specs.Caused.{IsToldHistory, IsUnresumed}
+use Rattle.rack_ledgers.specs.Caused.{IsToldHistory}
 use Rattle.rack_ledgers.specs.Audited.{IsAudited}
 use Rattle.rack_laws.specs.Shown.{Shows, HoldsEach, node_count}
-use Rattle.rack_ledgers.specs.Racked.{AreBack, SameRoom}
-use Rattle.rack_runs.specs.Endings.{EndsRun}
-use Rattle.rack_runs.specs.Runs.{IsLaneFault, PieceNext, PiecesPrepared}
+use Rattle.rack_ledgers.specs.Racked.{SameRoom}
+use Rattle.rack_runs.specs.Runs.{file_turns}
+use Rattle.rack_runs.specs.Stops.{WhyNoTurns}
 use Rattle.file_runs.specs.declared.ran.Ran.{Ran}
 use Rattle.file_runs.specs.Telling.{TellsRun}
 use Rattle.line_text.specs.Lines.{summary_text}
@@ -49,7 +49,7 @@ use Rattle.command_answers.specs.Causes.{IsAnswerToRequest}
 use Rattle.run_command.specs.Told.{IsCountable, numbers_of}
 use Rattle.gen_command.specs.Generated.{all_good, files_of, all_submissions, made_for, IsWorkloadRun, HasVerdictOf, EndsWorkload, batches_for, IsWorkloadText, IsUnsoundWorkload, WhyNoWorkload}
 use Rattle.submission_laws.specs.Files.{mint_journals}
-use Rattle.gen_command.specs.InMemory.{AreDisksReady, HaveRoomForFiles, TellsRunOf, CameTo, IsCheckedSound, IsUnchecked}
+use Rattle.gen_command.specs.InMemory.{AreDisksReady, HaveRoomForFiles, TellsRunOf, CameTo, IsCheckedSound, IsUnchecked, memory_disks}
 use Rattle.gen_command.proofs.FirstShown.{kept_journal, kept_beyond, first_kept, first_shown}
 use Rattle.gen_command.proofs.Memory.{none_rose, there}
 use Rattle.rack_laws.specs.Ready.{NoneRises, ShowsKept, limit_at}
@@ -158,17 +158,14 @@ module _ (K : Shape) (mint : List Output) (few_coins : length mint ≤ 1000000) 
     ready = record { limits = limits; shown = shows; kept = first_kept K mint limits few_coins }
 
     -- its files are run, unless memory runs out
-    pub unrun : (a : Answer)
-        → (IsUnresumed plain (disk_at mid) (faults_at mid.misses) (faults_at new.misses) a × AreBack plain (faults_at mid.misses) (faults_at new.misses) (disk_at mid) (disk_at new))
-        ⊎ IsLaneFault plain (disk_at mid) (disk_at new) (faults_at mid.misses) (faults_at new.misses) (PieceNext all_good files) (EndsRun all_good files) (PiecesPrepared all_good files) files a
-        → a ≡ answers.Memory
+    pub unrun : (a : Answer) → WhyNoTurns plain (memory_disks mid) (memory_disks new) (file_turns all_good files) a → a ≡ answers.Memory
     unrun a (inl (inl unopened, back)) =
         unopened_none plain (disk_at mid) (faults_at mid.misses) (faults_at new.misses) K mint [] (mint_journals K mint) ready
         (ample_rooms K mint [] (mint_journals K mint) (λ n. limit_at plain (disk_at mid n)) limits (first_kept K mint limits few_coins) (sound_by all_good) files ample) (none_rises mid new) None a tt unopened
     unrun a (inl (inr (inl unsound), back)) = absurd (unsound_none plain (disk_at mid) K mint [] (mint_journals K mint) ready a unsound)
     unrun a (inl (inr (inr memory), back)) = memory
     unrun a (inr fault) =
-        run_none plain (disk_at mid) (disk_at new) (faults_at mid.misses) (faults_at new.misses) K mint [] (mint_journals K mint) ready (none_rises mid new) all_good files ample a fault
+        run_none plain (memory_disks mid) (memory_disks new) K mint [] (mint_journals K mint) ready (none_rises mid new) all_good files ample a fault
 
 -- ---- a workload's run and audit
 

@@ -1,6 +1,6 @@
 -- What `gen` comes to: a ledger of the workload's mint is made in nodes of its own, the workload's files are run over it, and it is audited.
 use Rattle.std.specs.List.{range_with_len}
-use Rattle.std.specs.Prelude.{◌≡◌, ◌⊎◌, ◌+◌, ◌-◌, ◌*◌, ◌/◌, ◌++◌, ℕ, zero, suc, length, List, reverse}
+use Rattle.std.specs.Prelude.{◌≡◌, ◌+◌, ◌-◌, ◌*◌, ◌/◌, ◌++◌, ℕ, zero, suc, length, List, reverse}
 use Rattle.line_text.specs.Lines.{Text, summary_text}
 use Rattle.cbdc_types.specs.declared.answer.Answer.{Answer}
 use Rattle.cbdc_types.specs.declared.answer.Answer.TheVariants as answers
@@ -94,7 +94,8 @@ pub record IsUnsoundWorkload (K : Shape) (seed n place : ℕ) (kind : UnsoundKin
   pub audited : HasVerdictOf K (mint_of seed n) (all_submissions seed n) exit (Unsound place kind)
   pub unclean : Clean (mint_of seed n) (all_submissions seed n) → ⊥
 
--- why a workload was not done: its audit found something wrong, or memory ran out
+-- why a workload was not done: its audit found something wrong, or memory ran out. No other answer comes: the workload fits, its nodes in memory have
+-- room and stamps for all that it writes, none of them is at fault or in use, and no record is without its cause
 abbrev pub WhyNoWorkload : Shape → ℕ → ℕ → Answer → Type 0
 WhyNoWorkload K seed n (answers.Unsound place kind) = IsUnsoundWorkload K seed n place kind
 WhyNoWorkload K seed n answers.Memory = Unit {0}

@@ -17,6 +17,7 @@ use Rattle.ledger_init.specs.Made.{node_count, first_record_of}
 use Rattle.audit.specs.declared.verdict.Totals.{Totals}
 use Rattle.audit.specs.declared.verdict.Verdict.TheVariants.{Sound}
 use Rattle.rack_ledgers.specs.Audited.{IsAudited}
+use Rattle.command_answers.specs.Scene.{Disks}
 use Rattle.rack_runs.specs.Telling.{IsRunTold}
 use Rattle.file_runs.specs.declared.ran.Ran.{Ran}
 use Rattle.workload.specs.Generator.{mint_of}
@@ -24,6 +25,10 @@ use Rattle.audit_command.specs.Audits.{IsUnsoundBy, WhyUnopened}
 use Rattle.run_command.specs.Told.{IsCountable, numbers_of}
 use Rattle.gen_command.specs.Generated.{all_good, all_submissions, IsWorkloadRun, HasVerdictOf, EndsWorkload}
 use Rattle.submission_laws.specs.Files.{mint_journals}
+
+-- the disks of a rack in memory, which never fail in the 80 places that it has
+abbrev pub memory_disks : PlainRack → Disks PlainDisk
+memory_disks rack = record { held = disk_at rack; faults = faults_at rack.misses }
 
 -- empty disks, each with room for the first record of its node
 pub record AreDisksReady (K : Shape) (mint : List Output) (rack : PlainRack) : Type 0 where
@@ -56,4 +61,4 @@ IsCheckedSound rack mint handed totals = IsAudited plain (disk_at rack) mint han
 abbrev pub IsUnchecked : PlainRack → PlainRack → List Output → List FullTx → Answer → Type 0
 IsUnchecked old new mint handed answer =
     IsUnsoundBy (IsAudited plain (disk_at old) mint handed) answer
-    ⊎ WhyUnopened plain (disk_at old) (faults_at old.misses) (faults_at new.misses) mint answer
+    ⊎ WhyUnopened plain (memory_disks old) (memory_disks new) mint answer

@@ -67,7 +67,8 @@ fn rack_of(alloc: Global, shape: &Shape, count: u32) -> Result<PlainRack, AllocE
     requires { count ≤ 10000 }
     ensures limits { IsWithinLimits shape.now }
     ensures all { IfOk result AllIn }
-    ensures empty { IfOk result (λ r. (n : ℕ) → n < node_count shape.now → IsEmptyAt r (4096 + 400 * count) n) }
+    ensures empty { IfOk result (λ r. (n : ℕ) → n < node_count shape.now
+        → IsEmptyAt r (4096 + 400 * count) n) }
 {
     let nodes = shape.coordinators() + shape.shards();
     PlainRack::new(alloc, nodes, 4096 + 400 * count as usize)
@@ -188,8 +189,10 @@ pub fn generated<W: Wait + Threads + Sync, O: Sink, G: Gate + Sync>(
     gate: &G,
 ) -> Answer
     requires { count ≤ 10000 }
-    ensures cause { IsAnswerToRequest (λ file. ⊥) (λ file. ⊥) (Rose (O.count out.old) (O.count out.new)) result }
-    ensures did { IsWell result → PrintsWorkload (IsPrinted (O.taken out.old) (O.taken out.new) result) shape.now seed count }
+    ensures cause { IsAnswerToRequest (λ file. ⊥) (λ file. ⊥)
+        (Rose (O.count out.old) (O.count out.new)) result }
+    ensures did { IsWell result
+        → PrintsWorkload (IsPrinted (O.taken out.old) (O.taken out.new) result) shape.now seed count }
     ensures why { HasToldCause (WhyNoWorkload shape.now seed count) result }
     ensures silent { IsSilent (O.taken out.old) (O.taken out.new) result }
     ensures written_later { O.count out.old ≤ O.count out.new }

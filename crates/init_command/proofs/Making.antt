@@ -13,18 +13,19 @@ use Rattle.ledger_init.specs.declared.making.Made.{Made}
 use Rattle.line_text.specs.Lines.{Text, init_text}
 use Rattle.cbdc_model.specs.History.{minted}
 use Rattle.record_log.specs.Held.{OpensTo}
+use Rattle.command_answers.specs.Scene.{Disks}
 use Rattle.rack_ledgers.specs.Racked.{SameRoom}
 use Rattle.ledger_laws.proofs.FirstJournals.{first_is}
 use Rattle.init_command.specs.Outcomes.{DidInit}
 use Rattle.submission_laws.specs.Files.{mint_journals}
 
-module _ {D : Type 0} (files : Text → Option (List ℕ)) (device : Ghosts D) (before now : ℕ → Option D) (shape : Shape) (file : FileWord) (mint : List Output)
+module _ {D : Type 0} (device : Ghosts D) (files : Text → Option (List ℕ)) (before after : Disks D) (shape : Shape) (file : FileWord) (mint : List Output)
     (read : Tells (files file.name.now) (λ c. mint_of_file c ≡ Ok mint)) where
-  pub made_did : {E : Type 0} (r : Result Made E) → IfOk r (λ m. (m.coins ≡ length mint) × (m.total ≡ value_out mint) × (m.genesis ≡ genesis_id mint)) → OnOk r (MayBeMade shape mint device before)
-      → OnOk r ((n : ℕ) → n < node_count shape → HasPlaceFor shape mint device before n)
-      → OnOk r ((n : ℕ) → n < node_count shape → HoldsFirst device (first_record_of shape mint n) (before n) (now n))
-      → OnOk r ((n : ℕ) → n < node_count shape → SameRoom device (before n) (now n)) → ((n : ℕ) → node_count shape ≤ n → now n ≡ before n)
-      → IfOk r (λ m. DidInit files device before now (λ text. init_text m.coins m.total m.genesis ≡ text) shape file)
+  pub made_did : {E : Type 0} (r : Result Made E) → IfOk r (λ m. (m.coins ≡ length mint) × (m.total ≡ value_out mint) × (m.genesis ≡ genesis_id mint)) → OnOk r (MayBeMade shape mint device before.held)
+      → OnOk r ((n : ℕ) → n < node_count shape → HasPlaceFor shape mint device before.held n)
+      → OnOk r ((n : ℕ) → n < node_count shape → HoldsFirst device (first_record_of shape mint n) (before.held n) (after.held n))
+      → OnOk r ((n : ℕ) → n < node_count shape → SameRoom device (before.held n) (after.held n)) → ((n : ℕ) → node_count shape ≤ n → after.held n ≡ before.held n)
+      → IfOk r (λ m. DidInit device files before after (λ text. init_text m.coins m.total m.genesis ≡ text) shape file)
   made_did (Ok m) made was places holds rooms outside = record {
     mint = mint;
     read = read;

@@ -3,7 +3,6 @@ use Rattle.std.proofs.Common.{◌≡◌, ◌⊎◌, inr, ℕ, List, Option, Resu
 use Rattle.std.specs.Prelude.{IfErr}
 use Rattle.outside.specs.Images.{Tells}
 use Rattle.outside.specs.declared.disk.Disk.{Ghosts}
-use Rattle.line_text.specs.Lines.{Text}
 use Rattle.cbdc_types.specs.declared.answer.Answer.{Answer}
 use Rattle.cbdc_types.specs.declared.answer.Answer.TheVariants as answers
 use Rattle.cbdc_model.specs.Records.{Shape}
@@ -11,6 +10,7 @@ use Rattle.cbdc_model.specs.Coins.{Output}
 use Rattle.requests.specs.declared.FileWord.{FileWord}
 use Rattle.input_files.specs.Contents.{mint_of_file}
 use Rattle.ledger_init.specs.Made.{IsUnmade, AreDisksLeft}
+use Rattle.command_answers.specs.Scene.{Scene}
 use Rattle.command_answers.specs.Left.{IsBeforeDisks}
 use Rattle.init_command.specs.Outcomes.{InitLeaves}
 
@@ -38,7 +38,7 @@ pub unmade_same : {D T : Type 0} (K : Shape) (mint : List Output) (device : Ghos
 unmade_same K mint device held before now P (Ok made) un same = tt
 unmade_same K mint device held before now P (Err e) un same = too_much_alone K mint device held before now P e un same
 
-pub unmade_left : {D T : Type 0} (files : Text → Option (List ℕ)) (device : Ghosts D) (before now : ℕ → Option D) (disks_before disks_now : ℕ → ℕ) (shape : Shape) (file : FileWord) (mint : List Output) (P : Type 0) (r : Result T Answer)
-    → Tells (files file.name.now) (λ c. mint_of_file c ≡ Ok mint) → IfErr r (AreDisksLeft shape mint device before now disks_before disks_now) → IfErr r (λ e. P ⊎ InitLeaves files device before now disks_before disks_now shape file e)
-unmade_left files device before now disks_before disks_now shape file mint P (Ok made) read left = tt
-unmade_left files device before now disks_before disks_now shape file mint P (Err e) read left = inr (mint, read, left)
+pub unmade_left : {D T : Type 0} (device : Ghosts D) (before after : Scene D) (shape : Shape) (file : FileWord) (mint : List Output) (P : Type 0) (r : Result T Answer)
+    → Tells (before.file file.name.now) (λ c. mint_of_file c ≡ Ok mint) → IfErr r (AreDisksLeft shape mint device before.disks.held after.disks.held before.disks.faults after.disks.faults) → IfErr r (λ e. P ⊎ InitLeaves device before after shape file e)
+unmade_left device before after shape file mint P (Ok made) read left = tt
+unmade_left device before after shape file mint P (Err e) read left = inr (mint, read, left)

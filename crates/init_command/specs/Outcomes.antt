@@ -9,35 +9,45 @@ use Rattle.cbdc_model.specs.Coins.{Output}
 use Rattle.cbdc_model.specs.World.{KeptJournals}
 use Rattle.record_log.specs.Held.{OpensTo}
 use Rattle.requests.specs.declared.FileWord.{FileWord}
+use Rattle.command_answers.specs.Scene.{Disks, Scene}
 use Rattle.input_files.specs.Contents.{mint_of_file, IsNotRead}
 use Rattle.ledger_init.specs.Made.{MayBeMade, HasPlaceFor, HoldsFirst, first_record_of, node_count, IsUnmade, AreDisksLeft}
 use Rattle.printed_lines.specs.Reports.{init_lines}
 use Rattle.rack_ledgers.specs.Racked.{OfTold, SameRoom}
 use Rattle.submission_laws.specs.Files.{mint_journals}
 
--- the file held a mint, no node was in use, each node's disk had the place for its first record and holds it alone, and so does whatever a crash leaves
--- of one that told its content, and each has as much room as the disk that was in its place, while all other disks are as before; the first records are
--- a kept ledger of the mint, to which nothing was handed in yet; and this was printed
-pub record DidInit {D : Type 0} (files : Text → Option (List ℕ)) (device : Ghosts D) (before now : ℕ → Option D) (printed : Text → Type 0) (shape : Shape) (file : FileWord) : Type 0 where
+-- a ledger was made of the mint in a file
+pub record DidInit {D : Type 0} (device : Ghosts D) (files : Text → Option (List ℕ)) (before after : Disks D) (printed : Text → Type 0)
+    (shape : Shape) (file : FileWord) : Type 0 where
+  -- the file held this mint
   pub mint : List Output
   pub read : Tells (files file.name.now) (λ c. mint_of_file c ≡ Ok mint)
-  pub was : MayBeMade shape mint device before
-  pub places : (n : ℕ) → n < node_count shape → HasPlaceFor shape mint device before n
-  pub holds : (n : ℕ) → n < node_count shape → HoldsFirst device (first_record_of shape mint n) (before n) (now n)
-  pub opens : (n : ℕ) → n < node_count shape
-      → OfTold (before n) (λ was. OfTold (now n) (λ d. IsSome (device.content was) → (c : List ℕ) → device.images d c → OpensTo (reverse (mint_journals shape mint n)) c))
-  pub rooms : (n : ℕ) → n < node_count shape → SameRoom device (before n) (now n)
-  pub outside : (n : ℕ) → node_count shape ≤ n → now n ≡ before n
+  -- no node was in use, and each node's disk had the place for its first record
+  pub was : MayBeMade shape mint device before.held
+  pub places : (n : ℕ) → n < node_count shape → HasPlaceFor shape mint device before.held n
+  -- it holds that record alone, and so does whatever a crash leaves of one that told its content
+  pub holds : (n : ℕ) → n < node_count shape → HoldsFirst device (first_record_of shape mint n) (before.held n) (after.held n)
+  pub opens : (n : ℕ) → n < node_count shape → OfTold (before.held n) (λ was. OfTold (after.held n) (λ d.
+      IsSome (device.content was) → (c : List ℕ) → device.images d c → OpensTo (reverse (mint_journals shape mint n)) c))
+  -- each has as much room as the disk that was in its place, and all other disks are as before
+  pub rooms : (n : ℕ) → n < node_count shape → SameRoom device (before.held n) (after.held n)
+  pub outside : (n : ℕ) → node_count shape ≤ n → after.held n ≡ before.held n
+  -- the first records are a kept ledger of the mint, to which nothing was handed in yet
   pub kept : KeptJournals shape mint [] (mint_journals shape mint)
+  -- how many coins the mint has, what they come to and its id were printed
   pub prints : printed (init_lines mint)
 
--- the file holds no mint, or the ledger could not be made of the one that it holds
-abbrev pub WhyNoInit : {D : Type 0} → (Text → Option (List ℕ)) → (Text → ℕ) → (Text → ℕ) → Ghosts D → (ℕ → Option D) → (ℕ → ℕ) → (ℕ → ℕ) → Shape → FileWord → Answer → Type 0
-WhyNoInit files files_before files_now device disks disks_before disks_now shape file answer =
-    IsNotRead file.place (files file.name.now) mint_of_file (files_before file.name.now) (files_now file.name.now) answer
-    ⊎ ((mint : List Output) × Tells (files file.name.now) (λ c. mint_of_file c ≡ Ok mint) × IsUnmade shape mint device disks disks_before disks_now answer)
+-- the file holds no mint, or the ledger could not be made of the one that it holds, by the first reason that there is (`IsUnmade`): the mint's values
+-- come to too much; a node is in use, all before it not being so; a node's disk failed, so that its count rose, no node before it being in use; or, no
+-- node being in use, a disk has no room for its first record, all above it having room
+abbrev pub WhyNoInit : {D : Type 0} → Ghosts D → Scene D → Scene D → Shape → FileWord → Answer → Type 0
+WhyNoInit device before after shape file answer =
+    IsNotRead file.place (before.file file.name.now) mint_of_file (before.file_faults file.name.now) (after.file_faults file.name.now) answer
+    ⊎ ((mint : List Output) × Tells (before.file file.name.now) (λ c. mint_of_file c ≡ Ok mint)
+    × IsUnmade shape mint device before.disks.held before.disks.faults after.disks.faults answer)
 
 -- the file holds a mint, whose ledger was not made: all disks are as they were read, or the writing of first records stopped at a node
-abbrev pub InitLeaves : {D : Type 0} → (Text → Option (List ℕ)) → Ghosts D → (ℕ → Option D) → (ℕ → Option D) → (ℕ → ℕ) → (ℕ → ℕ) → Shape → FileWord → Answer → Type 0
-InitLeaves files device before now disks_before disks_now shape file answer =
-    (mint : List Output) × Tells (files file.name.now) (λ c. mint_of_file c ≡ Ok mint) × AreDisksLeft shape mint device before now disks_before disks_now answer
+abbrev pub InitLeaves : {D : Type 0} → Ghosts D → Scene D → Scene D → Shape → FileWord → Answer → Type 0
+InitLeaves device before after shape file answer =
+    (mint : List Output) × Tells (before.file file.name.now) (λ c. mint_of_file c ≡ Ok mint)
+    × AreDisksLeft shape mint device before.disks.held after.disks.held before.disks.faults after.disks.faults answer

@@ -1,6 +1,7 @@
 // `init`: the first records of a ledger.
 ghost use Rattle.std.specs.Prelude.{◌≡◌, ◌≤◌, ◌⊎◌, ℕ, IfOk, IfErr};
 ghost use Rattle.outside.specs.Counts.{Rose};
+ghost use Rattle.command_answers.specs.Scene.{disks_in, no_output, scene};
 ghost use Rattle.command_answers.specs.Causes.{IsReadOrNodeFault, IsAnswerToRequest, HasToldCause, IsWell, FileRose};
 ghost use Rattle.init_command.specs.Outcomes.{DidInit, WhyNoInit, InitLeaves};
 ghost use Rattle.command_answers.specs.Texts.{IsPrinted, IsSilent};
@@ -25,11 +26,18 @@ fn make<I: Inbox, R: Rack>(
     rack: &mut R,
 ) -> Result<Made, Answer>
     requires { (n : ℕ) → R.can_take rack.old n }
-    ensures made { IfOk result (λ m. DidInit (I.file inbox.old) R.Disk.Disk (R.held rack.old) (R.held rack.new) (λ text. init_text m.coins m.total m.genesis ≡ text) shape.now file.now) }
-    ensures why { IfErr result (WhyNoInit (I.file inbox.old) (I.count inbox.old) (I.count inbox.new) R.Disk.Disk (R.held rack.old) (R.count rack.old) (R.count rack.new) shape.now file.now) }
-    ensures fault { IfErr result (IsReadOrNodeFault (λ place. place ≡ file.now.place) (FileRose (I.count inbox.old) (I.count inbox.new) file.now)) }
+    ensures made { IfOk result (λ m. DidInit R.Disk.Disk (I.file inbox.old)
+        (disks_in R.Rack rack.old) (disks_in R.Rack rack.new)
+        (λ text. init_text m.coins m.total m.genesis ≡ text) shape.now file.now) }
+    ensures why { let before = scene I.Inbox R.Rack no_output inbox.old rack.old tt in
+        let after = scene I.Inbox R.Rack no_output inbox.new rack.new tt in
+        IfErr result (WhyNoInit R.Disk.Disk before after shape.now file.now) }
+    ensures fault { IfErr result (IsReadOrNodeFault (λ place. place ≡ file.now.place)
+        (FileRose (I.count inbox.old) (I.count inbox.new) file.now)) }
     ensures untouched { IfErr result (λ e. IsBeforeDisks e → rack.new ≡ rack.old) }
-    ensures left { IfErr result (λ e. (rack.new ≡ rack.old) ⊎ InitLeaves (I.file inbox.old) R.Disk.Disk (R.held rack.old) (R.held rack.new) (R.count rack.old) (R.count rack.new) shape.now file.now e) }
+    ensures left { let before = scene I.Inbox R.Rack no_output inbox.old rack.old tt in
+        let after = scene I.Inbox R.Rack no_output inbox.new rack.new tt in
+        IfErr result (λ e. (rack.new ≡ rack.old) ⊎ InitLeaves R.Disk.Disk before after shape.now file.now e) }
     ensures files { (name : Text) → I.file inbox.new name ≡ I.file inbox.old name }
     ensures back { (n : ℕ) → R.can_take rack.new n }
 {
@@ -62,13 +70,22 @@ pub fn init<I: Inbox, R: Rack, O: Sink>(
     out: &mut O,
 ) -> Answer
     requires { (n : ℕ) → R.can_take rack.old n }
-    ensures cause { IsAnswerToRequest (λ place. place ≡ file.now.place) (FileRose (I.count inbox.old) (I.count inbox.new) file.now) (Rose (O.count out.old) (O.count out.new)) result }
-    ensures did { IsWell result → DidInit (I.file inbox.old) R.Disk.Disk (R.held rack.old) (R.held rack.new) (IsPrinted (O.taken out.old) (O.taken out.new) result) shape.now file.now }
-    ensures why { HasToldCause (WhyNoInit (I.file inbox.old) (I.count inbox.old) (I.count inbox.new) R.Disk.Disk (R.held rack.old) (R.count rack.old) (R.count rack.new) shape.now file.now) result }
+    ensures cause { IsAnswerToRequest (λ place. place ≡ file.now.place)
+        (FileRose (I.count inbox.old) (I.count inbox.new) file.now)
+        (Rose (O.count out.old) (O.count out.new)) result }
+    ensures did { IsWell result → DidInit R.Disk.Disk (I.file inbox.old)
+        (disks_in R.Rack rack.old) (disks_in R.Rack rack.new)
+        (IsPrinted (O.taken out.old) (O.taken out.new) result) shape.now file.now }
+    ensures why { let before = scene I.Inbox R.Rack O.Sink inbox.old rack.old out.old in
+        let after = scene I.Inbox R.Rack O.Sink inbox.new rack.new out.new in
+        HasToldCause (WhyNoInit R.Disk.Disk before after shape.now file.now) result }
     ensures silent { IsSilent (O.taken out.old) (O.taken out.new) result }
     ensures written_later { O.count out.old ≤ O.count out.new }
     ensures untouched { IsBeforeDisks result → rack.new ≡ rack.old }
-    ensures left { (IsWell result → ⊥) → (rack.new ≡ rack.old) ⊎ InitLeaves (I.file inbox.old) R.Disk.Disk (R.held rack.old) (R.held rack.new) (R.count rack.old) (R.count rack.new) shape.now file.now result }
+    ensures left { let before = scene I.Inbox R.Rack O.Sink inbox.old rack.old out.old in
+        let after = scene I.Inbox R.Rack O.Sink inbox.new rack.new out.new in
+        (IsWell result → ⊥)
+        → (rack.new ≡ rack.old) ⊎ InitLeaves R.Disk.Disk before after shape.now file.now result }
     ensures files { (name : Text) → I.file inbox.new name ≡ I.file inbox.old name }
     ensures back { (n : ℕ) → R.can_take rack.new n }
 {

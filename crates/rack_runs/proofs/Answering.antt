@@ -12,6 +12,7 @@ use Rattle.lane_driver.specs.declared.fault.LaneFault.{LaneFault}
 use Rattle.lane_driver.specs.declared.fault.LaneFaultKind.{LaneFaultKind}
 use Rattle.lane_driver.specs.declared.fault.LaneFaultKind.TheVariants.{DiskFault as DiskStopped, Full as NoRoom, ClockEnd as NoStamp, Memory as NoMemory}
 use Rattle.node_journal.specs.Nodes.{NodeOf}
+use Rattle.command_answers.specs.Scene.{Disks}
 use Rattle.rack_ledgers.specs.Racked.{OfTold, SameRoom}
 use Rattle.rack_ledgers.specs.Ledgers.{ByPlace, AreOpened}
 use Rattle.rack_ledgers.specs.Caused.{listed_journals as lent_journals, AreCaused}
@@ -24,8 +25,8 @@ use Rattle.rack_laws.specs.Shown.{OfShown, HoldsEach, HaveRoom, node_count}
 use Rattle.rack_runs.proofs.Behind.{are_quiet, is_ledger, none_fly, keeps_flights, holds_each, rooms_each, told_stored, may_hold, have_risen}
 use Rattle.rack_runs.specs.Kinds.{answer_at, answer_to, IsLaneAnswer, MayComeNext}
 use Rattle.rack_runs.specs.Endings.{IsLeastAnswer}
-use Rattle.rack_runs.specs.Runs.{IsCutShort, KeepsFlights, IsLaneFault, TookLedger}
-use Rattle.rack_runs.specs.Works.{Deed, FitsBatch, BeginsWork, EndsWork, LeavesAll, AllBadly, AreSeen}
+use Rattle.rack_runs.specs.Runs.{IsCutShort, KeepsFlights, IsLaneFault, MayHold, RoseAt, TookLedger}
+use Rattle.rack_runs.specs.Works.{Deed, FitsBatch, BeginsWork, EndsWork, LeavesAll, AllBadly, AreSeen, work_turns}
 use Rattle.rack_runs.proofs.Checking.{same_journals}
 use Rattle.rack_runs.proofs.Wanted.{wanted_inside, wants_there, stays_caused}
 
@@ -40,7 +41,7 @@ answered K next E X failed holds e h = go e.fault h
     go (NoStamp stamp) h = h
     go NoMemory h = tt
 
--- a work that a lane's fault ended, or for which memory was wanting: its answer has its cause, and is the least lane's
+-- a work that a lane's fault ended, or for which memory ran out: its answer has its cause, and is the least lane's
 pub came_badly : {T Done : Type 0} (d : Deed Done) (K : Shape) (E X : ℕ → List Record) (failed : ℕ → Type 0) (holds : ℕ → ℕ → Type 0) (told : Result T Answer) (came : Result Done LaneFault)
     → IfErr told (λ a. (a ≡ answers.Memory) ⊎ ((e : LaneFault) × (came ≡ Err e) × (a ≡ answer_to e))) → IfErr came (AllBadly d K E X failed holds)
     → IfErr told (λ a. IsLaneAnswer K (d.next K E X) E X failed holds a × IsLeastAnswer (EndsWork d K E X failed holds) a)
@@ -207,7 +208,7 @@ module _ {D : Type 0} (device : Ghosts D) (held back : ℕ → Option D) (h g : 
       (HaveFailed (opened_of h.shape logs shards) (faults_of h.shape now after)) (MayHoldBytes (capacity_of h.shape logs shards))) a
       → HaveRoom device held h.shape (node_journals h.shape logs shards) → ((n : ℕ) → n < node_count h.shape → SameRoom device (held n) (back n)) → HaveCheckedJournals h.shape now after
       → OfShown device held (IsCutShort device back d.handed (node_journals h.shape now after)) → ((n : ℕ) → node_count h.shape ≤ n → back n ≡ held n)
-      → IsLaneFault device held back before behind d.next (EndsWork d) (BeginsWork d) d.handed a
+      → IsLaneFault device (record { held = held; faults = before }) (record { held = back; faults = behind }) (work_turns d) a
   lane_fault d fits leaves flown a cause least room same_room checked kept spared =
       let K : Shape = h.shape in
       let E : ℕ → List Record = node_journals h.shape logs shards in
@@ -247,13 +248,14 @@ module _ {D : Type 0} (device : Ghosts D) (held back : ℕ → Option D) (h g : 
       }
 
 -- the same fault, said in other words of whose it is and of what has been begun
-pub fault_as : {D : Type 0} (device : Ghosts D) (held back : ℕ → Option D) (before now : ℕ → ℕ)
+pub fault_as : {D : Type 0} (device : Ghosts D) (before after : Disks D)
     (next : Shape → (ℕ → List Record) → (ℕ → List Record) → ℕ → List Compact → Type 0) (ends others : Shape → (ℕ → List Record) → (ℕ → List Record) → (ℕ → Type 0) → (ℕ → ℕ → Type 0) → LaneFault → Type 0)
     (begun starts : Shape → (ℕ → List Record) → (ℕ → List Record) → Type 0) (handed : List (List FullTx))
     → ((K : Shape) (E X : ℕ → List Record) (failed : ℕ → Type 0) (holds : ℕ → ℕ → Type 0) (e : LaneFault) → ends K E X failed holds e → others K E X failed holds e)
     → ((K : Shape) (E X : ℕ → List Record) → begun K E X → starts K E X)
-    → (a : Answer) → IsLaneFault device held back before now next ends begun handed a → IsLaneFault device held back before now next others starts handed a
-fault_as device held back before now next ends others begun starts handed ends_as begun_as a f =
+    → (a : Answer) → IsLaneFault device before after (record { handed = handed; next = next; ends = ends; begun = begun }) a
+    → IsLaneFault device before after (record { handed = handed; next = next; ends = others; begun = starts }) a
+fault_as device before after next ends others begun starts handed ends_as begun_as a f =
     let E : ℕ → List Record = λ n. journal n (reverse f.ledger.rows) in
     record {
       ledger = f.ledger;
@@ -277,8 +279,8 @@ fault_as device held back before now next ends others begun starts handed ends_a
     }
   where
     Whose : (Shape → (ℕ → List Record) → (ℕ → List Record) → (ℕ → Type 0) → (ℕ → ℕ → Type 0) → LaneFault → Type 0) → Type 0
-    Whose which = IsLeastAnswer (which f.ledger.shape (λ n. journal n (reverse f.ledger.rows)) f.exit (λ n. Rose (before n) (now n)) (λ n c. OfTold (held n) (λ d. c ≡ device.limit d))) a
+    Whose which = IsLeastAnswer (which f.ledger.shape (λ n. journal n (reverse f.ledger.rows)) f.exit (RoseAt before after) (MayHold device before)) a
 
     go : Whose ends → Whose others
     go (inl memory) = inl memory
-    go (inr (e, is, so)) = inr (e, is, ends_as f.ledger.shape (λ n. journal n (reverse f.ledger.rows)) f.exit (λ n. Rose (before n) (now n)) (λ n c. OfTold (held n) (λ d. c ≡ device.limit d)) e so)
+    go (inr (e, is, so)) = inr (e, is, ends_as f.ledger.shape (λ n. journal n (reverse f.ledger.rows)) f.exit (RoseAt before after) (MayHold device before) e so)

@@ -116,9 +116,9 @@ module _ {D Done : Type 0} (device : Ghosts D) (held : ℕ → Option D) (h g : 
     same_room : (n : ℕ) → n < node_count h.shape → SameRoom device (held n) (back n)
     same_room = rooms_same device held back h logs now shards after are g shape is seen logs_back shards_back capacity_at
 
-    -- what came of it, and what that leaves of the disks
+    -- the result, and what that leaves of the disks
     pub done : (told : Result (Told Done) Answer) → IfErr told (λ a. (a ≡ answers.Memory) ⊎ ((e : LaneFault) × (came ≡ Err e) × (a ≡ answer_to e))) → IfOk told (λ t. (t.resumed.items ≡ resumed) × (came ≡ Ok t.done))
-        → IfOk told (λ t. CountAll (map (λ s. s.journal) after) t.unspent) → AllNextFit deed → HasDoneWork device held back before behind deed told
+        → IfOk told (λ t. CountAll (map (λ s. s.journal) after) t.unspent) → AllNextFit deed → HasDoneWork device (record { held = held; faults = before }) (record { held = back; faults = behind }) deed told
     done (Ok t) fault same unspent fits =
         let quiet : AreQuiet logs shards → AreQuiet now after = when_whole came t.done same.1 ran.quiet in
         record {
@@ -149,18 +149,18 @@ module _ {D Done : Type 0} (device : Ghosts D) (deed : Deed Done) (e : AtEntry D
 
   as_many : (length now ≡ length e.logs) × (length after ≡ length e.shards)
   as_many = (
-    logs_are device e.held e.header g e.logs now e.shards after deed resumed came has.begun.nodes is seen there,
-    shards_are device e.held e.header g e.logs now e.shards after deed resumed came has.begun.nodes is seen there,
+    logs_are device e.disks.held e.header g e.logs now e.shards after deed resumed came has.begun.nodes is seen there,
+    shards_are device e.disks.held e.header g e.logs now e.shards after deed resumed came has.begun.nodes is seen there,
   )
 
   pub close_few : length now + length after < 2 ^ 32
   close_few = omega (arith, has.begun.few, as_many.0, as_many.1)
 
   pub close_logs : EachFrom (MayReturn (λ x. device.count x.disk) can_put) 0 now
-  close_logs = logs_may device e.held e.header g e.logs now e.shards after deed resumed came has.begun.nodes is seen there can_put has.begun.logs
+  close_logs = logs_may device e.disks.held e.header g e.logs now e.shards after deed resumed came has.begun.nodes is seen there can_put has.begun.logs
 
   pub close_shards : EachFrom (MayReturn (λ x. device.count x.disk) can_put) (length now) after
-  close_shards = shards_may device e.held e.header g e.logs now e.shards after deed resumed came has.begun.nodes is seen there can_put has.begun.shards
+  close_shards = shards_may device e.disks.held e.header g e.logs now e.shards after deed resumed came has.begun.nodes is seen there can_put has.begun.shards
 
   pub close_others : (n : ℕ) → length now + length after ≤ n → can_take n
   close_others n le = has.begun.others_in n (omega (arith, le, as_many.0, as_many.1))
@@ -168,21 +168,21 @@ module _ {D Done : Type 0} (device : Ghosts D) (deed : Deed Done) (e : AtEntry D
   pub closed : (back : ℕ → Option D) → ByPlace (λ n l. OfTold (back n) (λ d. d ≡ l.disk)) now → ByPlace (λ s x. OfTold (back (length now + s)) (λ d. d ≡ x.disk)) after → (counts : ℕ → ℕ)
       → ByPlace (λ n l. device.count l.disk ≤ counts n) now → ByPlace (λ s x. device.count x.disk ≤ counts (length now + s)) after → ((n : ℕ) → length now + length after ≤ n → back n ≡ middle n)
       → (told : Result (Told Done) Answer) → IfErr told (λ a. (a ≡ answers.Memory) ⊎ ((f : LaneFault) × (came ≡ Err f) × (a ≡ answer_to f))) → IfOk told (λ t. (t.resumed.items ≡ resumed) × (came ≡ Ok t.done))
-      → IfOk told (λ t. CountAll (map (λ s. s.journal) after) t.unspent) → AllNextFit deed → HasDoneWork device e.held back e.before counts deed told
+      → IfOk told (λ t. CountAll (map (λ s. s.journal) after) t.unspent) → AllNextFit deed → HasDoneWork device e.disks (record { held = back; faults = counts }) deed told
   closed back logs_back shards_back counts logs_counted shards_counted others_put told fault same unspent fits =
-      done device e.held e.header g e.logs now e.shards after deed resumed came has.begun.nodes is seen there has.begun.caused middle back logs_back shards_back e.before counts
+      done device e.disks.held e.header g e.logs now e.shards after deed resumed came has.begun.nodes is seen there has.begun.caused middle back logs_back shards_back e.disks.faults counts
       has.begun.logs_since has.begun.shards_since logs_counted shards_counted has.begun.others others_put told fault same unspent fits
 
 -- ---- as it is opened
 
 abbrev pub at_entry : {D : Type 0} → (ℕ → Option D) → (ℕ → ℕ) → Header → List (NodeOf D) → List (NodeOf D) → AtEntry D
-at_entry held before h logs shards = record { held = held; before = before; header = h; logs = logs; shards = shards }
+at_entry held before h logs shards = record { disks = record { held = held; faults = before }; header = h; logs = logs; shards = shards }
 
 module _ {D : Type 0} (device : Ghosts D) (e : AtEntry D) (middle : ℕ → Option D) (can_put : ℕ → ℕ → Type 0) (can_take : ℕ → Type 0) where
-  pub is_open : AreOpened device e.held e.header e.logs e.shards → AreCaused e.header.shape (lent_journals e.logs e.shards) → length e.logs + length e.shards < 2 ^ 32
-      → ByPlace (λ n x. e.before n ≤ device.count x.disk) e.logs → ByPlace (λ s x. e.before (e.header.shape.coordinators + s) ≤ device.count x.disk) e.shards
+  pub is_open : AreOpened device e.disks.held e.header e.logs e.shards → AreCaused e.header.shape (lent_journals e.logs e.shards) → length e.logs + length e.shards < 2 ^ 32
+      → ByPlace (λ n x. e.disks.faults n ≤ device.count x.disk) e.logs → ByPlace (λ s x. e.disks.faults (e.header.shape.coordinators + s) ≤ device.count x.disk) e.shards
       → EachFrom (MayReturn (λ x. device.count x.disk) can_put) 0 e.logs → EachFrom (MayReturn (λ x. device.count x.disk) can_put) (length e.logs) e.shards
-      → ((n : ℕ) → length e.logs + length e.shards ≤ n → middle n ≡ e.held n) → ((n : ℕ) → length e.logs + length e.shards ≤ n → can_take n) → IsLedgerOpened device e middle can_put can_take
+      → ((n : ℕ) → length e.logs + length e.shards ≤ n → middle n ≡ e.disks.held n) → ((n : ℕ) → length e.logs + length e.shards ≤ n → can_take n) → IsLedgerOpened device e middle can_put can_take
   is_open nodes caused few logs_since shards_since logs shards others others_in = record {
     nodes = nodes;
     caused = caused;

@@ -1,6 +1,5 @@
 -- A lane of a kept ledger that a rack shows stops for no reason but that memory ran out, where there is room and no disk fails.
-use Rattle.std.proofs.Common.{◌≡◌, ℕ, ◌+◌, ◌<◌, true, false, Bool, List, [], ◌∷◌, ◌++◌, reverse, Option, Some, refl, sym, ap, ◌∙◌, subst, arith}
-use Rattle.outside.specs.Counts.{Rose}
+use Rattle.std.proofs.Common.{◌≡◌, ℕ, ◌+◌, ◌<◌, true, false, Bool, List, [], ◌∷◌, ◌++◌, reverse, Some, refl, sym, ap, ◌∙◌, subst, arith}
 use Rattle.outside.specs.declared.disk.Disk.{Ghosts}
 use Rattle.cbdc_types.specs.Limits.{IsWithinLimits}
 use Rattle.cbdc_types.specs.declared.answer.Answer.{Answer}
@@ -19,17 +18,14 @@ use Rattle.run_laws.proofs.Room.{prepare_room_law, lock_room_law}
 use Rattle.submissions.specs.Checks.{VerdictsOf}
 use Rattle.submissions.specs.SoundTest.{sound_by}
 use Rattle.submissions.proofs.Telling.{is_sound_law}
-use Rattle.lane_driver.specs.declared.fault.LaneFault.{LaneFault}
 use Rattle.ledger_runs.specs.Turning.{IsLaneOf}
-use Rattle.ledger_runs.specs.Least.{IsLeastOpen}
 use Rattle.ledger_runs.specs.Faults.{IsWanted, wants_prepare, wants_lock, HasNoRoomFor, HasNoStampFor}
 use Rattle.file_runs.specs.Runs.{joined, AreFilesPieces}
-use Rattle.rack_ledgers.specs.Racked.{OfTold}
+use Rattle.command_answers.specs.Scene.{Disks}
 use Rattle.rack_laws.specs.Shown.{node_count}
 use Rattle.rack_runs.specs.Kinds.{IsLaneAnswer}
 use Rattle.rack_runs.proofs.Wanted.{wanted_inside}
-use Rattle.rack_runs.specs.Endings.{EndsRun}
-use Rattle.rack_runs.specs.Runs.{IsGrown, IsLaneFault, NonePrepared, NothingNext, PieceNext, PiecesPrepared}
+use Rattle.rack_runs.specs.Runs.{IsGrown, IsLaneFault, MayHold, RoseAt, Turns, file_turns, open_turns}
 use Rattle.rack_laws.specs.Ready.{NoneRises, ShowsKept, limit_at}
 use Rattle.rack_laws.proofs.Caused.{told_shape, told_journals}
 
@@ -96,55 +92,54 @@ module _ (K : Shape) (mint : List Output) (sound : FullTx → Bool) (capacity : 
 
 -- ---- on a rack
 
-module _ {D : Type 0} (device : Ghosts D) (held back : ℕ → Option D) (before now : ℕ → ℕ)
-    (K : Shape) (mint : List Output) (submissions : List FullTx) (E : ℕ → List Record) (ready : ShowsKept device held K mint submissions E) (steady : NoneRises K before now)
-    (sound : FullTx → Bool) (files : List (List FullTx)) (ample : Ample K sound (λ n. limit_at device (held n)) files E) where
-  may_hold : (n c : ℕ) → n < node_count K → OfTold (held n) (λ d. c ≡ device.limit d) → c ≡ limit_at device (held n)
+module _ {D : Type 0} (device : Ghosts D) (before after : Disks D)
+    (K : Shape) (mint : List Output) (submissions : List FullTx) (E : ℕ → List Record) (ready : ShowsKept device before.held K mint submissions E) (steady : NoneRises K before.faults after.faults)
+    (sound : FullTx → Bool) where
+  may_hold : (n c : ℕ) → n < node_count K → MayHold device before n c → c ≡ limit_at device (before.held n)
   may_hold n c inside told = let s = ready.shown n inside in told s.0 s.1 ∙ ap (limit_at device) (sym s.1)
 
-  module _ (next : Shape → (ℕ → List Record) → (ℕ → List Record) → ℕ → List Compact → Type 0) (ends : Shape → (ℕ → List Record) → (ℕ → List Record) → (ℕ → Type 0) → (ℕ → ℕ → Type 0) → LaneFault → Type 0)
-      (begun : Shape → (ℕ → List Record) → (ℕ → List Record) → Type 0)
-      (lefts : (X : ℕ → List Record) → ((lane : ℕ) (txs : List Compact) → IsLaneOf K lane → next K E X lane txs → (left : List (List Compact)) × HasLeft K sound files E X lane (txs ∷ left))
-      × (begun K E X → (lane : ℕ) → IsLaneOf K lane → (left : List (List Compact)) × HasLeft K sound files E X lane left)) where
+  module _ (turns : Turns) (ample : Ample K sound (λ n. limit_at device (before.held n)) turns.handed E)
+      (lefts : (X : ℕ → List Record) → ((lane : ℕ) (txs : List Compact) → IsLaneOf K lane → turns.next K E X lane txs → (left : List (List Compact)) × HasLeft K sound turns.handed E X lane (txs ∷ left))
+      × (turns.begun K E X → (lane : ℕ) → IsLaneOf K lane → (left : List (List Compact)) × HasLeft K sound turns.handed E X lane left)) where
     -- from the journals themselves
-    from_these : (X : ℕ → List Record) → IsGrown K mint (submissions ++ joined files) E X → begun K E X → (a : Answer)
-        → IsLaneAnswer K (next K E X) E X (λ n. Rose (before n) (now n)) (λ n c. OfTold (held n) (λ d. c ≡ device.limit d)) a → a ≡ answers.Memory
+    from_these : (X : ℕ → List Record) → IsGrown K mint (submissions ++ joined turns.handed) E X → turns.begun K E X → (a : Answer)
+        → IsLaneAnswer K (turns.next K E X) E X (RoseAt before after) (MayHold device before) a → a ≡ answers.Memory
     from_these X grown prepared a cause =
-        let way : IsUnderway K (minted mint) sound files E X = record {
+        let way : IsUnderway K (minted mint) sound turns.handed E X = record {
           old = kept_is_checked_law K mint submissions E ready.kept;
-          new = kept_is_checked_law K mint (submissions ++ joined files) X grown.kept;
+          new = kept_is_checked_law K mint (submissions ++ joined turns.handed) X grown.kept;
           grows = grown.grows;
           lanes = (lefts X).1 prepared;
         } in
-        answer_none K mint sound (λ n. limit_at device (held n)) files E X ready.limits ample way (next K E X) (lefts X).0 (λ n. Rose (before n) (now n)) (λ n c. OfTold (held n) (λ d. c ≡ device.limit d)) steady may_hold a cause
+        answer_none K mint sound (λ n. limit_at device (before.held n)) turns.handed E X ready.limits ample way (turns.next K E X) (lefts X).0 (RoseAt before after) (MayHold device before) steady may_hold a cause
 
-    pub fault_none : (a : Answer) → IsLaneFault device held back before now next ends begun files a → a ≡ answers.Memory
+    pub fault_none : (a : Answer) → IsLaneFault device before after turns a → a ≡ answers.Memory
     fault_none a fault =
-        let shape : fault.ledger.shape ≡ K = told_shape device held K mint submissions E ready fault.ledger.shape fault.ledger.genesis fault.ledger.rows fault.ledger.history in
-        let journals : (λ n. journal n (reverse fault.ledger.rows)) ≡ E = λ i n. told_journals device held K mint submissions E ready fault.ledger.shape fault.ledger.genesis fault.ledger.rows fault.ledger.history n i in
-        let grown : IsGrown K mint (submissions ++ joined files) E fault.exit = (fault.kept K mint submissions E ready.limits ready.shown ready.kept).grown in
-        subst (λ k. (L : ℕ → List Record) → L ≡ E → begun k L fault.exit
-        → IsLaneAnswer k (next k L fault.exit) L fault.exit (λ n. Rose (before n) (now n)) (λ n c. OfTold (held n) (λ d. c ≡ device.limit d)) a → a ≡ answers.Memory) (sym shape)
-        (λ L same. subst (λ J. begun K J fault.exit
-        → IsLaneAnswer K (next K J fault.exit) J fault.exit (λ n. Rose (before n) (now n)) (λ n c. OfTold (held n) (λ d. c ≡ device.limit d)) a → a ≡ answers.Memory) (sym same)
+        let shape : fault.ledger.shape ≡ K = told_shape device before.held K mint submissions E ready fault.ledger.shape fault.ledger.genesis fault.ledger.rows fault.ledger.history in
+        let journals : (λ n. journal n (reverse fault.ledger.rows)) ≡ E = λ i n. told_journals device before.held K mint submissions E ready fault.ledger.shape fault.ledger.genesis fault.ledger.rows fault.ledger.history n i in
+        let grown : IsGrown K mint (submissions ++ joined turns.handed) E fault.exit = (fault.kept K mint submissions E ready.limits ready.shown ready.kept).grown in
+        subst (λ k. (L : ℕ → List Record) → L ≡ E → turns.begun k L fault.exit
+        → IsLaneAnswer k (turns.next k L fault.exit) L fault.exit (RoseAt before after) (MayHold device before) a → a ≡ answers.Memory) (sym shape)
+        (λ L same. subst (λ J. turns.begun K J fault.exit
+        → IsLaneAnswer K (turns.next K J fault.exit) J fault.exit (RoseAt before after) (MayHold device before) a → a ≡ answers.Memory) (sym same)
         (λ prepared cause. from_these fault.exit grown prepared a cause))
         (λ n. journal n (reverse fault.ledger.rows)) journals fault.prepared fault.cause
 
 -- of a recovery
-pub recovery_none : {D : Type 0} (device : Ghosts D) (held back : ℕ → Option D) (before now : ℕ → ℕ)
-    (K : Shape) (mint : List Output) (submissions : List FullTx) (E : ℕ → List Record) → ShowsKept device held K mint submissions E → NoneRises K before now
-    → (sound : FullTx → Bool) → Ample K sound (λ n. limit_at device (held n)) [] E → (a : Answer) → IsLaneFault device held back before now NothingNext IsLeastOpen NonePrepared [] a → a ≡ answers.Memory
-recovery_none device held back before now K mint submissions E ready steady sound ample a fault =
-    fault_none device held back before now K mint submissions E ready steady sound [] ample NothingNext IsLeastOpen NonePrepared
+pub recovery_none : {D : Type 0} (device : Ghosts D) (before after : Disks D)
+    (K : Shape) (mint : List Output) (submissions : List FullTx) (E : ℕ → List Record) → ShowsKept device before.held K mint submissions E → NoneRises K before.faults after.faults
+    → (sound : FullTx → Bool) → Ample K sound (λ n. limit_at device (before.held n)) [] E → (a : Answer) → IsLaneFault device before after open_turns a → a ≡ answers.Memory
+recovery_none device before after K mint submissions E ready steady sound ample a fault =
+    fault_none device before after K mint submissions E ready steady sound open_turns ample
     (λ X. ((λ lane txs lt nothing. absurd nothing), (λ none lane lt. ([], record { done = []; cut = refl; prepares = none.0 lane lt })))) a fault
 
 -- of a run
-pub run_none : {D : Type 0} (device : Ghosts D) (held back : ℕ → Option D) (before now : ℕ → ℕ)
-    (K : Shape) (mint : List Output) (submissions : List FullTx) (E : ℕ → List Record) → ShowsKept device held K mint submissions E → NoneRises K before now
-    → (verdicts : VerdictsOf) (files : List (List FullTx)) → Ample K (sound_by verdicts) (λ n. limit_at device (held n)) files E → (a : Answer)
-    → IsLaneFault device held back before now (PieceNext verdicts files) (EndsRun verdicts files) (PiecesPrepared verdicts files) files a → a ≡ answers.Memory
-run_none device held back before now K mint submissions E ready steady verdicts files ample a fault =
-    fault_none device held back before now K mint submissions E ready steady (sound_by verdicts) files ample (PieceNext verdicts files) (EndsRun verdicts files) (PiecesPrepared verdicts files)
+pub run_none : {D : Type 0} (device : Ghosts D) (before after : Disks D)
+    (K : Shape) (mint : List Output) (submissions : List FullTx) (E : ℕ → List Record) → ShowsKept device before.held K mint submissions E → NoneRises K before.faults after.faults
+    → (verdicts : VerdictsOf) (files : List (List FullTx)) → Ample K (sound_by verdicts) (λ n. limit_at device (before.held n)) files E → (a : Answer)
+    → IsLaneFault device before after (file_turns verdicts files) a → a ≡ answers.Memory
+run_none device before after K mint submissions E ready steady verdicts files ample a fault =
+    fault_none device before after K mint submissions E ready steady (sound_by verdicts) (file_turns verdicts files) ample
     (λ X. (
       (λ lane txs lt piece.
           (let (pieces, are, next) = piece (sound_by verdicts) (is_sound_law verdicts) in (

@@ -1,6 +1,5 @@
 -- The ledger that a rack showed, behind a run.
-use Rattle.std.proofs.Common.{◌≡◌, ◌⊎◌, ◌∷◌, ℕ, ◌+◌, ◌-◌, ◌<◌, ◌≤◌, inl, inr, List, [], ◌++◌, length, reverse, Option, Some, None, refl, sym, ap, ◌∙◌, subst, arith}
-use Rattle.std.proofs.lemmas.Bool.{cases_lt}
+use Rattle.std.proofs.Common.{◌≡◌, ◌⊎◌, ◌∷◌, ℕ, ◌+◌, ◌-◌, ◌<◌, ◌≤◌, inl, inr, List, [], ◌++◌, length, reverse, Option, Some, None, refl, sym, ap, ◌∙◌, subst}
 use Rattle.std.proofs.lemmas.List.{append-nil}
 use Rattle.cbdc_types.specs.Limits.{IsWithinLimits}
 use Rattle.cbdc_model.specs.Records.{Shape, Header, Record}
@@ -23,7 +22,7 @@ use Rattle.node_journal.specs.Nodes.{NodeOf}
 use Rattle.rack_ledgers.specs.Ledgers.{ByPlace, AreOpened}
 use Rattle.rack_ledgers.specs.Racked.{OfTold}
 use Rattle.rack_laws.specs.Shown.{Shows, OfShown, KeepsEach, HoldsEach, OpenTo, HaveRoom, node_count}
-use Rattle.rack_laws.proofs.Opened.{at_place, same_shape, same_journals, logs_held, shards_held}
+use Rattle.rack_laws.proofs.Opened.{same_shape, same_journals, logs_held, shards_held}
 use Rattle.rack_runs.proofs.Behind.{node_there, are_quiet, none_fly, keeps_each, keeps_flights, holds_each, rooms_each, fits_each}
 use Rattle.rack_laws.proofs.Rooms.{room_behind}
 use Rattle.rack_laws.proofs.Crashed.{crashed}
@@ -40,7 +39,7 @@ use Rattle.rack_runs.specs.Telling.{CountAll}
 use Rattle.rack_runs.specs.declared.told.Told.{Told}
 use Rattle.rack_runs.specs.Works.{Deed, AllWell, AreSeen, HasEndedWork}
 use Rattle.rack_runs.proofs.Unspent.{unspent_counted}
-use Rattle.std.specs.Prelude.{map, All, IfSome}
+use Rattle.std.specs.Prelude.{map, IfSome}
 use Rattle.outside.specs.declared.disk.Disk.{Ghosts}
 
 -- kept journals have nothing beyond the ledger's nodes

@@ -6,7 +6,8 @@ use Rattle.cbdc_types.specs.declared.answer.Answer.TheVariants as answers
 use Rattle.cbdc_model.specs.Records.{Shape, Record}
 use Rattle.cbdc_model.specs.Coins.{genesis_id}
 use Rattle.rack_ledgers.specs.Places.{EachFrom, MayReturn}
-use Rattle.rack_ledgers.specs.Racked.{OfTold, AreUnchanged, AreBack}
+use Rattle.rack_ledgers.specs.Racked.{OfTold, AreUnchanged}
+use Rattle.command_answers.specs.Scene.{AreDisksBack}
 use Rattle.rack_ledgers.proofs.Told.{same_back}
 use Rattle.rack_ledgers.specs.Ledgers.{ByPlace}
 use Rattle.rack_ledgers.proofs.CausedTold.{told_history}
@@ -46,15 +47,15 @@ module _ {D : Type 0} (device : Ghosts D) (e : AtEntry D) (middle : ℕ → Opti
     back_others = subst (λ (x : LedgerOf D). (n : ℕ) → length x.logs + length x.shards ≤ n → can_take n) (sym same) begun.others_in
 
     module _ (back : ℕ → Option D) (put : ArePut middle back l) where
-      unchanged : AreUnchanged device e.held back
+      unchanged : AreUnchanged device e.disks.held back
       unchanged =
           let p : ArePut middle back (entry_ledger e) = subst (ArePut middle back) same put in
-          all_same device e.held middle back e.header e.logs e.shards begun.nodes begun.others p.logs p.shards p.others
+          all_same device e.disks.held middle back e.header e.logs e.shards begun.nodes begun.others p.logs p.shards p.others
 
-      are_back : (now : ℕ → ℕ) → AreBack device e.before now e.held back
-      are_back now n = same_back device (e.before n) (now n) (e.held n) (back n) (unchanged n)
+      are_back : (now : ℕ → ℕ) → AreDisksBack device e.disks (record { held = back; faults = now })
+      are_back now n = same_back device (e.disks.faults n) (now n) (e.disks.held n) (back n) (unchanged n)
 
-      refused : (test : Test) (answer : Answer) → test.refuses first.header.shape (ledger_journals first) answer → IsTestRefused device e.held back test answer
+      refused : (test : Test) (answer : Answer) → test.refuses first.header.shape (ledger_journals first) answer → IsTestRefused device e.disks.held back test answer
       refused test answer told =
           let own : test.refuses e.header.shape (ledger_journals (entry_ledger e)) answer = subst (λ (x : LedgerOf D). test.refuses x.header.shape (ledger_journals x) answer) made told in
           record {
@@ -62,22 +63,22 @@ module _ {D : Type 0} (device : Ghosts D) (e : AtEntry D) (middle : ℕ → Opti
               shape = e.header.shape;
               genesis = e.header.genesis;
               rows = begun.caused.rows;
-              history = told_history device e.held e.header e.logs e.shards begun.nodes begun.caused.rows begun.caused.merged;
+              history = told_history device e.disks.held e.header e.logs e.shards begun.nodes begun.caused.rows begun.caused.merged;
               caused = begun.caused.caused;
             };
-            refused = subst (λ J. test.refuses e.header.shape J answer) (λ i n. same_journals device e.held e.header e.logs e.shards begun.nodes begun.caused n i) own;
+            refused = subst (λ J. test.refuses e.header.shape J answer) (λ i n. same_journals device e.disks.held e.header e.logs e.shards begun.nodes begun.caused n i) own;
             unchanged = unchanged;
           }
 
       -- the test refused the ledger, or there was no memory for it
       pub not_begun : {Done : Type 0} (d : Deed Done) (test : Test) (now : ℕ → ℕ) (answer : Answer) → (answer ≡ answers.Memory) ⊎ test.refuses first.header.shape (ledger_journals first) answer
-          → WhyNotBegun device e.held back e.before now d test answer
+          → WhyNotBegun device e.disks (record { held = back; faults = now }) d test answer
       not_begun d test now answer (inl memory) = inl (inl (inr (inr memory), are_back now))
       not_begun d test now answer (inr told) = inr (refused test answer told)
 
   -- what holds of the opened ledger holds of whatever kept ledger the rack showed
-  pub passed_shown : (P : Shape → (ℕ → List Record) → Type 0) → P e.header.shape (ledger_journals (entry_ledger e)) → OfShown device e.held (λ K mint submissions E. P K E)
+  pub passed_shown : (P : Shape → (ℕ → List Record) → Type 0) → P e.header.shape (ledger_journals (entry_ledger e)) → OfShown device e.disks.held (λ K mint submissions E. P K E)
   passed_shown P told K mint submissions E within shows kept =
       let there : P K (node_journals K e.logs e.shards) =
-      subst (λ S. P S (node_journals S e.logs e.shards)) (same_shape device e.held e.header e.logs e.shards begun.nodes K (genesis_id mint) E within shows) told in
-      subst (P K) (λ i n. shown_journals device e.held e.header e.logs e.shards begun.nodes K (genesis_id mint) E within shows (beyond K mint submissions E kept) n i) there
+      subst (λ S. P S (node_journals S e.logs e.shards)) (same_shape device e.disks.held e.header e.logs e.shards begun.nodes K (genesis_id mint) E within shows) told in
+      subst (P K) (λ i n. shown_journals device e.disks.held e.header e.logs e.shards begun.nodes K (genesis_id mint) E within shows (beyond K mint submissions E kept) n i) there

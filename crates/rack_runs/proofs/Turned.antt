@@ -1,16 +1,14 @@
 -- Where transactions over a ledger did not come through, disks were taken, and all was not done.
-use Rattle.std.proofs.Common.{◌≡◌, ◌⊎◌, ⊎_elim, inl, inr, ℕ, List, reverse, Option, None, sym, subst}
-use Rattle.outside.specs.Counts.{Rose}
+use Rattle.std.proofs.Common.{⊎_elim, inl, inr, ℕ, List, reverse, Option, None, sym, subst}
 use Rattle.outside.specs.declared.disk.Disk.{Ghosts}
 use Rattle.cbdc_types.specs.declared.answer.Answer.{Answer}
 use Rattle.cbdc_types.specs.declared.answer.Answer.TheVariants as answers
 use Rattle.cbdc_model.specs.Records.{Shape, Compact, Record, journal}
-use Rattle.cbdc_model.specs.Coins.{FullTx}
-use Rattle.lane_driver.specs.declared.fault.LaneFault.{LaneFault}
-use Rattle.rack_ledgers.specs.Racked.{OfTold}
+use Rattle.command_answers.specs.Scene.{Disks}
 use Rattle.rack_ledgers.specs.Ledgers.{IsUnopened}
 use Rattle.rack_ledgers.proofs.Lacks.{unopened_kind}
 use Rattle.rack_runs.specs.Kinds.{IsLaneAnswer}
+use Rattle.rack_runs.specs.Runs.{MayHold, RoseAt, Turns}
 use Rattle.rack_runs.specs.Stops.{WhyNoTurns, TurnsLeave}
 use Rattle.command_answers.specs.Causes.{IsWell}
 use Rattle.command_answers.specs.Left.{IsBeforeDisks}
@@ -44,26 +42,23 @@ module _ {D : Type 0} (device : Ghosts D) where
   pub not_unopened : (held : ℕ → Option D) (before now : ℕ → ℕ) (a : Answer) → IsUnopened device held before now a → IsBeforeDisks a → ⊥
   not_unopened held before now a is = not_refused a (unopened_kind device held before now None a is)
 
-  pub not_turned : (held new : ℕ → Option D) (before now : ℕ → ℕ) (next : Shape → (ℕ → List Record) → (ℕ → List Record) → ℕ → List Compact → Type 0)
-      (ends : Shape → (ℕ → List Record) → (ℕ → List Record) → (ℕ → Type 0) → (ℕ → ℕ → Type 0) → LaneFault → Type 0) (begun : Shape → (ℕ → List Record) → (ℕ → List Record) → Type 0) (handed : List (List FullTx)) (a : Answer) → WhyNoTurns device held new before now next ends begun handed a → IsBeforeDisks a → ⊥
-  not_turned held new before now next ends begun handed a is =
-      ⊎_elim
-      (λ unopened. ⊎_elim (λ closed. not_unopened held before now a closed)
-      (λ other. ⊎_elim (λ unsound. subst (λ b. IsBeforeDisks b → ⊥) (sym unsound.told) (λ none. none)) (λ memory. subst (λ b. IsBeforeDisks b → ⊥) (sym memory) (λ none. none)) other) unopened.0)
-      (λ lane. not_by_lane lane.ledger.shape (next lane.ledger.shape (λ n. journal n (reverse lane.ledger.rows)) lane.exit) (λ n. journal n (reverse lane.ledger.rows)) lane.exit (λ n. Rose (before n) (now n)) (λ n c. OfTold (held n) (λ d. c ≡ device.limit d)) a lane.cause) is
+  module _ (before after : Disks D) (turns : Turns) (a : Answer) where
+    pub not_turned : WhyNoTurns device before after turns a → IsBeforeDisks a → ⊥
+    not_turned is =
+        ⊎_elim
+        (λ unopened. ⊎_elim (λ closed. not_unopened before.held before.faults after.faults a closed)
+        (λ other. ⊎_elim (λ unsound. subst (λ b. IsBeforeDisks b → ⊥) (sym unsound.told) (λ none. none)) (λ memory. subst (λ b. IsBeforeDisks b → ⊥) (sym memory) (λ none. none)) other) unopened.0)
+        (λ lane. not_by_lane lane.ledger.shape (turns.next lane.ledger.shape (λ n. journal n (reverse lane.ledger.rows)) lane.exit) (λ n. journal n (reverse lane.ledger.rows)) lane.exit (RoseAt before after) (MayHold device before) a lane.cause) is
 
-  -- where a run or a recovery did not come through, all was not done
-  pub not_done : (held new : ℕ → Option D) (before now : ℕ → ℕ) (next : Shape → (ℕ → List Record) → (ℕ → List Record) → ℕ → List Compact → Type 0)
-      (ends : Shape → (ℕ → List Record) → (ℕ → List Record) → (ℕ → Type 0) → (ℕ → ℕ → Type 0) → LaneFault → Type 0) (begun : Shape → (ℕ → List Record) → (ℕ → List Record) → Type 0) (handed : List (List FullTx)) (a : Answer) → WhyNoTurns device held new before now next ends begun handed a → IsWell a → ⊥
-  not_done held new before now next ends begun handed a is =
-      ⊎_elim
-      (λ unopened. ⊎_elim (λ closed. refused_alone a (unopened_kind device held before now None a closed))
-      (λ other. ⊎_elim (λ unsound. subst (λ b. IsWell b → ⊥) (sym unsound.told) (λ none. none)) (λ memory. subst (λ b. IsWell b → ⊥) (sym memory) (λ none. none)) other) unopened.0)
-      (λ lane. lane_alone lane.ledger.shape (next lane.ledger.shape (λ n. journal n (reverse lane.ledger.rows)) lane.exit) (λ n. journal n (reverse lane.ledger.rows)) lane.exit (λ n. Rose (before n) (now n)) (λ n c. OfTold (held n) (λ d. c ≡ device.limit d)) a lane.cause) is
+    -- where a run or a recovery did not come through, all was not done
+    pub not_done : WhyNoTurns device before after turns a → IsWell a → ⊥
+    not_done is =
+        ⊎_elim
+        (λ unopened. ⊎_elim (λ closed. refused_alone a (unopened_kind device before.held before.faults after.faults None a closed))
+        (λ other. ⊎_elim (λ unsound. subst (λ b. IsWell b → ⊥) (sym unsound.told) (λ none. none)) (λ memory. subst (λ b. IsWell b → ⊥) (sym memory) (λ none. none)) other) unopened.0)
+        (λ lane. lane_alone lane.ledger.shape (turns.next lane.ledger.shape (λ n. journal n (reverse lane.ledger.rows)) lane.exit) (λ n. journal n (reverse lane.ledger.rows)) lane.exit (RoseAt before after) (MayHold device before) a lane.cause) is
 
-  -- what it leaves
-  pub turns_leave : (held new : ℕ → Option D) (before now : ℕ → ℕ) (next : Shape → (ℕ → List Record) → (ℕ → List Record) → ℕ → List Compact → Type 0)
-      (ends : Shape → (ℕ → List Record) → (ℕ → List Record) → (ℕ → Type 0) → (ℕ → ℕ → Type 0) → LaneFault → Type 0) (begun : Shape → (ℕ → List Record) → (ℕ → List Record) → Type 0) (handed : List (List FullTx)) (a : Answer) → WhyNoTurns device held new before now next ends begun handed a
-      → TurnsLeave device held new before now next ends begun handed a
-  turns_leave held new before now next ends begun handed a (inl (why, back)) = inl back
-  turns_leave held new before now next ends begun handed a (inr fault) = inr fault
+    -- what it leaves
+    pub turns_leave : WhyNoTurns device before after turns a → TurnsLeave device before after turns a
+    turns_leave (inl (why, back)) = inl back
+    turns_leave (inr fault) = inr fault

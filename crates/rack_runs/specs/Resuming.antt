@@ -1,5 +1,5 @@
--- What the resuming of a ledger's lanes came to.
-use Rattle.std.specs.Prelude.{◌⊎◌, ℕ, ◌*◌, List, Option, Result, IfOk, IfErr, OnOk}
+-- The result of resuming a ledger's lanes.
+use Rattle.std.specs.Prelude.{◌⊎◌, ℕ, ◌*◌, Result, IfOk, IfErr, OnOk}
 use Rattle.std.specs.Global.{Vec}
 use Rattle.outside.specs.declared.disk.Disk.{Ghosts}
 use Rattle.cbdc_model.specs.Lanes.{IsEnd}
@@ -14,7 +14,7 @@ use Rattle.ledger_runs.specs.Telling.{TellResumed, SamePrepared}
 use Rattle.ledger_runs.specs.Faults.{TakesInOrder, IsRunCause, AllRestOrWait, HaveFailed, MayHoldBytes, Nothing}
 use Rattle.file_runs.specs.Ledgers.{LedgerOf, ledger_journals, ledger_flights, ledger_faults, ledger_opened, ledger_capacity, IsChecked, IsLedgerQuiet, KeepsLedgerOf}
 
--- The open batches of a ledger were brought to their end, or a lane met a fault: what the ledger is behind that, and what came of it.
+-- The open batches of a ledger were brought to their end, or a lane met a fault: what the ledger is behind that, and the result.
 pub record HasResumed {D : Type 0} (device : Ghosts D) (before now : LedgerOf D)
     (came : Result (Vec ResumedBatch) LaneFault) : Type 0 where
   pub keeps_ledger : KeepsLedgerOf device before now
@@ -40,6 +40,6 @@ pub record HasResumed {D : Type 0} (device : Ghosts D) (before now : LedgerOf D)
   pub least : IfErr came (IsLeastOpen before.header.shape (ledger_journals before) (ledger_journals now)
       (HaveFailed (ledger_opened now) (ledger_faults now)) (MayHoldBytes (ledger_capacity now)))
   -- behind the fault of a lane each lane was taken up: it is between batches, or its batch lacks a Lock, or the disk of a node that it asks has failed;
-  -- or memory was wanting for its Locks, and it is prepared still
+  -- or memory ran out before its Locks, and it is prepared still
   pub rests : IfErr came (λ e. IsUnbegunForMemory (ledger_journals before) (ledger_journals now) e
       ⊎ AllRestOrWait before.header.shape (ledger_journals before) (ledger_journals now) (HaveFailed (ledger_opened now) (ledger_faults now)) (λ _. Unit {0}))

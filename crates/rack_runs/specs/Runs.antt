@@ -15,43 +15,51 @@ use Rattle.record_log.specs.Held.{OpensToEither}
 use Rattle.rack_laws.specs.Shown.{OfShown, KeepsEach, HoldsEach, AreImagesLeft, OpenTo, HaveRoom, node_count}
 use Rattle.submissions.specs.Checks.{VerdictsOf, TellsSound}
 use Rattle.submissions.specs.SoundTest.{sound_by}
+use Rattle.command_answers.specs.Scene.{Disks}
 use Rattle.rack_ledgers.specs.Racked.{OfTold, SameRoom}
 use Rattle.rack_ledgers.specs.Caused.{IsCausedLedger}
 use Rattle.rack_ledgers.specs.RefusalLaws.{AllTell}
 use Rattle.ledger_runs.specs.Turning.{IsLaneOf, OfKept}
 use Rattle.ledger_runs.specs.Faults.{AllRestSince}
+use Rattle.ledger_runs.specs.Least.{IsLeastOpen}
 use Rattle.ledger_runs.specs.Pieces.{HasPreparedPieces}
 use Rattle.file_runs.specs.Runs.{joined, HaveBegunFiles, IsFilesPiece}
 use Rattle.file_runs.specs.Endings.{HasBegunFirst}
 use Rattle.rack_runs.specs.Kinds.{IsLaneAnswer, MayComeNext, StaysCaused}
-use Rattle.rack_runs.specs.Endings.{IsInOrder, IsLeastAnswer}
+use Rattle.rack_runs.specs.Endings.{EndsRun, IsInOrder, IsLeastAnswer}
 
 -- journals that have grown at their ends from those at entry, and are kept
 pub record IsGrown (K : Shape) (mint : List Output) (submissions : List FullTx) (E X : ℕ → List Record) : Type 0 where
   pub grows : (n : ℕ) → IsEnd (E n) (X n)
   pub kept : KeptJournals K mint submissions X
 
--- a run: the open batches are brought to their end, lane by lane in rising order, one file's wave after another follows, each disk holds its journal and no record more
--- and has room for it and for what is kept, and the sentence holds of the journals
-pub record IsRun {D : Type 0} (device : Ghosts D) (held : ℕ → Option D) (verdicts : VerdictsOf) (files : List (List FullTx)) (K : Shape) (mint : List Output) (submissions : List FullTx) (E : ℕ → List Record) : Type 0 where
+-- a run over a kept ledger, from the journals at entry to those at exit
+pub record IsRun {D : Type 0} (device : Ghosts D) (held : ℕ → Option D) (verdicts : VerdictsOf) (files : List (List FullTx))
+    (K : Shape) (mint : List Output) (submissions : List FullTx) (E : ℕ → List Record) : Type 0 where
   pub exit : ℕ → List Record
   pub grown : IsGrown K mint (submissions ++ joined files) E exit
+  -- each disk holds its journal and no record more, and has room for it and for what is kept
   pub disks : HoldsEach device held K exit
   pub rooms : HaveRoom device held K exit
+  -- the open batches are brought to their end, lane by lane in rising order, and one file's wave after another follows
   pub resumed : files ≡ [] → IsResumed K E exit
   pub waves : Waves K (sound_by verdicts) files E exit
   pub in_order : IsInOrder K E exit
+  -- where no hashes clash the headline holds of the journals at exit
   pub headline : Clean mint (submissions ++ joined files) → Headline K mint (submissions ++ joined files) exit
 
--- a recovery: the open batches are brought to their end, lane by lane in rising order, nothing else is done, each disk holds its journal and no record more and
--- has room for it and for what is kept, and the sentence holds of the journals
-pub record IsRecovery {D : Type 0} (device : Ghosts D) (held : ℕ → Option D) (K : Shape) (mint : List Output) (submissions : List FullTx) (E : ℕ → List Record) : Type 0 where
+-- a recovery of a kept ledger, from the journals at entry to those at exit
+pub record IsRecovery {D : Type 0} (device : Ghosts D) (held : ℕ → Option D) (K : Shape) (mint : List Output) (submissions : List FullTx)
+    (E : ℕ → List Record) : Type 0 where
   pub exit : ℕ → List Record
   pub grown : IsGrown K mint submissions E exit
+  -- each disk holds its journal and no record more, and has room for it and for what is kept
   pub disks : HoldsEach device held K exit
   pub rooms : HaveRoom device held K exit
+  -- the open batches are brought to their end, lane by lane in rising order, and nothing else is done
   pub resumed : IsResumed K E exit
   pub in_order : IsInOrder K E exit
+  -- where no hashes clash the headline holds of the journals at exit
   pub headline : Clean mint submissions → Headline K mint submissions exit
 
 -- whatever a crash leaves of the disks opens to journals that have grown from those at entry, and are kept, and each disk has room for its journal
@@ -72,53 +80,79 @@ pub record IsCutShort {D : Type 0} (device : Ghosts D) (held : ℕ → Option D)
 abbrev pub entry_journals : {D : Type 0} {device : Ghosts D} {held : ℕ → Option D} → IsCausedLedger device held → ℕ → List Record
 entry_journals ledger n = journal n (reverse ledger.rows)
 
--- the disks told a ledger in which each record was caused; each of its disks had room for its journal and for what is kept for the batches that were
--- open there, and in each place there is as much room as there was; so each has room for its journal at exit, which has grown at its end from that at
--- entry, by records that are caused too; where the disks told all each holds its journal and no record more; and the disks that are no nodes of it are
--- as before
+-- a ledger that the disks told was run over, or its open batches brought to their end: what it was, and what is left of it, kept or not
 pub record TookLedger {D : Type 0} (device : Ghosts D) (held back : ℕ → Option D) : Type 0 where
+  -- the disks told a ledger in which each record was caused
   pub ledger : IsCausedLedger device held
+  -- each of its disks had room for its journal and for what is kept for the batches that were open there, and in each place there is as much room as
+  -- there was
   pub room : HaveRoom device held ledger.shape (entry_journals ledger)
   pub same_room : (n : ℕ) → n < node_count ledger.shape → SameRoom device (held n) (back n)
+  -- its journals have grown at their ends, by records that are caused too
   pub exit : ℕ → List Record
   pub grows : (n : ℕ) → IsEnd (entry_journals ledger n) (exit n)
   pub caused : StaysCaused ledger.shape ledger.genesis exit
+  -- where the disks told all, whatever a crash leaves of one opens to exactly its node's journal
   pub disks : AllTell device held ledger.shape → HoldsEach device back ledger.shape exit
   pub rooms : HaveRoom device back ledger.shape exit
+  -- the disks that are no nodes of it are as before
   pub spared : (n : ℕ) → node_count ledger.shape ≤ n → back n ≡ held n
 
 -- whatever a crash may leave of a node's disk that is told opens to this journal, with what is in flight there or without
 abbrev pub KeepsFlights : {D : Type 0} → Ghosts D → (ℕ → Option D) → Shape → (ℕ → List Record) → (ℕ → Option Record) → Type 0
 KeepsFlights device held K X flights = (n : ℕ) → n < node_count K → OfTold (held n) (λ d. (c : List ℕ) → device.images d c → OpensToEither (reverse (X n)) (flights n) c)
 
--- a lane's fault ended a run over the ledger that the disks told, in which each record was caused: its journals have grown at their ends, by records
--- that are caused too, as a run that began so far grows them; a record is in flight only at a node whose disk has failed since, a Prepare only of
--- transactions that are next for its lane, and where the disks told all each keeps its journal, with what is in flight there or without; the answer has
--- its cause, by the counts of faults before and now and by what the disks that were told may hold; it is the least lane's that met one; whatever a lane
--- wants may come next where it would stand; nothing was written, or each lane is between batches, or its batch lacks a Lock,
--- or the disk of a node that it asks has failed, or its batch was prepared and is so still, for want of memory; each disk of the ledger had room for its
--- journal and for what is kept for the batches that were open there, in each place there is as much room as there was, and so for its journal at
--- exit; the disks that are no nodes of it are as before; and where the ledger was kept it is cut short
-pub record IsLaneFault {D : Type 0} (device : Ghosts D) (held back : ℕ → Option D) (before now : ℕ → ℕ) (next : Shape → (ℕ → List Record) → (ℕ → List Record) → ℕ → List Compact → Type 0)
-    (ends : Shape → (ℕ → List Record) → (ℕ → List Record) → (ℕ → Type 0) → (ℕ → ℕ → Type 0) → LaneFault → Type 0) (begun : Shape → (ℕ → List Record) → (ℕ → List Record) → Type 0) (files : List (List FullTx)) (answer : Answer) : Type 0 where
-  pub ledger : IsCausedLedger device held
+-- what lanes do over a ledger, as relations between journals: the transactions that are handed in, group by group; those that may be next for a lane,
+-- from journals at entry to later ones; whose fault ends it, by the nodes whose disks have failed and by what disks may hold; and what has been begun
+pub record Turns : Type 1 where
+  pub handed : List (List FullTx)
+  pub next : Shape → (ℕ → List Record) → (ℕ → List Record) → ℕ → List Compact → Type 0
+  pub ends : Shape → (ℕ → List Record) → (ℕ → List Record) → (ℕ → Type 0) → (ℕ → ℕ → Type 0) → LaneFault → Type 0
+  pub begun : Shape → (ℕ → List Record) → (ℕ → List Record) → Type 0
+
+-- the node's count of faults rose
+abbrev pub RoseAt : {D : Type 0} → Disks D → Disks D → ℕ → Type 0
+RoseAt before after = λ n. Rose (before.faults n) (after.faults n)
+
+-- the node's disk, where it was told, may hold so many bytes
+abbrev pub MayHold : {D : Type 0} → Ghosts D → Disks D → ℕ → ℕ → Type 0
+MayHold device before = λ n c. OfTold (before.held n) (λ d. c ≡ device.limit d)
+
+-- A lane's fault ended a run, or a recovery, over the ledger that the disks told: what it leaves, and why it is the answer.
+pub record IsLaneFault {D : Type 0} (device : Ghosts D) (before after : Disks D) (turns : Turns) (answer : Answer) : Type 0 where
+  -- the disks told a ledger in which each record was caused
+  pub ledger : IsCausedLedger device before.held
+  -- its journals have grown at their ends, by records that are caused too, as a run that began so far grows them
   pub exit : ℕ → List Record
   pub grows : (n : ℕ) → IsEnd (entry_journals ledger n) (exit n)
   pub caused : StaysCaused ledger.shape ledger.genesis exit
-  pub prepared : begun ledger.shape (entry_journals ledger) exit
+  pub prepared : turns.begun ledger.shape (entry_journals ledger) exit
+  -- a record is in flight only at a node whose count of faults rose, a Prepare only of transactions that are next for its lane
   pub flights : ℕ → Option Record
-  pub in_flight : (n : ℕ) (r : Record) → n < node_count ledger.shape → flights n ≡ Some r → Rose (before n) (now n)
-  pub prepares : (n t : ℕ) (b : Batch) (txs : List Compact) → n < node_count ledger.shape → flights n ≡ Some (Prepare t b txs) → IsLaneOf ledger.shape b.lane × next ledger.shape (entry_journals ledger) exit b.lane txs
-  pub disks : AllTell device held ledger.shape → KeepsFlights device back ledger.shape exit flights
-  pub cause : IsLaneAnswer ledger.shape (next ledger.shape (entry_journals ledger) exit) (entry_journals ledger) exit (λ n. Rose (before n) (now n)) (λ n c. OfTold (held n) (λ d. c ≡ device.limit d)) answer
-  pub may_come : MayComeNext ledger.shape ledger.genesis (next ledger.shape (entry_journals ledger) exit) (entry_journals ledger) exit
-  pub least : IsLeastAnswer (ends ledger.shape (entry_journals ledger) exit (λ n. Rose (before n) (now n)) (λ n c. OfTold (held n) (λ d. c ≡ device.limit d))) answer
-  pub rests : AllRestSince ledger.shape (entry_journals ledger) exit (λ n. Rose (before n) (now n))
-  pub room : HaveRoom device held ledger.shape (entry_journals ledger)
-  pub same_room : (n : ℕ) → n < node_count ledger.shape → SameRoom device (held n) (back n)
-  pub rooms : HaveRoom device back ledger.shape exit
-  pub kept : OfShown device held (IsCutShort device back files exit)
-  pub spared : (n : ℕ) → node_count ledger.shape ≤ n → back n ≡ held n
+  pub in_flight : (n : ℕ) (r : Record) → n < node_count ledger.shape → flights n ≡ Some r → RoseAt before after n
+  pub prepares : (n t : ℕ) (b : Batch) (txs : List Compact) → n < node_count ledger.shape → flights n ≡ Some (Prepare t b txs)
+      → IsLaneOf ledger.shape b.lane × turns.next ledger.shape (entry_journals ledger) exit b.lane txs
+  -- where the disks told all, each keeps its journal, with what is in flight there or without
+  pub disks : AllTell device before.held ledger.shape → KeepsFlights device after.held ledger.shape exit flights
+  -- the answer has its cause, by the counts of faults and by what the disks that were told may hold
+  pub cause : IsLaneAnswer ledger.shape (turns.next ledger.shape (entry_journals ledger) exit) (entry_journals ledger) exit
+      (RoseAt before after) (MayHold device before) answer
+  -- whatever a lane wants may come next where it would stand
+  pub may_come : MayComeNext ledger.shape ledger.genesis (turns.next ledger.shape (entry_journals ledger) exit) (entry_journals ledger) exit
+  -- the fault is that of the least lane that met one
+  pub least : IsLeastAnswer (turns.ends ledger.shape (entry_journals ledger) exit (RoseAt before after) (MayHold device before)) answer
+  -- nothing was written, or each lane is between batches, or its batch lacks a Lock, or the disk of a node that it asks has failed, or its batch was
+  -- prepared and is so still, because memory ran out
+  pub rests : AllRestSince ledger.shape (entry_journals ledger) exit (RoseAt before after)
+  -- each disk of the ledger had room for its journal and for what was kept for the batches open there; in each place there is as much room as there
+  -- was, and so for its journal at exit
+  pub room : HaveRoom device before.held ledger.shape (entry_journals ledger)
+  pub same_room : (n : ℕ) → n < node_count ledger.shape → SameRoom device (before.held n) (after.held n)
+  pub rooms : HaveRoom device after.held ledger.shape exit
+  -- where the ledger was kept the run is cut short: it is kept still, whatever a crash leaves of the disks
+  pub kept : OfShown device before.held (IsCutShort device after.held turns.handed exit)
+  -- the disks that are no nodes of it are as before
+  pub spared : (n : ℕ) → node_count ledger.shape ≤ n → after.held n ≡ before.held n
 
 -- nothing is next for any lane
 abbrev pub NothingNext : Shape → (ℕ → List Record) → (ℕ → List Record) → ℕ → List Compact → Type 0
@@ -151,3 +185,16 @@ NonePrepared K E X = ((lane : ℕ) → IsLaneOf K lane → HasPreparedPieces K l
 abbrev pub PiecesPrepared : VerdictsOf → List (List FullTx) → Shape → (ℕ → List Record) → (ℕ → List Record) → Type 0
 PiecesPrepared verdicts files K E X =
     HaveBegunFiles K verdicts files E X × OfKept K E (λ _ _. (sound : FullTx → Bool) → TellsSound verdicts sound → IsCutWaves K sound files E X) × IsInOrder K E X
+
+-- a recovery: nothing is handed in, and the open batches alone are brought to their end
+abbrev pub open_turns : Turns
+open_turns = record { handed = []; next = NothingNext; ends = IsLeastOpen; begun = NonePrepared }
+
+-- a run of these files: the open batches, and then one file after another
+abbrev pub file_turns : VerdictsOf → List (List FullTx) → Turns
+file_turns verdicts files = record {
+  handed = files;
+  next = PieceNext verdicts files;
+  ends = EndsRun verdicts files;
+  begun = PiecesPrepared verdicts files;
+}

@@ -3,11 +3,12 @@ use Rattle.std.specs.Prelude.{◌⊎◌, ℕ, List, Option}
 use Rattle.outside.specs.declared.disk.Disk.{Ghosts}
 use Rattle.cbdc_types.specs.declared.answer.Answer.{Answer}
 use Rattle.cbdc_model.specs.Records.{Shape, Record}
+use Rattle.command_answers.specs.Scene.{Disks}
 use Rattle.rack_ledgers.specs.Racked.{AreUnchanged}
 use Rattle.rack_ledgers.specs.Caused.{IsCausedLedger}
 use Rattle.rack_runs.specs.Runs.{entry_journals}
 use Rattle.rack_runs.specs.Stops.{WhyNoTurns}
-use Rattle.rack_runs.specs.Works.{Deed, BeginsWork, EndsWork}
+use Rattle.rack_runs.specs.Works.{Deed, work_turns}
 
 -- what a test says, by the shape of the ledger and its journals: what holds where it lets the ledger pass, and why it refuses it with this answer
 pub record Test : Type 1 where
@@ -28,6 +29,6 @@ pub record IsTestRefused {D : Type 0} (device : Ghosts D) (held back : ℕ → O
   pub unchanged : AreUnchanged device held back
 
 -- a work did not come to be done: as `WhyNoTurns` says; or its own test refused the ledger
-abbrev pub WhyNotBegun : {D Done : Type 0} → Ghosts D → (ℕ → Option D) → (ℕ → Option D) → (ℕ → ℕ) → (ℕ → ℕ) → Deed Done → Test → Answer → Type 0
-WhyNotBegun device held back before now d test answer =
-    WhyNoTurns device held back before now d.next (EndsWork d) (BeginsWork d) d.handed answer ⊎ IsTestRefused device held back test answer
+abbrev pub WhyNotBegun : {D Done : Type 0} → Ghosts D → Disks D → Disks D → Deed Done → Test → Answer → Type 0
+WhyNotBegun device before after d test answer =
+    WhyNoTurns device before after (work_turns d) answer ⊎ IsTestRefused device before.held after.held test answer

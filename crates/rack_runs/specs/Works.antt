@@ -21,6 +21,7 @@ use Rattle.ledger_runs.specs.Least.{IsLeastOpen}
 use Rattle.ledger_runs.specs.Faults.{IsRunCause, HaveFailed, MayHoldBytes, LanesRest, AllRestSince}
 use Rattle.file_runs.specs.Ledgers.{LedgerOf, ledger_journals, ledger_flights, ledger_faults, ledger_opened, ledger_capacity, IsChecked, IsLedgerQuiet, KeepsLedgerOf}
 use Rattle.file_runs.specs.Runs.{joined, FliesWith}
+use Rattle.command_answers.specs.Scene.{Disks}
 use Rattle.rack_ledgers.specs.Places.{EachFrom, MayReturn}
 use Rattle.rack_ledgers.specs.Ledgers.{ByPlace, AreOpened}
 use Rattle.rack_ledgers.specs.Caused.{listed_journals as told_journals, AreCaused}
@@ -28,12 +29,12 @@ use Rattle.rack_laws.specs.Shown.{OfShown, HoldsEach, NodeHasRoom, NodeFits, Hav
 use Rattle.printed_lines.specs.Unspent.{IsUnspentCount}
 use Rattle.rack_runs.specs.Kinds.{FliesBroken}
 use Rattle.rack_runs.specs.Endings.{IsInOrder}
-use Rattle.rack_runs.specs.Runs.{IsGrown, TookLedger, AddsOpen}
+use Rattle.rack_runs.specs.Runs.{IsGrown, TookLedger, AddsOpen, Turns}
 use Rattle.rack_runs.specs.Stops.{WhyNoTurns}
 use Rattle.rack_runs.specs.declared.told.Told.{Told}
 
 -- what a command does, as relations between journals: the transactions that it hands in, group by group; those that may be next for a lane, from
--- journals at entry to later ones; whose fault ends it, from the journals that it was given; what has been begun, whatever came of it, from those at
+-- journals at entry to later ones; whose fault ends it, from the journals that it was given; what has been begun, whatever the result, from those at
 -- entry; and what was done where it came through, from those that it was given
 pub record Deed (Done : Type 0) : Type 1 where
   pub handed : List (List FullTx)
@@ -60,7 +61,7 @@ pub record IsBehind (K : Shape) (E M : ℕ → List Record) : Type 0 where
   pub keeps : OfKept K E (StaysKept K E M)
   pub resumed : OfKept K E (λ _ _. IsResumed K E M)
 
--- what a work leaves, whatever came of it, from journals M that it was given to X: they have grown at their ends, and where they were kept they are,
+-- what a work leaves, whatever the result, from journals M that it was given to X: they have grown at their ends, and where they were kept they are,
 -- with what was handed in besides; what is in flight may come next at its node, as before, and a Prepare was so before or is next for its lane; each
 -- lane is between batches, or its batch lacks a Lock, or the disk of a node that it asks has failed; and what may be next and what has been begun
 -- is so from all journals, too, from which M came by a resuming
@@ -83,7 +84,7 @@ pub record EndsBadly {Done : Type 0} (d : Deed Done) (K : Shape) (M X : ℕ → 
   pub cause : IsRunCause K (d.next K M X) M X failed may_hold e
   pub ends : d.ends K M X failed may_hold e
 
--- A work was done over the nodes of a ledger with no open batch: what the ledger is behind it, and what came of it.
+-- A work was done over the nodes of a ledger with no open batch: what the ledger is behind it, and the result.
 pub record HasWorked {D Done : Type 0} (device : Ghosts D) (d : Deed Done)
     (before now : LedgerOf D) (came : Result Done LaneFault) : Type 0 where
   pub keeps_ledger : KeepsLedgerOf device before now
@@ -123,7 +124,11 @@ EndsWork d K E X failed may_hold e =
     (SamePrepared K E X × IsLeastOpen K E X failed may_hold e)
     ⊎ ((middle : ℕ → List Record) × ((n : ℕ) → IsEnd (E n) (middle n)) × SamePrepared K E middle × AreIdle K middle × WorkEndsBy d K middle X failed may_hold e)
 
--- whatever came: as `LeavesWork`, from the journals at entry
+-- the turns that a work takes, the resuming before it being part of them
+abbrev pub work_turns : {Done : Type 0} → Deed Done → Turns
+work_turns d = record { handed = d.handed; next = d.next; ends = EndsWork d; begun = BeginsWork d }
+
+-- whatever the result: as `LeavesWork`, from the journals at entry
 pub record LeavesAll {Done : Type 0} (d : Deed Done) (K : Shape) (E X : ℕ → List Record) (before after : ℕ → Option Record) (failed : ℕ → Type 0) : Type 0 where
   pub grows : (n : ℕ) → IsEnd (E n) (X n)
   pub keeps : OfKept K E (λ mint submissions. StaysKept K E X mint (submissions ++ joined d.handed))
@@ -144,7 +149,7 @@ pub record AllBadly {Done : Type 0} (d : Deed Done) (K : Shape) (E X : ℕ → L
   pub cause : IsRunCause K (d.next K E X) E X failed may_hold e
   pub ends : EndsWork d K E X failed may_hold e
 
--- The open batches of a ledger were brought to their end, and a work was done: what the ledger is behind it, and what came of it.
+-- The open batches of a ledger were brought to their end, and a work was done: what the ledger is behind it, and the result.
 pub record HasRunWork {D Done : Type 0} (device : Ghosts D) (d : Deed Done)
     (before now : LedgerOf D) (resumed : List ResumedBatch) (came : Result Done LaneFault) : Type 0 where
   pub keeps_ledger : KeepsLedgerOf device before now
@@ -156,8 +161,8 @@ pub record HasRunWork {D Done : Type 0} (device : Ghosts D) (d : Deed Done)
   pub badly : IfErr came (AllBadly d before.header.shape (ledger_journals before) (ledger_journals now)
       (HaveFailed (ledger_opened now) (ledger_faults now)) (MayHoldBytes (ledger_capacity now)))
 
--- what a node says of itself: its count of faults and its capacity are its disk's, which has room for its journal, for what is kept for its open batches and
--- for what is in flight; and a record is in flight only where the disk failed
+-- what a node says of itself: its count of faults and its capacity are its disk's, which has room for its journal, for what is kept for its open batches
+-- and for what is in flight; and a record is in flight only where the disk failed
 pub record IsSeen {D : Type 0} (device : Ghosts D) (n : NodeOf D) : Type 0 where
   pub faults : n.faults ≡ device.count n.disk
   pub capacity : n.capacity ≡ device.limit n.disk
@@ -172,10 +177,9 @@ pub record AreSeen {D : Type 0} (device : Ghosts D) (logs shards : List (NodeOf 
 
 -- ---- on a rack
 
--- what a rack told at entry, how often its disks had failed then, and the nodes as they were opened
+-- the disks of a rack at entry, and the nodes as they were opened
 pub record AtEntry (D : Type 0) : Type 0 where
-  pub held : ℕ → Option D
-  pub before : ℕ → ℕ
+  pub disks : Disks D
   pub header : Header
   pub logs : List (NodeOf D)
   pub shards : List (NodeOf D)
@@ -186,14 +190,14 @@ entry_ledger e = record { header = e.header; logs = e.logs; shards = e.shards }
 -- all nodes of the ledger that the rack told were opened, each record of it is caused, and their disks may be put back
 pub record IsLedgerOpened {D : Type 0} (device : Ghosts D) (e : AtEntry D) (held : ℕ → Option D)
     (can_put : ℕ → ℕ → Type 0) (can_take : ℕ → Type 0) : Type 0 where
-  pub nodes : AreOpened device e.held e.header e.logs e.shards
+  pub nodes : AreOpened device e.disks.held e.header e.logs e.shards
   pub caused : AreCaused e.header.shape (told_journals e.logs e.shards)
   pub few : length e.logs + length e.shards < 2 ^ 32
-  pub logs_since : ByPlace (λ n x. e.before n ≤ device.count x.disk) e.logs
-  pub shards_since : ByPlace (λ s x. e.before (e.header.shape.coordinators + s) ≤ device.count x.disk) e.shards
+  pub logs_since : ByPlace (λ n x. e.disks.faults n ≤ device.count x.disk) e.logs
+  pub shards_since : ByPlace (λ s x. e.disks.faults (e.header.shape.coordinators + s) ≤ device.count x.disk) e.shards
   pub logs : EachFrom (MayReturn (λ x. device.count x.disk) can_put) 0 e.logs
   pub shards : EachFrom (MayReturn (λ x. device.count x.disk) can_put) (length e.logs) e.shards
-  pub others : (n : ℕ) → length e.logs + length e.shards ≤ n → held n ≡ e.held n
+  pub others : (n : ℕ) → length e.logs + length e.shards ≤ n → held n ≡ e.disks.held n
   pub others_in : (n : ℕ) → length e.logs + length e.shards ≤ n → can_take n
 
 -- they were opened, their open batches were brought to their end, and a work was done
@@ -215,9 +219,8 @@ pub record HasEndedWork {D Done : Type 0} (device : Ghosts D) (held : ℕ → Op
   pub unspent : IsUnspentCount K exit told.unspent
   pub headline : Clean mint (submissions ++ joined d.handed) → Headline K mint (submissions ++ joined d.handed) exit
 
--- A work was done over the ledger on a rack: what came of it, and what that leaves of the disks.
-pub record HasDoneWork {D Done : Type 0} (device : Ghosts D) (held back : ℕ → Option D)
-    (before now : ℕ → ℕ) (d : Deed Done) (came : Result (Told Done) Answer) : Type 0 where
-  pub caused : OnOk came (TookLedger device held back)
-  pub ended : IfOk came (λ told. OfShown device held (HasEndedWork device back d told))
-  pub stopped : IfErr came (WhyNoTurns device held back before now d.next (EndsWork d) (BeginsWork d) d.handed)
+-- A work was done over the ledger on a rack: the result, and what that leaves of the disks.
+pub record HasDoneWork {D Done : Type 0} (device : Ghosts D) (before after : Disks D) (d : Deed Done) (came : Result (Told Done) Answer) : Type 0 where
+  pub caused : OnOk came (TookLedger device before.held after.held)
+  pub ended : IfOk came (λ told. OfShown device before.held (HasEndedWork device after.held d told))
+  pub stopped : IfErr came (WhyNoTurns device before after (work_turns d))

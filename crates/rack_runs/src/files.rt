@@ -51,7 +51,8 @@ pub(crate) fn work_files<
     requires idle { AreIdle ledger.header.shape (ledger_journals ledger) }
     requires short { All (λ txs. All IsShort txs) files.now }
     requires checked { IsChecked ledger }
-    ensures { HasWorked D.Disk (files_deed (V.verdict_of verifier.now) files.now) ledger result.ledger result.came }
+    ensures { HasWorked D.Disk (files_deed (V.verdict_of verifier.now) files.now)
+        ledger result.ledger result.came }
 {
     if files.is_empty() {
         return Worked {

@@ -55,7 +55,8 @@ pub(crate) fn told_of<D: Disk, T: Drop>(
     came: Result<T, LaneFault>,
     shards: &[ShardNode<D>],
 ) -> Result<Told<T>, Answer>
-    ensures fault { IfErr result (λ a. (a ≡ Answer.Memory) ⊎ ((e : FaultOf) × (came ≡ Err e) × (a ≡ answer_to e))) }
+    ensures fault { IfErr result (λ a. (a ≡ Answer.Memory)
+        ⊎ ((e : FaultOf) × (came ≡ Err e) × (a ≡ answer_to e))) }
     ensures same { IfOk result (λ t. (t.resumed.items ≡ resumed.items) × (came ≡ Ok t.done)) }
     ensures unspent { IfOk result (λ t. CountAll (map (λ s. s.journal) shards.now) t.unspent) }
 {
@@ -75,7 +76,8 @@ pub(crate) fn told_of<D: Disk, T: Drop>(
 /// Nodes that a rack kept, as a ledger.
 pub(crate) fn ledger_of<D: Disk>(nodes: Nodes<D>) -> Ledger<D>
     requires { IsLedger nodes.header nodes.logs.items nodes.shards.items }
-    ensures { result ≡ record { header = nodes.header; logs = nodes.logs.items; shards = nodes.shards.items } }
+    ensures { result
+        ≡ record { header = nodes.header; logs = nodes.logs.items; shards = nodes.shards.items } }
 {
     let Nodes {
         header,
@@ -92,7 +94,8 @@ pub(crate) fn ledger_of<D: Disk>(nodes: Nodes<D>) -> Ledger<D>
 /// The nodes of a ledger, for the rack that keeps them.
 pub(crate) fn nodes_of<D: Disk>(ledger: Ledger<D>) -> Nodes<D>
     ensures ledger { IsLedger result.header result.logs.items result.shards.items }
-    ensures same { ledger ≡ record { header = result.header; logs = result.logs.items; shards = result.shards.items } }
+    ensures same { ledger
+        ≡ record { header = result.header; logs = result.logs.items; shards = result.shards.items } }
     ensures seen { AreSeen D.Disk result.logs.items result.shards.items }
 {
     let Ledger {

@@ -1,14 +1,12 @@
 // Commands that resume over the ledger on a rack.
-ghost use Rattle.std.specs.Prelude.{◌≡◌, ◌≤◌, ◌⊎◌, ℕ, [], All, IfOk, OnOk, IfErr, OnErr};
+ghost use Rattle.std.specs.Prelude.{◌≡◌, ◌≤◌, ℕ, [], All, IfOk, OnOk, IfErr, OnErr};
 ghost use Rattle.input_files.specs.Limits.{IsShort};
-ghost use Rattle.rack_ledgers.specs.Racked.{AreBack};
-ghost use Rattle.rack_ledgers.specs.Caused.{IsUnresumed};
+ghost use Rattle.command_answers.specs.Scene.{disks_in};
 ghost use Rattle.rack_laws.specs.Shown.{OfShown};
 ghost use Rattle.file_runs.specs.Ledgers.{ledger_journals};
-ghost use Rattle.ledger_runs.specs.Least.{IsLeastOpen};
-ghost use Rattle.rack_runs.specs.Endings.{EndsRun};
 ghost use Rattle.rack_runs.specs.Resuming.{HasResumed};
-ghost use Rattle.rack_runs.specs.Runs.{IsRun, IsRecovery, IsLaneFault, TookLedger, NonePrepared, NothingNext, PieceNext, PiecesPrepared};
+ghost use Rattle.rack_runs.specs.Runs.{IsRun, IsRecovery, TookLedger, open_turns, file_turns};
+ghost use Rattle.rack_runs.specs.Stops.{WhyNoTurns};
 ghost use Rattle.rack_runs.specs.Telling.{IsRunTold};
 ghost use Rattle.rack_runs.specs.Tests.{WhyNotBegun};
 ghost use Rattle.rack_runs.specs.Works.{AllNextFit, AtEntry, entry_ledger, IsLedgerOpened, HasOpenedAndRun, HasDoneWork};
@@ -49,15 +47,16 @@ where
     requires fit { AllNextFit (K.deed work.now) }
     // The nodes were opened as the rack told them at entry, and each record is caused; what the ledger is behind the resuming; and as it was at entry
     // the work's own test let it pass.
-    ensures begun { IfOk result (λ b. (e : AtEntry R.Disk) × (e.held ≡ R.held rack.old) × (e.before ≡ R.count rack.old)
+    ensures begun { IfOk result (λ b. (e : AtEntry R.Disk) × (e.disks ≡ disks_in R.Rack rack.old)
         × IsLedgerOpened R.Disk.Disk e (R.held rack.new) (R.can_put rack.new) (R.can_take rack.new)
         × HasResumed R.Disk.Disk (entry_ledger e) b.ledger (Ok b.resumed)
         × (K.tests work.now).passes e.header.shape (ledger_journals (entry_ledger e))) }
 
     // The nodes could not be opened, or a record is not caused, and the disks are back; or a lane met a fault; or the work's own test refuses the
     // ledger, and the disks are back unchanged.
-    ensures stopped { IfErr result (WhyNotBegun R.Disk.Disk (R.held rack.old) (R.held rack.new)
-        (R.count rack.old) (R.count rack.new) (K.deed work.now) (K.tests work.now)) }
+    ensures stopped { IfErr result (WhyNotBegun R.Disk.Disk
+        (disks_in R.Rack rack.old) (disks_in R.Rack rack.new)
+        (K.deed work.now) (K.tests work.now)) }
     ensures back { OnErr result ((n : ℕ) → R.can_take rack.new n) }
     ensures later { (n : ℕ) → R.count rack.old n ≤ R.count rack.new n }
 {
@@ -80,7 +79,7 @@ where
     Err(answer_of(&fault))
 }
 
-/// Puts the disks of a ledger back behind the work of a command, and tells what came of it.
+/// Puts the disks of a ledger back behind the work of a command, and tells the result.
 pub fn end_on<R: Rack, K: Work>(
     rack: &mut R,
     work: &K,
@@ -94,7 +93,7 @@ pub fn end_on<R: Rack, K: Work>(
     requires fit { AllNextFit (K.deed work.now) }
     ensures done { (e : AtEntry R.Disk) → HasOpenedAndRun R.Disk.Disk (K.deed work.now) e
         (R.held rack.old) (R.can_put rack.old) (R.can_take rack.old) ledger resumed.items came
-        → HasDoneWork R.Disk.Disk e.held (R.held rack.new) e.before (R.count rack.new) (K.deed work.now) result }
+        → HasDoneWork R.Disk.Disk e.disks (disks_in R.Rack rack.new) (K.deed work.now) result }
     ensures back { (n : ℕ) → R.can_take rack.new n }
     ensures later { (n : ℕ) → R.count rack.old n ≤ R.count rack.new n }
 {
@@ -156,19 +155,18 @@ where
     ensures caused { OnOk result (TookLedger R.Disk.Disk (R.held rack.old) (R.held rack.new)) }
 
     // Where that ledger was kept, it has its open batches at their end and the files' waves behind them, and each disk holds its journal.
-    ensures ran { OnOk result (OfShown R.Disk.Disk (R.held rack.old) (IsRun R.Disk.Disk (R.held rack.new) (V.verdict_of verifier.now) files.now)) }
+    ensures ran { OnOk result (OfShown R.Disk.Disk (R.held rack.old)
+        (IsRun R.Disk.Disk (R.held rack.new) (V.verdict_of verifier.now) files.now)) }
 
-    // And what was done is told: the batches that were open, what came of each submission, and how many hashes are unspent now.
-    ensures told { IfOk result (λ r. OfShown R.Disk.Disk (R.held rack.old) (IsRunTold R.Disk.Disk (R.held rack.new) (V.verdict_of verifier.now) files.now r)) }
+    // And what was done is told: the batches that were open, the result of each submission, and how many hashes are unspent now.
+    ensures told { IfOk result (λ r. OfShown R.Disk.Disk (R.held rack.old)
+        (IsRunTold R.Disk.Disk (R.held rack.new) (V.verdict_of verifier.now) files.now r)) }
 
-    // The nodes could not be opened, or a record is not caused, and the disks are back; or the rack showed such a ledger and a lane met a
-    // fault, which has its cause and is that of the least lane that met one: what a lane wants may come next where it would stand, journals have
-    // grown at their ends, they lie within the disks' capacities, and a Prepare in flight is that of its lane's next piece. Where they were kept
-    // they still are, whatever a crash leaves.
-    ensures stopped { IfErr result (λ e. (IsUnresumed R.Disk.Disk (R.held rack.old) (R.count rack.old) (R.count rack.new) e
-        × AreBack R.Disk.Disk (R.count rack.old) (R.count rack.new) (R.held rack.old) (R.held rack.new))
-        ⊎ (IsLaneFault R.Disk.Disk (R.held rack.old) (R.held rack.new) (R.count rack.old) (R.count rack.new) (PieceNext (V.verdict_of verifier.now) files.now)
-        (EndsRun (V.verdict_of verifier.now) files.now) (PiecesPrepared (V.verdict_of verifier.now) files.now) files.now e)) }
+    // The nodes could not be opened, or a record is not caused, and the disks are back; or the rack showed such a ledger and a lane met a fault, which
+    // has its cause and is that of the least lane that met one. What that leaves stands at `IsLaneFault`.
+    ensures stopped { IfErr result (WhyNoTurns R.Disk.Disk
+        (disks_in R.Rack rack.old) (disks_in R.Rack rack.new)
+        (file_turns (V.verdict_of verifier.now) files.now)) }
 
     ensures back { (n : ℕ) → R.can_take rack.new n }
     ensures later { (n : ℕ) → R.count rack.old n ≤ R.count rack.new n }
@@ -196,11 +194,12 @@ where
     R::Disk: Send,
     requires all { (n : ℕ) → R.can_take rack.old n }
     ensures caused { OnOk result (TookLedger R.Disk.Disk (R.held rack.old) (R.held rack.new)) }
-    ensures recovered { OnOk result (OfShown R.Disk.Disk (R.held rack.old) (IsRecovery R.Disk.Disk (R.held rack.new))) }
-    ensures told { IfOk result (λ r. (verdicts : VerdictsOf) × OfShown R.Disk.Disk (R.held rack.old) (IsRunTold R.Disk.Disk (R.held rack.new) verdicts [] r)) }
-    ensures stopped { IfErr result (λ e. (IsUnresumed R.Disk.Disk (R.held rack.old) (R.count rack.old) (R.count rack.new) e
-        × AreBack R.Disk.Disk (R.count rack.old) (R.count rack.new) (R.held rack.old) (R.held rack.new))
-        ⊎ (IsLaneFault R.Disk.Disk (R.held rack.old) (R.held rack.new) (R.count rack.old) (R.count rack.new) NothingNext IsLeastOpen NonePrepared [] e)) }
+    ensures recovered { OnOk result (OfShown R.Disk.Disk (R.held rack.old)
+        (IsRecovery R.Disk.Disk (R.held rack.new))) }
+    ensures told { IfOk result (λ r. (verdicts : VerdictsOf)
+        × OfShown R.Disk.Disk (R.held rack.old) (IsRunTold R.Disk.Disk (R.held rack.new) verdicts [] r)) }
+    ensures stopped { IfErr result (WhyNoTurns R.Disk.Disk
+        (disks_in R.Rack rack.old) (disks_in R.Rack rack.new) open_turns) }
     ensures back { (n : ℕ) → R.can_take rack.new n }
     ensures later { (n : ℕ) → R.count rack.old n ≤ R.count rack.new n }
 {

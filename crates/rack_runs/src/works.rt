@@ -27,8 +27,10 @@ pub trait Work {
     /// `refuses` holds of them and of the answer.
     fn test<D: Disk>(&self, alloc: Global, ledger: &Ledger<D>) -> Result<(), Answer>
         requires { IsChecked ledger.now }
-        ensures passes { OnOk result ((tests self.now).passes ledger.now.header.shape (ledger_journals ledger.now)) }
-        ensures refuses { IfErr result (λ a. (a ≡ Answer.Memory) ⊎ (tests self.now).refuses ledger.now.header.shape (ledger_journals ledger.now) a) };
+        ensures passes { OnOk result
+            ((tests self.now).passes ledger.now.header.shape (ledger_journals ledger.now)) }
+        ensures refuses { IfErr result (λ a. (a ≡ Answer.Memory)
+            ⊎ (tests self.now).refuses ledger.now.header.shape (ledger_journals ledger.now) a) };
 }
 
 /// A ledger with no open batch, and the batches that an earlier command had left open, in rising order of their lanes.

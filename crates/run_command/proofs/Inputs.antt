@@ -1,20 +1,21 @@
 -- Why the inputs of a run are not there, as a cause of its answer.
-use Rattle.std.proofs.Common.{◌≡◌, ◌⊎◌, inl, inr, ℕ, List, Option}
+use Rattle.std.proofs.Common.{inl, inr, ℕ, List, Option}
 use Rattle.cbdc_types.specs.declared.answer.Answer.{Answer}
 use Rattle.cbdc_types.specs.declared.answer.Answer.TheVariants as answers
 use Rattle.requests.specs.declared.FileWord.{FileWord}
 use Rattle.line_text.specs.Lines.{Text}
 use Rattle.input_files.specs.Inputs.{AreNoInputs}
 use Rattle.input_files.specs.Contents.{IsNoVerdicts}
-use Rattle.command_answers.specs.Causes.{IsReadOrNodeFault, OnePlace, OneRose, FileRose}
+use Rattle.command_answers.specs.Causes.{IsReadOrNodeFault}
 use Rattle.command_answers.proofs.Answers.{first_fault}
+use Rattle.run_command.specs.Outcomes.{RunPlace, RunRose}
 
 module _ (held : Text → Option (List ℕ)) (before now : Text → ℕ) (clients : List FileWord) (verdicts : FileWord) where
   abbrev named : ℕ → Type 0
-  named place = OnePlace clients place ⊎ (place ≡ verdicts.place)
+  named = RunPlace verdicts clients
 
   abbrev rose : ℕ → Type 0
-  rose place = OneRose before now clients place ⊎ FileRose before now verdicts place
+  rose = RunRose before now verdicts clients
 
   verdicts_fault : (a : Answer) → IsNoVerdicts verdicts.place (held verdicts.name.now) (before verdicts.name.now) (now verdicts.name.now) a → IsReadOrNodeFault named rose a
   verdicts_fault answers.Ok is = absurd is
@@ -33,7 +34,7 @@ module _ (held : Text → Option (List ℕ)) (before now : Text → ℕ) (client
   verdicts_fault (answers.DiskFault k) is = absurd is
   verdicts_fault answers.Memory is = tt
 
-  pub no_inputs_fault : (a : Answer) → AreNoInputs held before now clients verdicts a → IsReadOrNodeFault (λ place. OnePlace clients place ⊎ (place ≡ verdicts.place)) (λ place. OneRose before now clients place ⊎ FileRose before now verdicts place) a
+  pub no_inputs_fault : (a : Answer) → AreNoInputs held before now clients verdicts a → IsReadOrNodeFault (RunPlace verdicts clients) (RunRose before now verdicts clients) a
   no_inputs_fault a are = elim are [
     | inl first ↦ first_fault held before now clients named rose (λ place one. inl one) (λ place one. inl one) a first
     | inr all ↦ verdicts_fault a all.2

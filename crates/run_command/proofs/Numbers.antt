@@ -55,7 +55,7 @@ module _ (K : Shape) (verdicts : VerdictsOf) (files : List (List FullTx)) (few :
         submissions = λ test. (let s = total_few K verdicts test files told.middle X ran.waves.items told.told in omega (arith, s, few));
       }
 
-  -- what came of the submissions, their lines, and the numbers behind them
+  -- the results of the submissions, their lines, and the numbers behind them
   abbrev pub numbers : List (List Report) → Text
   numbers all = summary_text (resumed_count K E) (new_batches K E X) (count_in is_confirmed all) (count_in is_rejected all) (count_in is_refused all) ran.unspent
 

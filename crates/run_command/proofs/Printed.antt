@@ -13,6 +13,7 @@ use Rattle.file_runs.specs.Runs.{joined}
 use Rattle.file_runs.proofs.Filing.{kept_more}
 use Rattle.submission_laws.proofs.Settling.{settled_law}
 use Rattle.submission_laws.proofs.Freeing.{free_confirmed_law}
+use Rattle.command_answers.specs.Scene.{Disks}
 use Rattle.rack_laws.specs.Shown.{OfShown}
 use Rattle.file_runs.specs.declared.ran.Ran.{Ran}
 use Rattle.rack_runs.specs.Telling.{IsRunTold}
@@ -35,13 +36,13 @@ prints_run device before now printed verdicts files ran few shown is K mint subm
       free = free_confirmed_law K mint (submissions ++ joined files) verdicts files E told.run.exit within.some_shard (lanes_there K within) more told.run.grown.kept;
     }
 
-pub did_run : {D : Type 0} (inbox : Text → Option (List ℕ)) (device : Ghosts D) (before now : ℕ → Option D) (printed : Text → Type 0) (verdicts : FileWord) (clients : List FileWord) (ran : Ran)
-    → WasRun inbox device before now verdicts clients ran → (IsCountable ran → printed (ran_text ran)) → DidRun inbox device before now printed verdicts clients
-did_run inbox device before now printed verdicts clients ran was is = record {
+pub did_run : {D : Type 0} (device : Ghosts D) (files : Text → Option (List ℕ)) (before after : Disks D) (printed : Text → Type 0) (verdicts : FileWord) (clients : List FileWord) (ran : Ran)
+    → WasRun device files before after verdicts clients ran → (IsCountable ran → printed (ran_text ran)) → DidRun device files before after printed verdicts clients
+did_run device files before after printed verdicts clients ran was is = record {
   handed = was.handed;
   known = was.known;
   read = was.read;
   verdicts_read = was.verdicts_read;
   caused = was.caused;
-  ran = prints_run device before now printed (of_file was.known) was.handed ran was.few was.tells is;
+  ran = prints_run device before.held after.held printed (of_file was.known) was.handed ran was.few was.tells is;
 }

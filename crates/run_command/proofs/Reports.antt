@@ -1,4 +1,4 @@
--- What came of each submission of a run, by what its waves tell.
+-- The result of each submission of a run, by what its waves tell.
 use Rattle.std.proofs.Common.{◌≡◌, ℕ, zero, suc, ◌+◌, ◌*◌, ◌%◌, ◌<◌, ◌≤◌, Bool, true, false, ◌==◌, List, [], ◌∷◌, ◌++◌, map, length, take, drop, Some, None, refl, sym, ap, ◌∙◌, subst, arith, append_assoc, append-nil}
 use Rattle.std.specs.Prelude.{slice_get, option_map}
 use Rattle.std.proofs.lemmas.List.{length-append, take_more, take-append-drop, length-map}
@@ -104,7 +104,7 @@ module _ (K : Shape) (verdicts : VerdictsOf) (sound : FullTx → Bool) (tells : 
   sent_is [] lane = refl
   sent_is (f ∷ fs) lane = sum_by-cons (λ file. length (sent_to K sound file lane)) f fs ∙ ap (λ n. length (sent_to K sound f lane) + n) (sent_is fs lane)
 
-  -- what is told of a submission is what came of it
+  -- what is told of a submission is its result
   module _ (k : ℕ) (file : List FullTx) (w : Wave) (here : slice_get files k ≡ Some file) (there : slice_get ws k ≡ Some w) (checked : AreChecked K verdicts file w.checked.items) (count : length w.lanes.items ≡ K.coordinators * K.lanes) where
     abbrev Told : ℕ → FullTx → Checked → Type 0
     Told j t c = (c.id ≡ tx_id t) × ((r : Report) × (told_report w.lanes.items c.judgement ≡ Some r) × IsReport K verdicts sound E X (take k files) file j t r)
@@ -234,7 +234,7 @@ module _ (K : Shape) (verdicts : VerdictsOf) (sound : FullTx → Bool) (tells : 
         counts = λ test. sum_by-cons (λ rs. length (filter test rs)) own.reports_of rest.all ∙ ap (λ m. m + count_in test rest.all) (own.counts test) ∙ ap (λ m. told_count test v.lanes.items v.checked.items + m) (rest.counts test);
       }
 
-  -- what came of all submissions, and their lines
+  -- the results of all submissions, and their lines
   pub all_reported : (all : List (List Report)) × AreAllReports K verdicts sound E X files all × (told_files 1 ws ≡ files_lines 1 files all) × ((test : Report → Bool) → count_in test all ≡ told_total test ws)
   all_reported =
       let r = all_from 0 files ws (as_many files M X ws told) (λ i f h. ap (slice_get files) (omega arith) ∙ h) (λ i v h. ap (slice_get ws) (omega arith) ∙ h) in (

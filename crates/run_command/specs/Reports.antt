@@ -1,5 +1,5 @@
 -- What is written of a run.
-use Rattle.std.specs.Prelude.{List, ℕ, Option, Result}
+use Rattle.std.specs.Prelude.{Option, Result}
 use Rattle.line_text.specs.Lines.{Prints, Text}
 use Rattle.line_text.specs.declared.WriteFault.{WriteFault}
 use Rattle.file_runs.specs.declared.ran.Ran.{Ran}

@@ -7,8 +7,8 @@ ghost use Rattle.outside.specs.Counts.{Rose, HasCause};
 ghost use Rattle.command_answers.specs.Causes.{IsAnswerToRequest, HasToldCause, IsWell};
 ghost use Rattle.run_command.specs.RecoverOutcomes.{DidRecover};
 ghost use Rattle.rack_runs.specs.Stops.{WhyNoTurns, TurnsLeave};
-ghost use Rattle.ledger_runs.specs.Least.{IsLeastOpen};
-ghost use Rattle.rack_runs.specs.Runs.{NonePrepared, NothingNext};
+ghost use Rattle.command_answers.specs.Scene.{disks_in};
+ghost use Rattle.rack_runs.specs.Runs.{open_turns};
 ghost use Rattle.command_answers.specs.Texts.{IsPrinted, IsSilent};
 ghost use Rattle.run_command.specs.Texts.{batch_text, batch_texts};
 ghost use Rattle.command_answers.specs.Left.{IsBeforeDisks};
@@ -59,7 +59,8 @@ fn write_batch<O: Sink>(out: &mut O, resumed: &ResumedBatch) -> Result<(), Write
 // Writes the line of each resumed batch, and the numbers behind them.
 fn write_recovered<O: Sink>(out: &mut O, recovered: &Ran) -> Result<(), WriteFault>
     ensures prints { Prints (O.taken out.old) (O.taken out.new)
-        (batch_texts recovered.now.resumed.items ++ recovery_text (length recovered.now.resumed.items) recovered.now.unspent) result }
+        (batch_texts recovered.now.resumed.items
+        ++ recovery_text (length recovered.now.resumed.items) recovered.now.unspent) result }
     ensures cause { HasCause (O.count out.old) (O.count out.new) result }
 {
     'batches: for resumed in &recovered.resumed {
@@ -88,10 +89,14 @@ pub fn recover<W: Wait + Threads + Sync, R: Rack, O: Sink, G: Gate + Sync>(
 where
     R::Disk: Send,
     requires { (n : ℕ) → R.can_take rack.old n }
-    ensures cause { IsAnswerToRequest (λ file. ⊥) (λ file. ⊥) (Rose (O.count out.old) (O.count out.new)) result }
-    ensures did { IsWell result → DidRecover R.Disk.Disk (R.held rack.old) (R.held rack.new) (IsPrinted (O.taken out.old) (O.taken out.new) result) }
-    ensures why { HasToldCause (WhyNoTurns R.Disk.Disk (R.held rack.old) (R.held rack.new) (R.count rack.old) (R.count rack.new) NothingNext IsLeastOpen NonePrepared []) result }
-    ensures left { (IsWell result → ⊥) → TurnsLeave R.Disk.Disk (R.held rack.old) (R.held rack.new) (R.count rack.old) (R.count rack.new) NothingNext IsLeastOpen NonePrepared [] result }
+    ensures cause { IsAnswerToRequest (λ file. ⊥) (λ file. ⊥)
+        (Rose (O.count out.old) (O.count out.new)) result }
+    ensures did { IsWell result → DidRecover R.Disk.Disk (disks_in R.Rack rack.old) (disks_in R.Rack rack.new)
+        (IsPrinted (O.taken out.old) (O.taken out.new) result) }
+    ensures why { let before = disks_in R.Rack rack.old in let after = disks_in R.Rack rack.new in
+        HasToldCause (WhyNoTurns R.Disk.Disk before after open_turns) result }
+    ensures left { let before = disks_in R.Rack rack.old in let after = disks_in R.Rack rack.new in
+        (IsWell result → ⊥) → TurnsLeave R.Disk.Disk before after open_turns result }
     ensures silent { IsSilent (O.taken out.old) (O.taken out.new) result }
     ensures written_later { O.count out.old ≤ O.count out.new }
     ensures untouched { IsBeforeDisks result → rack.new ≡ rack.old }

@@ -187,7 +187,8 @@ fn write_decided<O: Sink>(
     batch: BatchId,
     outcome: Outcome,
 ) -> Result<(), WriteFault>
-    ensures prints { Prints (O.taken out.old) (O.taken out.new) (decided_line file place id.now batch outcome) result }
+    ensures prints { Prints (O.taken out.old) (O.taken out.new)
+        (decided_line file place id.now batch outcome) result }
     ensures cause { HasCause (O.count out.old) (O.count out.new) result }
 {
     match outcome {
@@ -226,7 +227,8 @@ fn gather_one<O: Sink>(
     id: &Hash,
     report: &Option<Report>,
 ) -> Result<(), WriteFault>
-    ensures gathers { GathersText (O.taken out.old) page.old.text.items (O.taken out.new) page.new.text.items (told_line file place id.now report.now) result }
+    ensures gathers { GathersText (O.taken out.old) page.old.text.items
+        (O.taken out.new) page.new.text.items (told_line file place id.now report.now) result }
     ensures cause { HasCause (O.count out.old) (O.count out.new) result }
 {
     let waiting = page.len();
@@ -248,7 +250,9 @@ fn gather_wave<O: Sink>(
     wave: &Wave,
     file: u64,
 ) -> Result<(), WriteFault>
-    ensures gathers { GathersText (O.taken out.old) page.old.text.items (O.taken out.new) page.new.text.items (told_file file 0 wave.now.lanes.items wave.now.checked.items) result }
+    ensures gathers { GathersText (O.taken out.old) page.old.text.items
+        (O.taken out.new) page.new.text.items
+        (told_file file 0 wave.now.lanes.items wave.now.checked.items) result }
     ensures cause { HasCause (O.count out.old) (O.count out.new) result }
 {
     let mut place = 0u64;
@@ -275,7 +279,8 @@ fn write_waves<O: Sink>(out: &mut O, waves: &[Wave]) -> Result<(), WriteFault>
 
 /// Writes a line for each submission, in order of file and place, and the summary.
 pub fn write_report<O: Sink>(out: &mut O, ran: &Ran) -> Result<(), WriteFault>
-    ensures prints { IsCountable ran.now → Prints (O.taken out.old) (O.taken out.new) (ran_text ran.now) result }
+    ensures prints { IsCountable ran.now
+        → Prints (O.taken out.old) (O.taken out.new) (ran_text ran.now) result }
     ensures cause { HasCause (O.count out.old) (O.count out.new) result }
 {
     write_waves(out, &ran.waves)?;
@@ -284,7 +289,8 @@ pub fn write_report<O: Sink>(out: &mut O, ran: &Ran) -> Result<(), WriteFault>
 
 /// Writes the numbers that end the text of a run, and those of an audit behind it.
 pub fn write_generated<O: Sink>(out: &mut O, ran: &Ran, totals: &Totals) -> Result<(), WriteFault>
-    ensures prints { IsCountable ran.now → Prints (O.taken out.old) (O.taken out.new) (numbers_of ran.now ++ audit_lines totals.now) result }
+    ensures prints { IsCountable ran.now → Prints (O.taken out.old) (O.taken out.new)
+        (numbers_of ran.now ++ audit_lines totals.now) result }
     ensures cause { HasCause (O.count out.old) (O.count out.new) result }
 {
     write_summary(out, &summary_of(ran))?;

@@ -2,8 +2,9 @@
 ghost use Rattle.std.specs.Prelude.{◌≡◌, ◌≤◌, ◌⊎◌, ℕ, IfOk, IfErr};
 ghost use Rattle.outside.specs.Counts.{HasCause, Rose};
 ghost use Rattle.run_command.specs.Reports.{Reports};
-ghost use Rattle.command_answers.specs.Causes.{IsReadOrNodeFault, IsAnswerToRequest, HasToldCause, IsWell, OnePlace, OneRose, FileRose};
-ghost use Rattle.run_command.specs.Outcomes.{DidRun, WhyNoRun, WasRun, RunLeaves};
+ghost use Rattle.command_answers.specs.Causes.{IsReadOrNodeFault, IsAnswerToRequest, HasToldCause, IsWell};
+ghost use Rattle.run_command.specs.Outcomes.{DidRun, WhyNoRun, WasRun, RunLeaves, RunPlace, RunRose};
+ghost use Rattle.command_answers.specs.Scene.{disks_in, no_output, scene};
 ghost use Rattle.command_answers.specs.Texts.{IsPrinted, IsSilent};
 ghost use Rattle.line_text.specs.Lines.{Text};
 ghost use Rattle.command_answers.specs.Left.{IsBeforeDisks};
@@ -41,11 +42,18 @@ fn run_all<W: Wait + Threads + Sync, I: Inbox, R: Rack, G: Gate + Sync>(
 where
     R::Disk: Send,
     requires { (n : ℕ) → R.can_take rack.old n }
-    ensures did { IfOk result (λ r. WasRun (I.file inbox.old) R.Disk.Disk (R.held rack.old) (R.held rack.new) verdicts.now clients.now r.ran) }
-    ensures why { IfErr result (WhyNoRun (I.file inbox.old) (I.count inbox.old) (I.count inbox.new) R.Disk.Disk (R.held rack.old) (R.held rack.new) (R.count rack.old) (R.count rack.new) verdicts.now clients.now) }
-    ensures fault { IfErr result (IsReadOrNodeFault (λ place. OnePlace clients.now place ⊎ (place ≡ verdicts.now.place)) (λ place. OneRose (I.count inbox.old) (I.count inbox.new) clients.now place ⊎ FileRose (I.count inbox.old) (I.count inbox.new) verdicts.now place)) }
+    ensures did { IfOk result (λ r. WasRun R.Disk.Disk (I.file inbox.old)
+        (disks_in R.Rack rack.old) (disks_in R.Rack rack.new) verdicts.now clients.now r.ran) }
+    ensures why { let before = scene I.Inbox R.Rack no_output inbox.old rack.old tt in
+        let after = scene I.Inbox R.Rack no_output inbox.new rack.new tt in
+        IfErr result (WhyNoRun R.Disk.Disk before after verdicts.now clients.now) }
+    ensures fault { IfErr result (IsReadOrNodeFault (RunPlace verdicts.now clients.now)
+        (RunRose (I.count inbox.old) (I.count inbox.new) verdicts.now clients.now)) }
     ensures untouched { IfErr result (λ e. IsBeforeDisks e → rack.new ≡ rack.old) }
-    ensures left { IfErr result (λ e. (rack.new ≡ rack.old) ⊎ RunLeaves (I.file inbox.old) R.Disk.Disk (R.held rack.old) (R.held rack.new) (R.count rack.old) (R.count rack.new) verdicts.now clients.now e) }
+    ensures left { let before = scene I.Inbox R.Rack no_output inbox.old rack.old tt in
+        let after = scene I.Inbox R.Rack no_output inbox.new rack.new tt in
+        IfErr result (λ e. (rack.new ≡ rack.old)
+        ⊎ RunLeaves R.Disk.Disk before after verdicts.now clients.now e) }
     ensures files { (name : Text) → I.file inbox.new name ≡ I.file inbox.old name }
     ensures back { (n : ℕ) → R.can_take rack.new n }
 {
@@ -124,14 +132,22 @@ pub fn run<W: Wait + Threads + Sync, I: Inbox, R: Rack, O: Sink, G: Gate + Sync>
 where
     R::Disk: Send,
     requires { (n : ℕ) → R.can_take rack.old n }
-    ensures cause { IsAnswerToRequest (λ place. OnePlace clients.now place ⊎ (place ≡ verdicts.now.place)) (λ place. OneRose (I.count inbox.old) (I.count inbox.new) clients.now place ⊎ FileRose (I.count inbox.old) (I.count inbox.new) verdicts.now place)
+    ensures cause { IsAnswerToRequest (RunPlace verdicts.now clients.now)
+        (RunRose (I.count inbox.old) (I.count inbox.new) verdicts.now clients.now)
         (Rose (O.count out.old) (O.count out.new)) result }
-    ensures did { IsWell result → DidRun (I.file inbox.old) R.Disk.Disk (R.held rack.old) (R.held rack.new) (IsPrinted (O.taken out.old) (O.taken out.new) result) verdicts.now clients.now }
-    ensures why { HasToldCause (WhyNoRun (I.file inbox.old) (I.count inbox.old) (I.count inbox.new) R.Disk.Disk (R.held rack.old) (R.held rack.new) (R.count rack.old) (R.count rack.new) verdicts.now clients.now) result }
+    ensures did { IsWell result → DidRun R.Disk.Disk (I.file inbox.old)
+        (disks_in R.Rack rack.old) (disks_in R.Rack rack.new)
+        (IsPrinted (O.taken out.old) (O.taken out.new) result) verdicts.now clients.now }
+    ensures why { let before = scene I.Inbox R.Rack O.Sink inbox.old rack.old out.old in
+        let after = scene I.Inbox R.Rack O.Sink inbox.new rack.new out.new in
+        HasToldCause (WhyNoRun R.Disk.Disk before after verdicts.now clients.now) result }
     ensures silent { IsSilent (O.taken out.old) (O.taken out.new) result }
     ensures written_later { O.count out.old ≤ O.count out.new }
     ensures untouched { IsBeforeDisks result → rack.new ≡ rack.old }
-    ensures left { (IsWell result → ⊥) → (rack.new ≡ rack.old) ⊎ RunLeaves (I.file inbox.old) R.Disk.Disk (R.held rack.old) (R.held rack.new) (R.count rack.old) (R.count rack.new) verdicts.now clients.now result }
+    ensures left { let before = scene I.Inbox R.Rack O.Sink inbox.old rack.old out.old in
+        let after = scene I.Inbox R.Rack O.Sink inbox.new rack.new out.new in
+        (IsWell result → ⊥)
+        → (rack.new ≡ rack.old) ⊎ RunLeaves R.Disk.Disk before after verdicts.now clients.now result }
     ensures files { (name : Text) → I.file inbox.new name ≡ I.file inbox.old name }
     ensures back { (n : ℕ) → R.can_take rack.new n }
 {

@@ -13,7 +13,8 @@ use Rattle.rack_ledgers.proofs.Closed.{all_same}
 use Rattle.rack_ledgers.proofs.OwnJournals.{each_opens, each_room, each_holds}
 use Rattle.printed_lines.specs.Reports.{status_lines, status_at}
 use Rattle.rack_ledgers.specs.Ledgers.{AreOpened, ByPlace}
-use Rattle.rack_ledgers.specs.Racked.{OfTold, AreUnchanged, AreBack}
+use Rattle.rack_ledgers.specs.Racked.{OfTold, AreUnchanged}
+use Rattle.command_answers.specs.Scene.{AreDisksBack}
 use Rattle.rack_ledgers.proofs.Told.{same_back}
 use Rattle.status_command.specs.Outcomes.{DidStatus}
 use Rattle.status_command.specs.Texts.{told_lines, journal_there, journals_at, status_among}
@@ -70,12 +71,13 @@ module _ {D : Type 0} (device : Ghosts D) (held : ℕ → Option D) (h : Header)
     pub all_unchanged : AreUnchanged device held now
     all_unchanged = all_same device held mid now h logs shards are kept closed_logs closed_shards others
 
-    pub all_back : (before after : ℕ → ℕ) → AreBack device before after held now
+    pub all_back : (before after : ℕ → ℕ) → AreDisksBack device (record { held = held; faults = before }) (record { held = now; faults = after })
     all_back before after n = same_back device (before n) (after n) (held n) (now n) (all_unchanged n)
 
     -- the lines that were printed tell what the ledger knows
-    pub did_status : (printed : Text → Type 0) (hashes : List Digest) → printed (told_lines hashes (map (status_among shards) hashes)) → DidStatus device held now printed hashes
-    did_status printed hashes told = record {
+    pub did_status : (before after : ℕ → ℕ) (printed : Text → Type 0) (hashes : List Digest) → printed (told_lines hashes (map (status_among shards) hashes))
+        → DidStatus device (record { held = held; faults = before }) (record { held = now; faults = after }) printed hashes
+    did_status before after printed hashes told = record {
       shape = h.shape;
       genesis = h.genesis;
       journals = journals_at h.shape logs shards;

@@ -7,7 +7,7 @@ ghost use Rattle.status_command.specs.Outcomes.{DidStatus, WhyNoStatus};
 ghost use Rattle.command_answers.specs.Texts.{IsPrinted, IsSilent};
 ghost use Rattle.status_command.specs.Texts.{told_lines, status_among};
 ghost use Rattle.command_answers.specs.Left.{IsBeforeDisks};
-ghost use Rattle.rack_ledgers.specs.Racked.{AreBack};
+ghost use Rattle.command_answers.specs.Scene.{AreDisksBack, disks_in};
 
 use cbdc_types::{Answer, Hash, Status};
 use line_text::{WriteFault, write_status};
@@ -35,7 +35,8 @@ fn statuses<D: Disk>(
     nodes: &Nodes<D>,
     hashes: &[Hash],
 ) -> Result<Vec<Status>, AllocError>
-    ensures { length nodes.now.shards.items ≤ 64 → IfOk result (λ v. v.items ≡ map (status_among nodes.now.shards.items) hashes.now) }
+    ensures { length nodes.now.shards.items ≤ 64
+        → IfOk result (λ v. v.items ≡ map (status_among nodes.now.shards.items) hashes.now) }
 {
     let mut all = Vec::with_capacity(alloc, hashes.len())?;
     'hashes: for hash in hashes {
@@ -78,13 +79,16 @@ pub fn status<W: Threads + Sync, R: Rack, O: Sink>(
 where
     R::Disk: Send,
     requires { (n : ℕ) → R.can_take rack.old n }
-    ensures cause { IsAnswerToRequest (λ file. ⊥) (λ file. ⊥) (Rose (O.count out.old) (O.count out.new)) result }
-    ensures did { IsWell result → DidStatus R.Disk.Disk (R.held rack.old) (R.held rack.new) (IsPrinted (O.taken out.old) (O.taken out.new) result) hashes.now }
-    ensures why { HasToldCause (WhyNoStatus R.Disk.Disk (R.held rack.old) (R.held rack.new) (R.count rack.old) (R.count rack.new)) result }
+    ensures cause { IsAnswerToRequest (λ file. ⊥) (λ file. ⊥)
+        (Rose (O.count out.old) (O.count out.new)) result }
+    ensures did { IsWell result → DidStatus R.Disk.Disk (disks_in R.Rack rack.old) (disks_in R.Rack rack.new)
+        (IsPrinted (O.taken out.old) (O.taken out.new) result) hashes.now }
+    ensures why { let before = disks_in R.Rack rack.old in let after = disks_in R.Rack rack.new in
+        HasToldCause (WhyNoStatus R.Disk.Disk before after) result }
     ensures silent { IsSilent (O.taken out.old) (O.taken out.new) result }
     ensures written_later { O.count out.old ≤ O.count out.new }
     ensures untouched { IsBeforeDisks result → rack.new ≡ rack.old }
-    ensures left { AreBack R.Disk.Disk (R.count rack.old) (R.count rack.new) (R.held rack.old) (R.held rack.new) }
+    ensures left { AreDisksBack R.Disk.Disk (disks_in R.Rack rack.old) (disks_in R.Rack rack.new) }
     ensures back { (n : ℕ) → R.can_take rack.new n }
 {
     let nodes = match open_nodes(rt, alloc, rack) {

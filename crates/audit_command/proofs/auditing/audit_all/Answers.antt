@@ -4,6 +4,7 @@ use Rattle.cbdc_model.specs.Coins.{Output, FullTx, genesis_id}
 use Rattle.input_files.specs.Contents.{mint_of_file}
 use Rattle.file_runs.specs.Runs.{joined}
 use Rattle.rack_ledgers.specs.Audited.{IsAudited, HistoryHasRoom, HistoryIsHeld}
+use Rattle.command_answers.specs.Scene.{disks_in}
 use Rattle.rack_ledgers.proofs.Told.{back_same}
 use Rattle.audit_command.specs.Audits.{WhyUnopened}
 use Rattle.command_answers.proofs.Answers.{first_fault, not_read_fault, one_later}
@@ -77,7 +78,7 @@ returns-clause-why g c =
       inr (
         c.in-Ok-all_clients_in.files.items,
         are_read_same (g.I.Inbox.file c.mint_in.new.inbox) (g.I.Inbox.file c.args.inbox.now) c.mint_in.ensures.same c.args.clients.now c.in-Ok-all_clients_in.files.items 0 c.in-Ok-all_clients_in.ensures.read,
-        subst (λ m. WhyUnopened g.R.Disk.Disk (g.R.Rack.held c.args.rack.now) (g.R.Rack.count c.args.rack.now) (g.R.Rack.count c.audit_on.new.rack) m e) c.as_slice.ensures why,
+        subst (λ m. WhyUnopened g.R.Disk.Disk (disks_in g.R.Rack c.args.rack.now) (disks_in g.R.Rack c.audit_on.new.rack) m e) c.as_slice.ensures why,
       ),
     ))
     c.audit_on.ensures.refusal

@@ -1,9 +1,7 @@
 use Rattle.std.proofs.Common.{inl, inr, ⊎_elim}
-use Rattle.cbdc_types.specs.declared.answer.Answer.{Answer}
-use Rattle.command_line.specs.Asked.{IsAsked}
 use Rattle.command_line.specs.Words.{texts}
-use Rattle.requests.specs.declared.Request.{Request}
-use Rattle.commands.specs.Outcomes.{Why}
+use Rattle.command_answers.specs.Scene.{scene}
+use Rattle.commands.specs.Outcomes.{AskedWhy, Why}
 use Rattle.command_answers.proofs.Answers.{told_by}
 use Rattle.commands.proofs.Named.{answered}
 use Rattle.commands.proofs.Naming.{asked_name}
@@ -20,8 +18,10 @@ returns-in-Ok-clause-did g c well = (c.in-Ok.request, c.in-Ok.ensures.asked, c.a
 
 pub returns-in-Ok-clause-why : goal.returns-in-Ok-clause-why
 returns-in-Ok-clause-why g c =
-    let why : Request → Answer → Type 0 = λ r a. Why (g.I.Inbox.file c.args.inbox.now) (g.I.Inbox.count c.args.inbox.now) (g.I.Inbox.count c.answer_to-status.new.inbox) g.R.Disk.Disk (g.R.Rack.held c.args.rack.now) (g.R.Rack.held c.answer_to-status.new.rack) (g.R.Rack.count c.args.rack.now) (g.R.Rack.count c.answer_to-status.new.rack) r a in
-    told_by (why c.in-Ok.request) (λ a. (r : Request) × IsAsked (texts c.args.words.now) r × why r a) c.answer_to-status.result (λ a so. (c.in-Ok.request, c.in-Ok.ensures.asked, so)) c.answer_to-status.ensures.why
+    let at = scene g.I.Inbox g.R.Rack g.O.Sink in
+    let before = at c.args.inbox.now c.args.rack.now c.args.out.now in
+    let after = at c.answer_to-status.new.inbox c.answer_to-status.new.rack c.answer_to-status.new.out in
+    told_by (Why g.R.Disk.Disk before after c.in-Ok.request) (AskedWhy g.R.Disk.Disk before after (texts c.args.words.now)) c.answer_to-status.result (λ a so. (c.in-Ok.request, c.in-Ok.ensures.asked, so)) c.answer_to-status.ensures.why
 
 pub returns-in-Ok-clause-told : goal.returns-in-Ok-clause-told
 returns-in-Ok-clause-told g c refused = absurd (asked_law (texts c.args.words.now) c.in-Ok.request c.see_request.ensures c.in-Ok.ensures.asked refused)

@@ -77,7 +77,6 @@ returns-in-Ok-came-clause-begun g c =
     let begun = is_open g.R.Disk.Disk e (g.R.Rack.held c.open_caused.new.rack) (g.R.Rack.can_put c.open_caused.new.rack) (g.R.Rack.can_take c.open_caused.new.rack) o.opened o.caused o.few o.logs_since o.shards_since o.logs o.shards o.others_held o.others_in in (
       e,
       refl,
-      refl,
       begun,
       subst (λ k. HasResumed g.R.Disk.Disk (entry_ledger e) c.resume_ledger-ledger.result.ledger k) c.in-Ok-came.is
           (subst (λ l. HasResumed g.R.Disk.Disk l c.resume_ledger-ledger.result.ledger c.resume_ledger-ledger.result.came) c.ledger_of-ledger.ensures c.resume_ledger-ledger.ensures),

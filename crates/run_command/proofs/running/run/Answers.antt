@@ -1,7 +1,6 @@
-use Rattle.std.proofs.Common.{◌≡◌, ◌⊎◌}
 use Rattle.outside.specs.Counts.{Rose}
-use Rattle.command_answers.specs.Causes.{OnePlace, OneRose, FileRose}
-use Rattle.run_command.specs.Outcomes.{WhyNoRun}
+use Rattle.command_answers.specs.Scene.{disks_in, scene}
+use Rattle.run_command.specs.Outcomes.{RunPlace, RunRose, WhyNoRun}
 use Rattle.cbdc_types.specs.declared.answer.Answer.TheVariants as answers
 use Rattle.command_answers.specs.Texts.{IsPrinted}
 use Rattle.run_command.proofs.Printed.{did_run}
@@ -11,12 +10,13 @@ use Rattle.run_command.proofs.running.run.Goals as goal
 
 pub returns-in-Err-clause-why : goal.returns-in-Err-clause-why
 returns-in-Err-clause-why g c =
-    told (WhyNoRun (g.I.Inbox.file c.args.inbox.now) (g.I.Inbox.count c.args.inbox.now) (g.I.Inbox.count c.run_all.new.inbox) g.R.Disk.Disk (g.R.Rack.held c.args.rack.now) (g.R.Rack.held c.run_all.new.rack) (g.R.Rack.count c.args.rack.now) (g.R.Rack.count c.run_all.new.rack) c.args.verdicts.now c.args.clients.now) c.in-Err.fault c.in-Err.ensures.why
+    let before = scene g.I.Inbox g.R.Rack g.O.Sink c.args.inbox.now c.args.rack.now c.args.out.now in
+    let after = scene g.I.Inbox g.R.Rack g.O.Sink c.run_all.new.inbox c.run_all.new.rack c.args.out.now in
+    told (WhyNoRun g.R.Disk.Disk before after c.args.verdicts.now c.args.clients.now) c.in-Err.fault c.in-Err.ensures.why
 
 pub returns-in-Err-clause-cause : goal.returns-in-Err-clause-cause
 returns-in-Err-clause-cause g c =
-    fault_done (λ place. OnePlace c.args.clients.now place ⊎ (place ≡ c.args.verdicts.now.place))
-    (λ place. OneRose (g.I.Inbox.count c.args.inbox.now) (g.I.Inbox.count c.run_all.new.inbox) c.args.clients.now place ⊎ FileRose (g.I.Inbox.count c.args.inbox.now) (g.I.Inbox.count c.run_all.new.inbox) c.args.verdicts.now place)
+    fault_done (RunPlace c.args.verdicts.now c.args.clients.now) (RunRose (g.I.Inbox.count c.args.inbox.now) (g.I.Inbox.count c.run_all.new.inbox) c.args.verdicts.now c.args.clients.now)
     (Rose (g.O.Sink.count c.args.out.now) (g.O.Sink.count c.args.out.now)) c.in-Err.fault c.in-Err.ensures.fault
 
 pub returns-in-Err-clause-silent : goal.returns-in-Err-clause-silent
@@ -24,12 +24,12 @@ returns-in-Err-clause-silent g c = silent_same (g.O.Sink.taken c.args.out.now) c
 
 pub returns-in-Ok-write_beside-clause-did : goal.returns-in-Ok-write_beside-clause-did
 returns-in-Ok-write_beside-clause-did g c well =
-    did_run (g.I.Inbox.file c.args.inbox.now) g.R.Disk.Disk (g.R.Rack.held c.args.rack.now) (g.R.Rack.held c.run_all.new.rack) (IsPrinted (g.O.Sink.taken c.args.out.now) (g.O.Sink.taken c.write_beside.new.out) answers.Ok)
+    did_run g.R.Disk.Disk (g.I.Inbox.file c.args.inbox.now) (disks_in g.R.Rack c.args.rack.now) (disks_in g.R.Rack c.run_all.new.rack) (IsPrinted (g.O.Sink.taken c.args.out.now) (g.O.Sink.taken c.write_beside.new.out) answers.Ok)
     c.args.verdicts.now c.args.clients.now c.in-Ok.done.ran c.in-Ok.ensures.did c.in-Ok-write_beside.ensures.prints.prints
 
 pub returns-clause-did : goal.returns-clause-did
 returns-clause-did g c well =
-    did_run (g.I.Inbox.file c.args.inbox.now) g.R.Disk.Disk (g.R.Rack.held c.args.rack.now) (g.R.Rack.held c.run_all.new.rack) (IsPrinted (g.O.Sink.taken c.args.out.now) (g.O.Sink.taken c.write_beside.new.out) answers.WriteFault)
+    did_run g.R.Disk.Disk (g.I.Inbox.file c.args.inbox.now) (disks_in g.R.Rack c.args.rack.now) (disks_in g.R.Rack c.run_all.new.rack) (IsPrinted (g.O.Sink.taken c.args.out.now) (g.O.Sink.taken c.write_beside.new.out) answers.WriteFault)
     c.args.verdicts.now c.args.clients.now c.in-Ok.done.ran c.in-Ok.ensures.did c.in-Err-write_beside.ensures.prints.prints
 
 pub returns-in-Err-clause-left : goal.returns-in-Err-clause-left

@@ -2,8 +2,8 @@ use Rattle.rack_runs.proofs.Turned.{not_turned, turns_leave}
 use Rattle.std.proofs.Common.{◌≤◌, inl, inr, refl, sym, subst}
 use Rattle.input_files.specs.Contents.{AreRead, all_txs}
 use Rattle.sentinel.specs.Files.{told}
-use Rattle.rack_runs.specs.Endings.{EndsRun}
-use Rattle.rack_runs.specs.Runs.{PieceNext, PiecesPrepared}
+use Rattle.command_answers.specs.Scene.{disks_in}
+use Rattle.rack_runs.specs.Runs.{file_turns}
 use Rattle.run_command.proofs.Inputs.{no_inputs_fault}
 use Rattle.run_command.proofs.running.run_all.Goals as goal
 
@@ -36,8 +36,8 @@ returns-in-Err-run_on-clause-why g c = inr (
 
 pub returns-in-Err-run_on-clause-untouched : goal.returns-in-Err-run_on-clause-untouched
 returns-in-Err-run_on-clause-untouched g c before =
-    absurd (not_turned g.R.Disk.Disk (g.R.Rack.held c.args.rack.now) (g.R.Rack.held c.run_on.new.rack) (g.R.Rack.count c.args.rack.now) (g.R.Rack.count c.run_on.new.rack)
-    (PieceNext (told c.in-Ok.inputs.verdicts) c.deref.result.now) (EndsRun (told c.in-Ok.inputs.verdicts) c.deref.result.now) (PiecesPrepared (told c.in-Ok.inputs.verdicts) c.deref.result.now) c.deref.result.now c.in-Err-run_on.fault c.in-Err-run_on.ensures.stopped before)
+    absurd (not_turned g.R.Disk.Disk (disks_in g.R.Rack c.args.rack.now) (disks_in g.R.Rack c.run_on.new.rack)
+    (file_turns (told c.in-Ok.inputs.verdicts) c.deref.result.now) c.in-Err-run_on.fault c.in-Err-run_on.ensures.stopped before)
 
 pub returns-in-Err-run_on-clause-left : goal.returns-in-Err-run_on-clause-left
 returns-in-Err-run_on-clause-left g c = inr (
@@ -45,6 +45,6 @@ returns-in-Err-run_on-clause-left g c = inr (
   subst (λ txs. AreRead (g.I.Inbox.file c.args.inbox.now) 0 c.args.clients.now txs) (sym c.deref.ensures.value) c.in-Ok.ensures.read,
   c.in-Ok.inputs.verdicts,
   c.in-Ok.ensures.verdicts,
-  turns_leave g.R.Disk.Disk (g.R.Rack.held c.args.rack.now) (g.R.Rack.held c.run_on.new.rack) (g.R.Rack.count c.args.rack.now) (g.R.Rack.count c.run_on.new.rack)
-      (PieceNext (told c.in-Ok.inputs.verdicts) c.deref.result.now) (EndsRun (told c.in-Ok.inputs.verdicts) c.deref.result.now) (PiecesPrepared (told c.in-Ok.inputs.verdicts) c.deref.result.now) c.deref.result.now c.in-Err-run_on.fault c.in-Err-run_on.ensures.stopped,
+  turns_leave g.R.Disk.Disk (disks_in g.R.Rack c.args.rack.now) (disks_in g.R.Rack c.run_on.new.rack)
+      (file_turns (told c.in-Ok.inputs.verdicts) c.deref.result.now) c.in-Err-run_on.fault c.in-Err-run_on.ensures.stopped,
 )

@@ -1,5 +1,6 @@
 use Rattle.command_answers.proofs.Refusals.{not_refused}
 use Rattle.std.proofs.Common.{◌≡◌, ◌≤◌, ◌∙◌, length, map, subst}
+use Rattle.command_answers.specs.Scene.{disks_in}
 use Rattle.cbdc_types.specs.declared.answer.Answer.TheVariants as answers
 use Rattle.status_command.specs.Outcomes.{WhyNoStatus}
 use Rattle.command_answers.specs.Texts.{IsPrinted}
@@ -11,7 +12,7 @@ use Rattle.status_command.proofs.looking.status.Goals as goal
 
 pub returns-in-Err-clause-why : goal.returns-in-Err-clause-why
 returns-in-Err-clause-why g c =
-    told (WhyNoStatus g.R.Disk.Disk (g.R.Rack.held c.args.rack.now) (g.R.Rack.held c.open_nodes.new.rack) (g.R.Rack.count c.args.rack.now) (g.R.Rack.count c.open_nodes.new.rack)) c.in-Err.fault (c.in-Err.ensures.refusal, c.in-Err.ensures.held)
+    told (WhyNoStatus g.R.Disk.Disk (disks_in g.R.Rack c.args.rack.now) (disks_in g.R.Rack c.open_nodes.new.rack)) c.in-Err.fault (c.in-Err.ensures.refusal, c.in-Err.ensures.held)
 
 pub returns-in-Ok-write_statuses-clause-did : goal.returns-in-Ok-write_statuses-clause-did
 returns-in-Ok-write_statuses-clause-did g c well =
@@ -23,7 +24,7 @@ returns-in-Ok-write_statuses-clause-did g c well =
     let same : c.deref.result.now ≡ map (status_among c.in-Ok.nodes.shards.items) c.args.hashes.now = c.deref.ensures.value ∙ c.in-Ok-told.ensures few in
     did_status g.R.Disk.Disk held nodes.header nodes.logs.items nodes.shards.items c.in-Ok.ensures.opened
     (g.R.Rack.held c.open_nodes.new.rack) (g.R.Rack.held c.close_nodes.new.rack) c.in-Ok.ensures.others_held c.close_nodes.ensures.closed_logs c.close_nodes.ensures.closed_shards c.close_nodes.ensures.others_held
-    printed c.args.hashes.now (subst (λ ss. printed (told_lines c.args.hashes.now ss)) same c.in-Ok-write_statuses.ensures.prints)
+    (g.R.Rack.count c.args.rack.now) (g.R.Rack.count c.close_nodes.new.rack) printed c.args.hashes.now (subst (λ ss. printed (told_lines c.args.hashes.now ss)) same c.in-Ok-write_statuses.ensures.prints)
 
 pub returns-clause-did : goal.returns-clause-did
 returns-clause-did g c well =
@@ -35,7 +36,7 @@ returns-clause-did g c well =
     let same : c.deref.result.now ≡ map (status_among c.in-Ok.nodes.shards.items) c.args.hashes.now = c.deref.ensures.value ∙ c.in-Ok-told.ensures few in
     did_status g.R.Disk.Disk held nodes.header nodes.logs.items nodes.shards.items c.in-Ok.ensures.opened
     (g.R.Rack.held c.open_nodes.new.rack) (g.R.Rack.held c.close_nodes.new.rack) c.in-Ok.ensures.others_held c.close_nodes.ensures.closed_logs c.close_nodes.ensures.closed_shards c.close_nodes.ensures.others_held
-    printed c.args.hashes.now (subst (λ ss. printed (told_lines c.args.hashes.now ss)) same c.in-Err-write_statuses.ensures.prints)
+    (g.R.Rack.count c.args.rack.now) (g.R.Rack.count c.close_nodes.new.rack) printed c.args.hashes.now (subst (λ ss. printed (told_lines c.args.hashes.now ss)) same c.in-Err-write_statuses.ensures.prints)
 
 pub returns-in-Err-clause-silent : goal.returns-in-Err-clause-silent
 returns-in-Err-clause-silent g c = silent_same (g.O.Sink.taken c.args.out.now) c.in-Err.fault
