@@ -21,14 +21,14 @@ use Rattle.ledger_laws.proofs.More.{has_done}
 use Rattle.audit.specs.declared.verdict.Totals.{Totals}
 use Rattle.audit.specs.Laws.{AllAfter}
 use Rattle.audit.specs.Spending.{AreSpent}
-use Rattle.audit.specs.Verdicts.{Passes, IsSound, journals_of}
+use Rattle.audit.specs.Verdicts.{Passes, IsSoundHistory, journals_of}
 use Rattle.audit.proofs.Once.{SoFar, AreReady, fold_so_far, mint_worth, EachBalanced, fold_worth}
 use Rattle.audit.proofs.Unspent.{done_of, forms_are}
 use Rattle.audit.proofs.Sound.{unspent_is_book, spends_of, all_done}
 use Rattle.audit.proofs.Ordered.{ordered_rows}
-use Rattle.audit.specs.Journals.{AreJournals, BeginAs}
+use Rattle.audit.specs.Journals.{AreLedgerJournals, BeginAs}
 use Rattle.audit.specs.Accounts.{IsBalanced, EachSpends, IsAccounted}
-use Rattle.audit.specs.AccountLaws.{Any, AccountLaw}
+use Rattle.audit.specs.AccountLaws.{AnyForm, AccountLaw}
 use Rattle.audit.proofs.Begun.{caused_lists}
 use Rattle.audit.proofs.Twice.{none_twice, no_id_twice}
 use Rattle.audit.proofs.AtRest.{at_rest}
@@ -37,7 +37,7 @@ balanced_of : (mint : List Output) (handed : List FullTx) (clean : Clean mint ha
 balanced_of mint handed clean [] h = tt
 balanced_of mint handed clean (t ∷ ts) h = (h.0, balanced_of mint handed clean ts h.1)
 
-afters : (K : Shape) (mint : List Output) (later : List Row) → Steady K (minted mint) Any later → AllAfter K (minted mint) later
+afters : (K : Shape) (mint : List Output) (later : List Row) → Steady K (minted mint) AnyForm later → AllAfter K (minted mint) later
 afters K mint [] kept = tt
 afters K mint (row ∷ later) kept = (after_of K (minted mint).id row.node (journal row.node (later ++ first_rows K (minted mint))) row.what kept.0 kept.4, afters K mint later kept.3)
 
@@ -45,13 +45,13 @@ same_length : {A B : Type 0} (f : A → B) (xs : List A) → length (map f xs) �
 same_length f [] = refl
 same_length f (x ∷ xs) = ap suc (same_length f xs)
 
-module _ (K : Shape) (mint : List Output) (handed : List FullTx) (rows : List Row) (totals : Totals) (shards : 0 < K.shards) (are : AreJournals K (minted mint).id (journals_of rows))
-    (ordered : IsOrdered (reverse rows)) (begin : BeginAs K (minted mint) (journals_of rows)) (clean : Clean mint handed) (each : EachSpends (reverse rows)) (sound : IsSound K mint handed rows totals) where
+module _ (K : Shape) (mint : List Output) (handed : List FullTx) (rows : List Row) (totals : Totals) (shards : 0 < K.shards) (are : AreLedgerJournals K (minted mint).id (journals_of rows))
+    (ordered : IsOrdered (reverse rows)) (begin : BeginAs K (minted mint) (journals_of rows)) (clean : Clean mint handed) (each : EachSpends (reverse rows)) (sound : IsSoundHistory K mint handed rows totals) where
   abbrev J : ℕ → List Record
   J = journals_of rows
 
-  steady : SteadyJournals K (minted mint) Any J
-  steady = steady_journals K (minted mint) Any shards J (steady_lists K (minted mint) Any J (caused_lists K (minted mint) (reverse rows) are begin sound.pass.caused))
+  steady : SteadyJournals K (minted mint) AnyForm J
+  steady = steady_journals K (minted mint) AnyForm shards J (steady_lists K (minted mint) AnyForm J (caused_lists K (minted mint) (reverse rows) are begin sound.pass.caused))
 
   abbrev past : List Row
   past = history_of K mint steady.later
@@ -65,8 +65,8 @@ module _ (K : Shape) (mint : List Output) (handed : List FullTx) (rows : List Ro
   same_rows : rows ≡ reverse past
   same_rows = sym (reverse-reverse rows) ∙ ap reverse same_past
 
-  sound_past : IsSound K mint handed (reverse past) totals
-  sound_past = subst (λ r. IsSound K mint handed r totals) same_rows sound
+  sound_past : IsSoundHistory K mint handed (reverse past) totals
+  sound_past = subst (λ r. IsSoundHistory K mint handed r totals) same_rows sound
 
   spends : EachSpends past
   spends = subst EachSpends same_past each
@@ -86,7 +86,7 @@ module _ (K : Shape) (mint : List Output) (handed : List FullTx) (rows : List Ro
       subst (λ I. has_done I b ≡ true) at (done_past b (subst (λ I. has_prepare I b ≡ true) (sym at) h))
 
   idle_past : (lane : ℕ) → lane / K.lanes < K.coordinators → (slot (journal (lane / K.lanes) past) lane).phase ≡ Idle
-  idle_past = at_rest K (minted mint) Any shards steady.later steady.kept done_past
+  idle_past = at_rest K (minted mint) AnyForm shards steady.later steady.kept done_past
 
   idle : AreIdle K J
   idle lane lt = ap (λ I. (slot I lane).phase) (sym (steady.history (lane / K.lanes))) ∙ idle_past lane (below K.lanes K.coordinators lane lt)
@@ -125,7 +125,7 @@ module _ (K : Shape) (mint : List Output) (handed : List FullTx) (rows : List Ro
     none_twice = none_twice mint handed clean spent.txs sound_past.book so;
     no_id_twice = subst (λ ks. IsDistinct same_digest (map (λ k. k.id) ks)) forms.1 (no_id_twice mint handed clean spent.txs sound_past.book so forms.0);
     idle = idle;
-    alike = alike K (minted mint) Any shards J steady idle_past;
+    alike = alike K (minted mint) AnyForm shards J steady idle_past;
     totals_are = λ i. record { coins = sound_past.coins i; value = sound_past.value i; minted = (sound_past.minted ∙ sym (mint_worth mint handed clean)) i; committed = counted i };
   }
 

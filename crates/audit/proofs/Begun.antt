@@ -15,8 +15,8 @@ use Rattle.audit.specs.Walks.{AllCaused}
 use Rattle.ledger_laws.proofs.Ledger.{each_passes}
 use Rattle.ledger_laws.proofs.Cuts.{end_trans, cons_same}
 use Rattle.ledger_laws.proofs.FirstJournals.{first_is, first_beyond}
-use Rattle.audit.specs.Journals.{AreJournals, BeginAs}
-use Rattle.audit.specs.AccountLaws.{Any, BegunLaw, CausedListsLaw}
+use Rattle.audit.specs.Journals.{AreLedgerJournals, BeginAs}
+use Rattle.audit.specs.AccountLaws.{AnyForm, BegunLaw, CausedListsLaw}
 
 -- ---- the hashes of first records
 
@@ -176,7 +176,7 @@ all_seen K (row ∷ past) caused n newer rest r e = go (λ more is. all_seen K p
 
 -- ---- journals
 
-module _ (K : Shape) (genesis : Digest) (J : ℕ → List Record) (are : AreJournals K genesis J) where
+module _ (K : Shape) (genesis : Digest) (J : ℕ → List Record) (are : AreLedgerJournals K genesis J) where
   shard_end : (s : ℕ) → s < K.shards → EndsIn (header_of K genesis (shard_node K s)) (J (shard_node K s))
   shard_end s lt = ends_in (header_of K genesis (shard_node K s)) (J (shard_node K s)) (are.nodes (shard_node K s) (omega (arith, lt)))
 
@@ -236,7 +236,7 @@ after_in h (q ∷ newer) rest r j = after_in h newer rest r (below h q r newer r
 pub caused_lists : CausedListsLaw
 caused_lists K m past are begin caused = record {
   begins = begin;
-  each = λ n newer rest r e h. (after n newer rest r e (cases_lt n (K.coordinators + K.shards)), all_seen K past caused n newer rest r e, each_passes Any (λ t. tt) r);
+  each = λ n newer rest r e h. (after n newer rest r e (cases_lt n (K.coordinators + K.shards)), all_seen K past caused n newer rest r e, each_passes AnyForm (λ t. tt) r);
 }
   where
     after : (n : ℕ) (newer rest : List Record) (r : Record) → journal n past ≡ newer ++ r ∷ rest → (n < K.coordinators + K.shards) ⊎ (K.coordinators + K.shards ≤ n) → After (header_of K m.id n) rest r

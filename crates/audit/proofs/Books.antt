@@ -17,7 +17,7 @@ use Rattle.same_records.proofs.Digests.{digest_is}
 use Rattle.same_records.proofs.Keys.{same_point_is}
 use Rattle.ledger_laws.proofs.Books.{key_cmp, value-insert, value-remove, get-remove_same, get-insert_same, get-insert_other, get-remove_other, same_key, other_key, keys}
 use Rattle.audit.specs.declared.book.Book.{Book as Kept}
-use Rattle.audit.specs.Keeping.{same_point, Keeps, IsLeft}
+use Rattle.audit.specs.Keeping.{same_kept_point, HasBook, HasRest}
 
 abbrev pub outpoint : Digest → ℕ → OutPoint
 outpoint id index = record { tx = id; index = index }
@@ -28,7 +28,7 @@ swapped true false = refl
 swapped false true = refl
 swapped false false = refl
 
-point_test : (k p : OutPoint) → same_point (k.tx, k.index) (p.tx, p.index) ≡ eq_by_cmp key_cmp (key p) (key k)
+point_test : (k p : OutPoint) → same_kept_point (k.tx, k.index) (p.tx, p.index) ≡ eq_by_cmp key_cmp (key p) (key k)
 point_test k p =
     swapped (eq-value.it k.tx p.tx) (nat_eq k.index p.index) ∙ ap (λ t. nat_eq k.index p.index && t) (digest_is k.tx p.tx)
     ∙ same_point_is k p ∙ (eq_by_cmp_equiv nat_list_cmp_total).symm (key k) (key p)
@@ -56,19 +56,19 @@ put_size : (n m : ℕ) (l : ℕ) (r : Option Output) → n ≡ m + (cond (is_som
 put_size n m l None e f = omega arith
 put_size n m l (Some p) e f = omega arith
 
-pub put_kept : (m n : Kept) (b : Book) (k : OutPoint) (o : Output) (old : Option Output) → Keeps m b → old ≡ get same_point m.outputs (k.tx, k.index)
-    → UpdatesBy same_point (same_point (k.tx, k.index)) m.outputs n.outputs (Some o) → PutsEntry same_point m.outputs n.outputs (k.tx, k.index) o old
-    → hash_map_len n.outputs ≡ hash_map_len m.outputs + (cond (is_some old) 0 1) → Keeps n (book.insert b (key k) o)
+pub put_kept : (m n : Kept) (b : Book) (k : OutPoint) (o : Output) (old : Option Output) → HasBook m b → old ≡ get same_kept_point m.outputs (k.tx, k.index)
+    → UpdatesBy same_kept_point (same_kept_point (k.tx, k.index)) m.outputs n.outputs (Some o) → PutsEntry same_kept_point m.outputs n.outputs (k.tx, k.index) o old
+    → hash_map_len n.outputs ≡ hash_map_len m.outputs + (cond (is_some old) 0 1) → HasBook n (book.insert b (key k) o)
 put_kept m n b k o old h is updates puts len =
     let was : old ≡ book.get b (key k) = is ∙ h.outputs k in
     record {
-      outputs = λ p. updates.0 (p.tx, p.index) ∙ ap (λ t. cond t (Some o) (get same_point m.outputs (p.tx, p.index))) (point_test k p)
+      outputs = λ p. updates.0 (p.tx, p.index) ∙ ap (λ t. cond t (Some o) (get same_kept_point m.outputs (p.tx, p.index))) (point_test k p)
           ∙ ap (λ r. cond (eq_by_cmp key_cmp (key p) (key k)) (Some o) r) (h.outputs p) ∙ sym (book.get-insert nat_list_cmp_total b (key k) o (key p));
       size = put_size (hash_map_len n.outputs) (hash_map_len m.outputs) (book.len b) old len h.size ∙ ap (λ r. cond (is_some r) (book.len b) (book.len b + 1)) was
           ∙ sym (book.len-insert nat_list_cmp_total b (key k) o);
       worth =
           let f : Output → ℕ = λ p. p.value in
-          let a : sum_by f (values n.outputs) + worth_at old ≡ sum_by f (values m.outputs) + o.value = sum_by_puts_entry f same_point m.outputs n.outputs (k.tx, k.index) o old is puts in
+          let a : sum_by f (values n.outputs) + worth_at old ≡ sum_by f (values m.outputs) + o.value = sum_by_puts_entry f same_kept_point m.outputs n.outputs (k.tx, k.index) o old is puts in
           let c : value (book.insert b (key k) o) + worth_at old ≡ value b + o.value = put_worth b (key k) o old (sym was) in
           let w : sum_by f (values m.outputs) ≡ value b = h.worth in
           omega arith;
@@ -78,34 +78,34 @@ remove_size : (n m l : ℕ) (o : Output) → n + (cond (is_some (Some o)) 1 0) �
 remove_size n m l o e f = omega arith
 
 -- an output is taken out, and whether it was the claimed one is told
-pub take_kept : (m n : Kept) (b : Book) (c : Coin) (o : Output) → Keeps m b → Some o ≡ get same_point m.outputs (c.point.tx, c.point.index)
-    → UpdatesBy same_point (same_point (c.point.tx, c.point.index)) m.outputs n.outputs None
-    → IsPermutation (remove_entry (same_point (c.point.tx, c.point.index)) m.outputs.entries) n.outputs.entries
-    → hash_map_len n.outputs + (cond (is_some (Some o)) 1 0) ≡ hash_map_len m.outputs → IsLeft (same_output o c.output) n (take_out b c)
+pub take_kept : (m n : Kept) (b : Book) (c : Coin) (o : Output) → HasBook m b → Some o ≡ get same_kept_point m.outputs (c.point.tx, c.point.index)
+    → UpdatesBy same_kept_point (same_kept_point (c.point.tx, c.point.index)) m.outputs n.outputs None
+    → IsPermutation (remove_entry (same_kept_point (c.point.tx, c.point.index)) m.outputs.entries) n.outputs.entries
+    → hash_map_len n.outputs + (cond (is_some (Some o)) 1 0) ≡ hash_map_len m.outputs → HasRest (same_output o c.output) n (take_out b c)
 take_kept m n b c o h is updates left len =
     let was : book.get b (key c.point) ≡ Some o = sym (h.outputs c.point) ∙ sym is in
-    subst (λ r. IsLeft (same_output o c.output) n (taken b c r)) (sym was)
-    (elim (same_output o c.output) as (λ t. IsLeft t n (cond t (Some (book.remove b (key c.point))) None)) [ true ↦ rest was | false ↦ tt ])
+    subst (λ r. HasRest (same_output o c.output) n (taken b c r)) (sym was)
+    (elim (same_output o c.output) as (λ t. HasRest t n (cond t (Some (book.remove b (key c.point))) None)) [ true ↦ rest was | false ↦ tt ])
   where
-    rest : book.get b (key c.point) ≡ Some o → Keeps n (book.remove b (key c.point))
+    rest : book.get b (key c.point) ≡ Some o → HasBook n (book.remove b (key c.point))
     rest was = record {
-      outputs = λ p. updates.0 (p.tx, p.index) ∙ ap (λ t. cond t None (get same_point m.outputs (p.tx, p.index))) (point_test c.point p)
+      outputs = λ p. updates.0 (p.tx, p.index) ∙ ap (λ t. cond t None (get same_kept_point m.outputs (p.tx, p.index))) (point_test c.point p)
           ∙ ap (λ r. cond (eq_by_cmp key_cmp (key p) (key c.point)) None r) (h.outputs p) ∙ sym (book.get-remove nat_list_cmp_total b (key c.point) (key p));
       size = remove_size (hash_map_len n.outputs) (hash_map_len m.outputs) (book.len b) o len h.size ∙ sym (book.len-remove nat_list_cmp_total b (key c.point) ∙ ap (λ r. cond (is_some r) (book.len b - 1) (book.len b)) was);
       worth =
           let f : Output → ℕ = λ p. p.value in
-          let a : sum_by f (values n.outputs) ≡ sum_by f (values_of (remove_entry (same_point (c.point.tx, c.point.index)) m.outputs.entries))
-          = sum_by_values_permutation f (remove_entry (same_point (c.point.tx, c.point.index)) m.outputs.entries) n.outputs.entries left in
-          let d : sum_by f (values_of (remove_entry (same_point (c.point.tx, c.point.index)) m.outputs.entries)) + worth_at (lookup (same_point (c.point.tx, c.point.index)) m.outputs.entries)
-          ≡ sum_by f (values m.outputs) = sum_by-remove_entry f (same_point (c.point.tx, c.point.index)) m.outputs.entries in
-          let e : worth_at (lookup (same_point (c.point.tx, c.point.index)) m.outputs.entries) ≡ o.value = ap worth_at (sym is) in
+          let a : sum_by f (values n.outputs) ≡ sum_by f (values_of (remove_entry (same_kept_point (c.point.tx, c.point.index)) m.outputs.entries))
+          = sum_by_values_permutation f (remove_entry (same_kept_point (c.point.tx, c.point.index)) m.outputs.entries) n.outputs.entries left in
+          let d : sum_by f (values_of (remove_entry (same_kept_point (c.point.tx, c.point.index)) m.outputs.entries)) + worth_at (lookup (same_kept_point (c.point.tx, c.point.index)) m.outputs.entries)
+          ≡ sum_by f (values m.outputs) = sum_by-remove_entry f (same_kept_point (c.point.tx, c.point.index)) m.outputs.entries in
+          let e : worth_at (lookup (same_kept_point (c.point.tx, c.point.index)) m.outputs.entries) ≡ o.value = ap worth_at (sym is) in
           let v : value b ≡ o.value + value (book.remove b (key c.point)) = value-remove b (key c.point) o was in
           let w : sum_by f (values m.outputs) ≡ value b = h.worth in
           omega arith;
     }
 
-pub take_none : (m n : Kept) (b : Book) (c : Coin) → Keeps m b → None ≡ get same_point m.outputs (c.point.tx, c.point.index) → IsLeft false n (take_out b c)
-take_none m n b c h is = subst (λ r. IsLeft false n (taken b c r)) (is ∙ h.outputs c.point) tt
+pub take_none : (m n : Kept) (b : Book) (c : Coin) → HasBook m b → None ≡ get same_kept_point m.outputs (c.point.tx, c.point.index) → HasRest false n (take_out b c)
+take_none m n b c h is = subst (λ r. HasRest false n (taken b c r)) (is ∙ h.outputs c.point) tt
 
 -- one more output under an id
 pub put_more : (b : Book) (id : Digest) (k : ℕ) (os : List Output) (o : Output) → put_all b (made_coins id k (os ++ o ∷ [])) ≡ book.insert (put_all b (made_coins id k os)) (key (outpoint id (k + length os))) o
@@ -129,41 +129,41 @@ pub none_worth : value (book.empty {X = Output} {R = key_cmp}) ≡ 0
 none_worth = no_entries (book.entries (book.empty {X = Output} {R = key_cmp})) (sym (book.len-entries (book.empty {X = Output} {R = key_cmp})) ∙ book.len-empty key_cmp Output)
 
 -- an empty map keeps it
-pub empty_kept : (m : Kept) → m.outputs.entries ≡ [] → Keeps m book.empty
+pub empty_kept : (m : Kept) → m.outputs.entries ≡ [] → HasBook m book.empty
 empty_kept m e = record {
-  outputs = λ p. ap (λ es. lookup (same_point (p.tx, p.index)) es) e ∙ sym (book.get-empty key_cmp (key p));
+  outputs = λ p. ap (λ es. lookup (same_kept_point (p.tx, p.index)) es) e ∙ sym (book.get-empty key_cmp (key p));
   size = ap length e ∙ sym (book.len-empty key_cmp Output);
   worth = ap (λ es. sum_by (λ (o : Output). o.value) (values_of es)) e ∙ sym none_worth;
 }
 
-left_none : (m : Kept) (r : Option Book) → IsLeft true m r → IsLeft true m (model_take r [])
+left_none : (m : Kept) (r : Option Book) → HasRest true m r → HasRest true m (model_take r [])
 left_none m None h = h
 left_none m (Some b) h = h
 
 -- one more coin is taken out of what is left, or can't be
-pub left_more : (cs : List Coin) (k : ℕ) (c : Coin) (m n : Kept) (b : Book) → k < length cs → c ≡ get_or cs k c → IsLeft true m (model_take (Some b) (take k cs))
-    → ((d : Book) → Keeps m d → IsLeft true n (take_out d c)) → IsLeft true n (model_take (Some b) (take (k + 1) cs))
+pub left_more : (cs : List Coin) (k : ℕ) (c : Coin) (m n : Kept) (b : Book) → k < length cs → c ≡ get_or cs k c → HasRest true m (model_take (Some b) (take k cs))
+    → ((d : Book) → HasBook m d → HasRest true n (take_out d c)) → HasRest true n (model_take (Some b) (take (k + 1) cs))
 left_more cs k c m n b lt is left step =
-    subst (λ r. IsLeft true n r)
+    subst (λ r. HasRest true n r)
     (sym (ap (model_take (Some b)) (take_more cs k c lt ∙ ap (λ d. take k cs ++ d ∷ []) (sym is)) ∙ take_append (Some b) (take k cs) (c ∷ [])))
     (by (model_take (Some b) (take k cs)) left)
   where
-    by : (r : Option Book) → IsLeft true m r → IsLeft true n (model_take r (c ∷ []))
+    by : (r : Option Book) → HasRest true m r → HasRest true n (model_take r (c ∷ []))
     by None l = absurd l
     by (Some d) l = left_none n (take_out d c) (step d l)
 
-pub left_not : (cs : List Coin) (k : ℕ) (c : Coin) (m n : Kept) (b : Book) → k < length cs → c ≡ get_or cs k c → IsLeft true m (model_take (Some b) (take k cs))
-    → ((d : Book) → Keeps m d → IsLeft false n (take_out d c)) → IsLeft false n (model_take (Some b) cs)
+pub left_not : (cs : List Coin) (k : ℕ) (c : Coin) (m n : Kept) (b : Book) → k < length cs → c ≡ get_or cs k c → HasRest true m (model_take (Some b) (take k cs))
+    → ((d : Book) → HasBook m d → HasRest false n (take_out d c)) → HasRest false n (model_take (Some b) cs)
 left_not cs k c m n b lt is left step =
-    subst (λ r. IsLeft false n r)
+    subst (λ r. HasRest false n r)
     (sym (ap (model_take (Some b)) (sym (take-append-drop k cs) ∙ ap (λ l. take k cs ++ l) (drop_more cs k c lt ∙ ap (λ d. d ∷ drop (k + 1) cs) (sym is)))
     ∙ take_append (Some b) (take k cs) (c ∷ drop (k + 1) cs)))
     (by (model_take (Some b) (take k cs)) left)
   where
-    lost : (r : Option Book) → IsLeft false n r → IsLeft false n (model_take r (drop (k + 1) cs))
+    lost : (r : Option Book) → HasRest false n r → HasRest false n (model_take r (drop (k + 1) cs))
     lost None l = tt
     lost (Some d) l = absurd l
 
-    by : (r : Option Book) → IsLeft true m r → IsLeft false n (model_take r (c ∷ drop (k + 1) cs))
+    by : (r : Option Book) → HasRest true m r → HasRest false n (model_take r (c ∷ drop (k + 1) cs))
     by None l = absurd l
     by (Some d) l = lost (take_out d c) (step d l)

@@ -7,7 +7,7 @@ use Rattle.cbdc_model.specs.Records.{Batch, Record, Row, journal, record_of, kin
 use Rattle.audit.specs.Rows.{journal_in, record_at}
 use Rattle.audit.proofs.Rows.{at, away, at_node, head_at, head_away}
 use Rattle.audit.specs.declared.known.Known.{Known}
-use Rattle.audit.specs.Knowing.{Knows, index_of, same_key}
+use Rattle.audit.specs.Knowing.{Knows, index_of, same_record_key}
 
 pub found_some : (all : List (List Record)) (k : Known) (J : ℕ → List Record) (n kind : ℕ) (b : Batch) (i : ℕ) (r : Option (Bor Record)) → Knows all k J
     → index_of k n kind b ≡ Some i → (i < length (journal_in all n) → IsSomeAnd r (λ x. x.now ≡ record_at all (record { node = n; index = i })))
@@ -73,7 +73,7 @@ noted all k m node index r past lt is kept stamps h = record {
     stamp_other n o apart = ap (λ c. unwrap_or (if c then Some (stamp_of r) else o) 0) apart
 
 pub key_test : (node n k kind : ℕ) (r : Record) (p b : Batch) → kind_of r ≡ k → is_of b r ≡ same_batch p b
-    → same_key (node, k, p.lane, p.number) (n, kind, b.lane, b.number) ≡ ((node == n) && ((kind_of r == kind) && is_of b r))
+    → same_record_key (node, k, p.lane, p.number) (n, kind, b.lane, b.number) ≡ ((node == n) && ((kind_of r == kind) && is_of b r))
 key_test node n k kind r p b e f = rw (e, f) (apart (node == n) (k == kind) (p.lane == b.lane) (p.number == b.number))
   where
     apart : (s t u v : Bool) → ((s && t) && u) && v ≡ s && (t && (u && v))

@@ -10,7 +10,7 @@ use Rattle.cbdc_model.specs.History.{same_compact, first_with}
 use Rattle.same_records.proofs.Digests.{digest_is}
 use Rattle.ledger_laws.proofs.Counts.{same_digest_is}
 use Rattle.audit.specs.declared.handed.ById.{ById}
-use Rattle.audit.specs.Keeping.{no_tx, first_of, IsIndex}
+use Rattle.audit.specs.Keeping.{no_tx, first_with_id, IsIndex}
 
 find_skip : {X : Type 0} (p : X → Bool) (xs ys : List X) → find p xs ≡ None → find p (xs ++ ys) ≡ find p ys
 find_skip p [] ys h = refl
@@ -95,13 +95,13 @@ some_same : (i j : ℕ) → Some i ≡ Some j → i ≡ j
 some_same i j e = cc
 
 index_next : (xs : List FullTx) (t : FullTx) (m n : ById) → IsIndex xs m
-    → ((x : Digest) → first_of n x ≡ next_index (first_of m x) (same_digest (tx_id t) x) (length xs)) → IsIndex (xs ++ t ∷ []) n
+    → ((x : Digest) → first_with_id n x ≡ next_index (first_with_id m x) (same_digest (tx_id t) x) (length xs)) → IsIndex (xs ++ t ∷ []) n
 index_next xs t m n h step = record {
-  inside = λ x i e. inside_at x i (first_of m x) refl (sym (step x) ∙ e);
-  first = λ x. ap (option_map (λ i. get_or (xs ++ t ∷ []) i no_tx)) (step x) ∙ first_at x (first_of m x) refl;
+  inside = λ x i e. inside_at x i (first_with_id m x) refl (sym (step x) ∙ e);
+  first = λ x. ap (option_map (λ i. get_or (xs ++ t ∷ []) i no_tx)) (step x) ∙ first_at x (first_with_id m x) refl;
 }
   where
-    inside_at : (x : Digest) (i : ℕ) (o : Option ℕ) → first_of m x ≡ o → next_index o (same_digest (tx_id t) x) (length xs) ≡ Some i → i < length (xs ++ t ∷ [])
+    inside_at : (x : Digest) (i : ℕ) (o : Option ℕ) → first_with_id m x ≡ o → next_index o (same_digest (tx_id t) x) (length xs) ≡ Some i → i < length (xs ++ t ∷ [])
     inside_at x i (Some j) is e = let k : j ≡ i = some_same j i e in omega (arith, h.inside x j is, length_more xs t)
     inside_at x i None is e =
         elim (same_digest (tx_id t) x) as (λ c. cond c (Some (length xs)) None ≡ Some i → i < length (xs ++ t ∷ [])) [
@@ -109,7 +109,7 @@ index_next xs t m n h step = record {
           | false ↦ λ g. absurd (let z : None ≡ Some i = g in cc)
         ] e
 
-    first_at : (x : Digest) (o : Option ℕ) → first_of m x ≡ o
+    first_at : (x : Digest) (o : Option ℕ) → first_with_id m x ≡ o
         → option_map (λ i. get_or (xs ++ t ∷ []) i no_tx) (next_index o (same_digest (tx_id t) x) (length xs)) ≡ find (λ u. same_digest (tx_id u) x) (xs ++ t ∷ [])
     first_at x (Some i) is =
         ap (λ u. Some u) (before_end xs t i (h.inside x i is))
@@ -133,15 +133,15 @@ new_id (Some i) false n h = refl
 new_id None true n h = refl
 new_id None false n h = refl
 
-pub index_known : (xs : List FullTx) (t : FullTx) (m : ById) → IsIndex xs m → is_some (first_of m (tx_id t)) ≡ true → IsIndex (xs ++ t ∷ []) m
-index_known xs t m h is = index_next xs t m m h (λ x. known_id (first_of m x) (same_digest (tx_id t) x) (length xs)
-    (λ hit. subst (λ y. is_some (first_of m y) ≡ true) (same_digest_is (tx_id t) x hit) is))
+pub index_known : (xs : List FullTx) (t : FullTx) (m : ById) → IsIndex xs m → is_some (first_with_id m (tx_id t)) ≡ true → IsIndex (xs ++ t ∷ []) m
+index_known xs t m h is = index_next xs t m m h (λ x. known_id (first_with_id m x) (same_digest (tx_id t) x) (length xs)
+    (λ hit. subst (λ y. is_some (first_with_id m y) ≡ true) (same_digest_is (tx_id t) x hit) is))
 
-pub index_new : (xs : List FullTx) (t : FullTx) (m n : ById) → IsIndex xs m → is_some (first_of m (tx_id t)) ≡ false
-    → ((x : Digest) → first_of n x ≡ cond (eq-value.it (tx_id t) x) (Some (length xs)) (first_of m x)) → IsIndex (xs ++ t ∷ []) n
+pub index_new : (xs : List FullTx) (t : FullTx) (m n : ById) → IsIndex xs m → is_some (first_with_id m (tx_id t)) ≡ false
+    → ((x : Digest) → first_with_id n x ≡ cond (eq-value.it (tx_id t) x) (Some (length xs)) (first_with_id m x)) → IsIndex (xs ++ t ∷ []) n
 index_new xs t m n h is step = index_next xs t m n h (λ x.
-    step x ∙ ap (λ c. cond c (Some (length xs)) (first_of m x)) (digest_is (tx_id t) x)
-    ∙ new_id (first_of m x) (same_digest (tx_id t) x) (length xs) (λ hit. subst (λ y. is_some (first_of m y) ≡ false) (same_digest_is (tx_id t) x hit) is))
+    step x ∙ ap (λ c. cond c (Some (length xs)) (first_with_id m x)) (digest_is (tx_id t) x)
+    ∙ new_id (first_with_id m x) (same_digest (tx_id t) x) (length xs) (λ hit. subst (λ y. is_some (first_with_id m y) ≡ false) (same_digest_is (tx_id t) x hit) is))
 
 -- one place is read twice
 pub default_same : (txs : List FullTx) (k : ℕ) (t u : FullTx) → k < length txs → t ≡ get_or txs k t → u ≡ get_or txs k u → t ≡ u
@@ -156,7 +156,7 @@ empty_index m e = record {
   first = λ x. ap (option_map (λ i. get_or [] i no_tx)) (none x);
 }
   where
-    none : (x : Digest) → first_of m x ≡ None
+    none : (x : Digest) → first_with_id m x ≡ None
     none x = ap (λ es. lookup (eq-value.it x) es) e
 
 same_there : (xs : List FullTx) (k : ℕ) (t : FullTx) → k < length xs → t ≡ get_or xs k t → get_or xs k no_tx ≡ t
@@ -165,10 +165,10 @@ same_there (x ∷ xs) zero t lt e = sym e
 same_there (x ∷ xs) (suc k) t lt e = same_there xs k t (omega arith) e
 
 -- what a look-up by the id gives
-pub found_none : (txs : List FullTx) (m : ById) (form : Compact) → IsIndex txs m → first_of m form.id ≡ None → first_with txs form ≡ None
+pub found_none : (txs : List FullTx) (m : ById) (form : Compact) → IsIndex txs m → first_with_id m form.id ≡ None → first_with txs form ≡ None
 found_none txs m form h e = no_such_id txs form (sym (h.first form.id) ∙ ap (option_map (λ i. get_or txs i no_tx)) e)
 
-pub found_first : (txs : List FullTx) (m : ById) (form : Compact) (i : ℕ) (t : FullTx) → IsIndex txs m → first_of m form.id ≡ Some i → t ≡ get_or txs i t
+pub found_first : (txs : List FullTx) (m : ById) (form : Compact) (i : ℕ) (t : FullTx) → IsIndex txs m → first_with_id m form.id ≡ Some i → t ≡ get_or txs i t
     → same_compact (compact t) form ≡ true → first_with txs form ≡ Some t
 found_first txs m form i t h e is fits =
     first_id txs form t (sym (h.first form.id) ∙ ap (option_map (λ j. get_or txs j no_tx)) e ∙ ap (λ u. Some u) (same_there txs i t (h.inside form.id i e) is)) fits

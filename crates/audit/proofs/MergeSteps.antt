@@ -5,7 +5,7 @@ use Rattle.cbdc_model.specs.Records.{Record, Row, journal, stamp_of}
 use Rattle.cbdc_model.specs.History.{goes_above}
 use Rattle.ledger_laws.proofs.Lookups.{other_way}
 use Rattle.audit.specs.Rows.{journal_in}
-use Rattle.audit.specs.Merges.{RiseAll, journals_below, AreApart, Merged}
+use Rattle.audit.specs.Merges.{RiseAll, journals_below, AreApart, MergedUpTo}
 use Rattle.audit.proofs.Rows.{at, away, at_node, head_at, journal-append}
 
 -- two rows that may come next, in their order
@@ -46,8 +46,8 @@ nodes_apart a b i j x y more_a more_b apart ea eb = elim (at_node x.node y.node)
     clash (inr none) e = no_cons y.what (journal y.node more_b) (sym (head_at y more_b y.node refl) ∙ sym (ap (journal y.node) eb) ∙ none_behind y.node j b none)
 
 -- the next row is taken from the first list
-pub take_left : (a b rows : List Row) (i j : ℕ) (x y : Row) → Merged a b rows i j → i < length a → j < length b
-    → x ≡ get_or a i x → y ≡ get_or b j y → goes_above y x ≡ true → Merged a b (rows ++ x ∷ []) (i + 1) j
+pub take_left : (a b rows : List Row) (i j : ℕ) (x y : Row) → MergedUpTo a b rows i j → i < length a → j < length b
+    → x ≡ get_or a i x → y ≡ get_or b j y → goes_above y x ≡ true → MergedUpTo a b (rows ++ x ∷ []) (i + 1) j
 take_left a b rows i j x y m la lb ex ey g =
     let ea : drop i a ≡ x ∷ drop (i + 1) a = drop_more a i x la ∙ ap (λ r. r ∷ drop (i + 1) a) (sym ex) in
     let eb : drop j b ≡ y ∷ drop (j + 1) b = drop_more b j y lb ∙ ap (λ r. r ∷ drop (j + 1) b) (sym ey) in
@@ -72,8 +72,8 @@ take_left a b rows i j x y m la lb ex ey g =
     move p q r s = simp append_assoc
 
 -- the next row is taken from the second list
-pub take_right : (a b rows : List Row) (i j : ℕ) (x y : Row) → Merged a b rows i j → i < length a → j < length b
-    → x ≡ get_or a i x → y ≡ get_or b j y → goes_above y x ≡ false → Merged a b (rows ++ y ∷ []) i (j + 1)
+pub take_right : (a b rows : List Row) (i j : ℕ) (x y : Row) → MergedUpTo a b rows i j → i < length a → j < length b
+    → x ≡ get_or a i x → y ≡ get_or b j y → goes_above y x ≡ false → MergedUpTo a b (rows ++ y ∷ []) i (j + 1)
 take_right a b rows i j x y m la lb ex ey g =
     let ea : drop i a ≡ x ∷ drop (i + 1) a = drop_more a i x la ∙ ap (λ r. r ∷ drop (i + 1) a) (sym ex) in
     let eb : drop j b ≡ y ∷ drop (j + 1) b = drop_more b j y lb ∙ ap (λ r. r ∷ drop (j + 1) b) (sym ey) in
@@ -106,7 +106,7 @@ take_right a b rows i j x y m la lb ex ey g =
     one_none n (inr e) jy = inr (nil_parts (journal n (y ∷ [])) (journal n (drop (j + 1) b)) (jy ∙ none_behind n j b e)).0
 
 -- what is left of the one list, when the other is at its end
-pub finish : (a b rows : List Row) (i j : ℕ) → Merged a b rows i j → (length a ≤ i) ⊎ (length b ≤ j) → AreApart a b
+pub finish : (a b rows : List Row) (i j : ℕ) → MergedUpTo a b rows i j → (length a ≤ i) ⊎ (length b ≤ j) → AreApart a b
     → ((n : ℕ) → journal n ((rows ++ drop i a) ++ drop j b) ≡ journal n a ++ journal n b) × (RiseAll a → RiseAll b → RiseAll ((rows ++ drop i a) ++ drop j b))
 finish a b rows i j m ends apart = (
   λ n. journal-append n (rows ++ drop i a) (drop j b) ∙ ap (λ J. J ++ journal n (drop j b)) (journal-append n rows (drop i a))
@@ -118,7 +118,7 @@ finish a b rows i j m ends apart = (
     at_end (inl le) h = rw (drop_all i a le, append-nil rows) h.1
     at_end (inr le) h = rw (drop_all j b le, append-nil (rows ++ drop i a)) h.0
 
-pub begin : (a b : List Row) → Merged a b [] 0 0
+pub begin : (a b : List Row) → MergedUpTo a b [] 0 0
 begin a b = record { left = omega arith; right = omega arith; journals = λ apart n. refl; rises = λ apart ra rb. (ra, rb) }
 
 -- lists with the journals of two ranges of nodes

@@ -7,8 +7,8 @@ use Rattle.std.proofs.lemmas.List.Elements.{All-same, All-append, All-drop}
 use Rattle.cbdc_model.specs.Records.{Record, journal}
 use Rattle.cbdc_model.specs.History.{goes_above}
 use Rattle.audit.specs.declared.place.Place.{Place}
-use Rattle.audit.specs.Rows.{read, journal_in, no_record, IsPlace, row_at, rows_at}
-use Rattle.audit.specs.Merges.{rows_of, Merged, AreApart, RiseAll}
+use Rattle.audit.specs.Rows.{read, journal_in, absent_record, IsRecordPlace, row_at, rows_at}
+use Rattle.audit.specs.Merges.{rows_of_node, MergedUpTo, AreApart, RiseAll}
 use Rattle.audit.proofs.MergeSteps.{take_left, take_right, finish}
 
 pub journal_read : (js : List (Bor (List Record))) (n : ℕ) (j : Bor (List Record)) → n < length js → j ≡ get_or js n j → journal_in (read js) n ≡ j.now
@@ -23,13 +23,13 @@ node_there (j ∷ js) (suc n) i h = let k : n < length js = node_there js n i h 
 
 -- the next place of a node's own
 pub own_next : (all : List (List Record)) (node index : ℕ) (places : List Place) → index < length (journal_in all node)
-    → rows_at all places ≡ rows_of node (take index (journal_in all node))
-    → rows_at all (places ++ record { node = node; index = index } ∷ []) ≡ rows_of node (take (index + 1) (journal_in all node))
+    → rows_at all places ≡ rows_of_node node (take index (journal_in all node))
+    → rows_at all (places ++ record { node = node; index = index } ∷ []) ≡ rows_of_node node (take (index + 1) (journal_in all node))
 own_next all node index places lt e =
     map_push (row_at all) places (record { node = node; index = index })
     ∙ ap (λ rows. rows ++ row_at all (record { node = node; index = index }) ∷ []) e
-    ∙ sym (map_push (λ r. record { node = node; what = r }) (take index (journal_in all node)) (get_or (journal_in all node) index no_record))
-    ∙ ap (rows_of node) (sym (take_more (journal_in all node) index no_record lt))
+    ∙ sym (map_push (λ r. record { node = node; what = r }) (take index (journal_in all node)) (get_or (journal_in all node) index absent_record))
+    ∙ ap (rows_of_node node) (sym (take_more (journal_in all node) index absent_record lt))
 
 -- a place that was read from a list
 pub row_read : (all : List (List Record)) (a : List Place) (i : ℕ) (p : Place) → i < length a → p ≡ get_or a i p → row_at all p ≡ get_or (rows_at all a) i (row_at all p)
@@ -39,19 +39,19 @@ pub length_rows : (all : List (List Record)) (a : List Place) → length (rows_a
 length_rows all a = length-map a (row_at all)
 
 -- the next place is taken from the first list, and from the second
-pub left_step : (all : List (List Record)) (a b places : List Place) (i j : ℕ) (p q d : Place) → Merged (rows_at all a) (rows_at all b) (rows_at all places) i j
+pub left_step : (all : List (List Record)) (a b places : List Place) (i j : ℕ) (p q d : Place) → MergedUpTo (rows_at all a) (rows_at all b) (rows_at all places) i j
     → i < length a → j < length b → p ≡ get_or a i d → q ≡ get_or b j d → goes_above (row_at all q) (row_at all p) ≡ true
-    → Merged (rows_at all a) (rows_at all b) (rows_at all (places ++ p ∷ [])) (i + 1) j
+    → MergedUpTo (rows_at all a) (rows_at all b) (rows_at all (places ++ p ∷ [])) (i + 1) j
 left_step all a b places i j p q d m la lb ep eq g =
-    subst (λ rows. Merged (rows_at all a) (rows_at all b) rows (i + 1) j) (sym (map_push (row_at all) places p))
+    subst (λ rows. MergedUpTo (rows_at all a) (rows_at all b) rows (i + 1) j) (sym (map_push (row_at all) places p))
     (take_left (rows_at all a) (rows_at all b) (rows_at all places) i j (row_at all p) (row_at all q) m (rw length_rows la) (rw length_rows lb)
     (row_read all a i p la (ep ∙ get_or_default a i d p la)) (row_read all b j q lb (eq ∙ get_or_default b j d q lb)) g)
 
-pub right_step : (all : List (List Record)) (a b places : List Place) (i j : ℕ) (p q d : Place) → Merged (rows_at all a) (rows_at all b) (rows_at all places) i j
+pub right_step : (all : List (List Record)) (a b places : List Place) (i j : ℕ) (p q d : Place) → MergedUpTo (rows_at all a) (rows_at all b) (rows_at all places) i j
     → i < length a → j < length b → p ≡ get_or a i d → q ≡ get_or b j d → goes_above (row_at all q) (row_at all p) ≡ false
-    → Merged (rows_at all a) (rows_at all b) (rows_at all (places ++ q ∷ [])) i (j + 1)
+    → MergedUpTo (rows_at all a) (rows_at all b) (rows_at all (places ++ q ∷ [])) i (j + 1)
 right_step all a b places i j p q d m la lb ep eq g =
-    subst (λ rows. Merged (rows_at all a) (rows_at all b) rows i (j + 1)) (sym (map_push (row_at all) places q))
+    subst (λ rows. MergedUpTo (rows_at all a) (rows_at all b) rows i (j + 1)) (sym (map_push (row_at all) places q))
     (take_right (rows_at all a) (rows_at all b) (rows_at all places) i j (row_at all p) (row_at all q) m (rw length_rows la) (rw length_rows lb)
     (row_read all a i p la (ep ∙ get_or_default a i d p la)) (row_read all b j q lb (eq ∙ get_or_default b j d q lb)) g)
 
@@ -69,7 +69,7 @@ rows_joined all places a b i j =
     ∙ ap (λ rows. rows ++ rows_at all (drop j b)) (map-append (row_at all) places (drop i a) ∙ ap (λ rows. rows_at all places ++ rows) (sym (drop-map (row_at all) i a)))
     ∙ ap (λ rows. (rows_at all places ++ drop i (rows_at all a)) ++ rows) (sym (drop-map (row_at all) j b))
 
-pub joined : (all : List (List Record)) (a b places : List Place) (i j : ℕ) (whole : List Place) → Merged (rows_at all a) (rows_at all b) (rows_at all places) i j
+pub joined : (all : List (List Record)) (a b places : List Place) (i j : ℕ) (whole : List Place) → MergedUpTo (rows_at all a) (rows_at all b) (rows_at all places) i j
     → (length a ≤ i) ⊎ (length b ≤ j) → whole ≡ (places ++ take (length a - i) (drop i a)) ++ take (length b - j) (drop j b) → AreApart (rows_at all a) (rows_at all b)
     → ((n : ℕ) → journal n (rows_at all whole) ≡ journal n (rows_at all a) ++ journal n (rows_at all b))
     × (RiseAll (rows_at all a) → RiseAll (rows_at all b) → RiseAll (rows_at all whole))
@@ -86,7 +86,7 @@ joined all a b places i j whole m ends e0 apart =
     at_end (inr le) = inr (rw length_rows le)
 
 pub all_joined : (all : List (List Record)) (a b places : List Place) (i j : ℕ) (whole : List Place) → whole ≡ (places ++ take (length a - i) (drop i a)) ++ take (length b - j) (drop j b)
-    → All (IsPlace all) a → All (IsPlace all) b → All (IsPlace all) places → All (IsPlace all) whole
+    → All (IsRecordPlace all) a → All (IsRecordPlace all) b → All (IsRecordPlace all) places → All (IsRecordPlace all) whole
 all_joined all a b places i j whole e ha hb h =
-    All-same (IsPlace all) whole ((places ++ drop i a) ++ drop j b) (e ∙ whole_rest places a b i j)
-    (All-append (IsPlace all) (places ++ drop i a) (drop j b) (All-append (IsPlace all) places (drop i a) h (All-drop (IsPlace all) i a ha)) (All-drop (IsPlace all) j b hb))
+    All-same (IsRecordPlace all) whole ((places ++ drop i a) ++ drop j b) (e ∙ whole_rest places a b i j)
+    (All-append (IsRecordPlace all) (places ++ drop i a) (drop j b) (All-append (IsRecordPlace all) places (drop i a) h (All-drop (IsRecordPlace all) i a ha)) (All-drop (IsRecordPlace all) j b hb))

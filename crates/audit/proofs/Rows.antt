@@ -7,18 +7,18 @@ use Rattle.cbdc_model.specs.History.{IsAbove, IsOrdered}
 pub use Rattle.ledger_laws.proofs.Rows.{AtNode, at, away, at_node, head_at, head_away}
 pub use Rattle.ledger_laws.proofs.HistoryLaws.{journal-append}
 use Rattle.audit.specs.Rows.{Rises, journal_in}
-use Rattle.audit.specs.Merges.{RiseAll, journals_below, rows_of}
+use Rattle.audit.specs.Merges.{RiseAll, journals_below, rows_of_node}
 
 -- the rows of one node
-pub own_at : (node n : ℕ) (records : List Record) → node ≡ n → journal n (rows_of node records) ≡ records
+pub own_at : (node n : ℕ) (records : List Record) → node ≡ n → journal n (rows_of_node node records) ≡ records
 own_at node n [] e = refl
-own_at node n (r ∷ records) e = head_at (record { node = node; what = r }) (rows_of node records) n e ∙ ap (λ J. r ∷ J) (own_at node n records e)
+own_at node n (r ∷ records) e = head_at (record { node = node; what = r }) (rows_of_node node records) n e ∙ ap (λ J. r ∷ J) (own_at node n records e)
 
-pub own_away : (node n : ℕ) (records : List Record) → (node == n) ≡ false → journal n (rows_of node records) ≡ []
+pub own_away : (node n : ℕ) (records : List Record) → (node == n) ≡ false → journal n (rows_of_node node records) ≡ []
 own_away node n [] e = refl
-own_away node n (r ∷ records) e = head_away (record { node = node; what = r }) (rows_of node records) n e ∙ own_away node n records e
+own_away node n (r ∷ records) e = head_away (record { node = node; what = r }) (rows_of_node node records) n e ∙ own_away node n records e
 
-pub own_journals : (all : List (List Record)) (node n : ℕ) → journal n (rows_of node (journal_in all node)) ≡ journals_below all node (node + 1) n
+pub own_journals : (all : List (List Record)) (node n : ℕ) → journal n (rows_of_node node (journal_in all node)) ≡ journals_below all node (node + 1) n
 own_journals all node n = elim (at_node node n) [
   | at e ↦ own_at node n (journal_in all node) e ∙ ap (journal_in all) e ∙ sym (within (journal_in all n) node n e)
   | away e ↦ own_away node n (journal_in all node) e ∙ sym (outside (journal_in all n) node n e)
@@ -33,7 +33,7 @@ own_journals all node n = elim (at_node node n) [
 goes : (p q u : ℕ) → q < p → (nat_lt q p || ((q == p) && nat_lt u u)) ≡ true
 goes p q u lt = grind arith
 
-pub own_rises : (node : ℕ) (records : List Record) → Rises records → RiseAll (rows_of node records)
+pub own_rises : (node : ℕ) (records : List Record) → Rises records → RiseAll (rows_of_node node records)
 own_rises node [] h = tt
 own_rises node (r ∷ []) h = (tt, tt)
 own_rises node (r ∷ (q ∷ records)) h =

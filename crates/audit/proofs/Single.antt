@@ -13,9 +13,9 @@ use Rattle.cbdc_model.specs.History.{committed, newly_won, first_with, AreHanded
 use Rattle.ledger_laws.proofs.Recovery.{one_list}
 use Rattle.audit.specs.declared.verdict.Totals.{Totals}
 use Rattle.audit.specs.declared.verdict.Verdict.TheVariants.{Sound, Unsound}
-use Rattle.audit.specs.Walks.{IsCausedBy, IsDone, AllDone, IsFirstOpen}
-use Rattle.audit.specs.Spending.{AreSpent, IsWrong, IsFirstWrong}
-use Rattle.audit.specs.Verdicts.{Passes, IsFault, IsFirstFault, IsUnfinished, IsSound, IsVerdict, journals_of}
+use Rattle.audit.specs.Walks.{IsRowCaused, IsBatchDone, AllDone, IsFirstOpen}
+use Rattle.audit.specs.Spending.{AreSpent, IsFormWrong, IsFirstWrong}
+use Rattle.audit.specs.Verdicts.{Passes, IsRowFault, IsFirstUnsound, IsFirstUnfinished, IsSoundHistory, IsVerdict, journals_of}
 use Rattle.audit.proofs.Unspent.{spent_before}
 use Rattle.audit.specs.Laws.{OneVerdictLaw}
 
@@ -73,7 +73,7 @@ fold_last (Some b) (u ∷ us) t c h = fold_last (spend b u) us t c h
 
 -- nothing is wrong with a form that is spent
 not_wrong : (mint : List Output) (handed : List FullTx) (ks : List Compact) (k : Compact) (b c : Book) (kind : UnsoundKind) → AreSpent mint handed (ks ++ k ∷ []) c
-    → AreSpent mint handed ks b → IsWrong handed b k kind → ⊥
+    → AreSpent mint handed ks b → IsFormWrong handed b k kind → ⊥
 not_wrong mint handed ks k b c kind s t w =
     let h : (us : List FullTx) × (t : FullTx) × (s.txs ≡ us ++ t ∷ []) × AreHandedIn handed ks us × (first_with handed k ≡ Some t) = handed_last handed ks k s.txs s.handed_in in
     let f : (d : Book) × (fold_txs (Some (genesis_book mint)) h.0 ≡ Some d) × (spend d h.1 ≡ Some c)
@@ -81,7 +81,7 @@ not_wrong mint handed ks k b c kind s t w =
     let e : f.0 ≡ b = one_book mint handed ks f.0 b (record { txs = h.0; handed_in = h.3; folds = f.1 }) t in
     by kind h.1 h.4 (ap (λ d. spend d h.1) (sym e) ∙ f.2) w
   where
-    by : (kind : UnsoundKind) (t : FullTx) → first_with handed k ≡ Some t → spend b t ≡ Some c → IsWrong handed b k kind → ⊥
+    by : (kind : UnsoundKind) (t : FullTx) → first_with handed k ≡ Some t → spend b t ≡ Some c → IsFormWrong handed b k kind → ⊥
     by Cause t g e w = w
     by (Unknown id) t g e w = let z : None ≡ Some t = sym w.1 ∙ g in cc
     by (Unfunded id) t g e w =
@@ -112,7 +112,7 @@ module _ (mint : List Output) (handed : List FullTx) (spent forms : List Compact
       = front_spent mint handed spent v.earlier v.form d w.book (subst (λ l. AreSpent mint handed (spent ++ l) w.book) e w.are_spent) in
       not_wrong mint handed (spent ++ v.earlier) v.form v.book f.0 kind f.1 v.are_spent v.wrong
 
-  same_kinds : (b c : Book) (k l : Compact) (kind other : UnsoundKind) → k ≡ l → IsWrong handed b k kind → IsWrong handed c l other → b ≡ c → kind ≡ other
+  same_kinds : (b c : Book) (k l : Compact) (kind other : UnsoundKind) → k ≡ l → IsFormWrong handed b k kind → IsFormWrong handed c l other → b ≡ c → kind ≡ other
   same_kinds b c k l Cause other e v w f = absurd v
   same_kinds b c k l Unfinished other e v w f = absurd v
   same_kinds b c k l (Unknown id) Cause e v w f = absurd w
@@ -134,14 +134,14 @@ module _ (mint : List Output) (handed : List FullTx) (spent forms : List Compact
 
 -- a history that passes has no fault before its end
 module _ (K : Shape) (mint : List Output) (handed : List FullTx) where
-  passes_front : (newer : List Row) (row : Row) (past : List Row) (b : Book) → Passes K mint handed (newer ++ row ∷ past) b → (c : Book) × IsCausedBy K past row × AreSpent mint handed (committed (row ∷ past)) c
+  passes_front : (newer : List Row) (row : Row) (past : List Row) (b : Book) → Passes K mint handed (newer ++ row ∷ past) b → (c : Book) × IsRowCaused K past row × AreSpent mint handed (committed (row ∷ past)) c
   passes_front [] row past b p = (b, p.caused.0, p.spent)
   passes_front (new ∷ newer) row past b p =
       let s : (c : Book) × AreSpent mint handed (committed (newer ++ row ∷ past)) c
       = spent_before mint handed (committed (newer ++ row ∷ past)) (newly_won new.what (journal new.node (newer ++ row ∷ past))) b p.spent in
       passes_front newer row past s.0 (record { caused = p.caused.1; spent = s.1 })
 
-  no_fault : (past : List Row) (row : Row) (kind : UnsoundKind) (c : Book) → IsCausedBy K past row → AreSpent mint handed (committed (row ∷ past)) c → IsFault K mint handed past row kind → ⊥
+  no_fault : (past : List Row) (row : Row) (kind : UnsoundKind) (c : Book) → IsRowCaused K past row → AreSpent mint handed (committed (row ∷ past)) c → IsRowFault K mint handed past row kind → ⊥
   no_fault past row Cause c caused s f = f caused
   no_fault past row (Unknown id) c caused s f = wrong_not_spent mint handed (committed past) (newly_won row.what (journal row.node past)) (Unknown id) c f.1 s
   no_fault past row (Unfunded id) c caused s f = wrong_not_spent mint handed (committed past) (newly_won row.what (journal row.node past)) (Unfunded id) c f.1 s
@@ -150,12 +150,12 @@ module _ (K : Shape) (mint : List Output) (handed : List FullTx) where
   turned : (before after : List Row) (row : Row) → reverse (before ++ row ∷ after) ≡ reverse after ++ row ∷ reverse before
   turned before after row = reverse-append before (row ∷ after) ∙ ap (λ l. l ++ reverse before) (reverse-append (row ∷ []) after) ∙ append_assoc (reverse after) (row ∷ []) (reverse before)
 
-  no_earlier : (before after : List Row) (row : Row) (kind : UnsoundKind) (b : Book) → Passes K mint handed (reverse (before ++ row ∷ after)) b → IsFault K mint handed (reverse before) row kind → ⊥
+  no_earlier : (before after : List Row) (row : Row) (kind : UnsoundKind) (b : Book) → Passes K mint handed (reverse (before ++ row ∷ after)) b → IsRowFault K mint handed (reverse before) row kind → ⊥
   no_earlier before after row kind b p f =
       let s = passes_front (reverse after) row (reverse before) b (subst (λ rows. Passes K mint handed rows b) (turned before after row) p) in
       no_fault (reverse before) row kind s.0 s.1 s.2 f
 
-  one_kind : (past : List Row) (row : Row) (kind other : UnsoundKind) → IsFault K mint handed past row kind → IsFault K mint handed past row other → kind ≡ other
+  one_kind : (past : List Row) (row : Row) (kind other : UnsoundKind) → IsRowFault K mint handed past row kind → IsRowFault K mint handed past row other → kind ≡ other
   one_kind past row Cause Cause f g = refl
   one_kind past row Cause (Unknown id) f g = absurd (f g.0)
   one_kind past row Cause (Unfunded id) f g = absurd (f g.0)
@@ -171,26 +171,26 @@ module _ (K : Shape) (mint : List Output) (handed : List FullTx) where
   one_kind past row Unfinished other f g = absurd f
 
   module _ (rows : List Row) where
-    fault_not_passed : (place : ℕ) (kind : UnsoundKind) (b : Book) → IsFirstFault K mint handed rows place kind → Passes K mint handed (reverse rows) b → ⊥
+    fault_not_passed : (place : ℕ) (kind : UnsoundKind) (b : Book) → IsFirstUnsound K mint handed rows place kind → Passes K mint handed (reverse rows) b → ⊥
     fault_not_passed place kind b f p = no_earlier f.before f.after f.row kind b (subst (λ l. Passes K mint handed (reverse l) b) f.rows_are p) f.fault
 
-    faults_same : (p q : ℕ) (kind other : UnsoundKind) → IsFirstFault K mint handed rows p kind → IsFirstFault K mint handed rows q other → (p ≡ q) × (kind ≡ other)
+    faults_same : (p q : ℕ) (kind other : UnsoundKind) → IsFirstUnsound K mint handed rows p kind → IsFirstUnsound K mint handed rows q other → (p ≡ q) × (kind ≡ other)
     faults_same p q kind other f g = elim (places f.before g.before f.row g.row f.after g.after (sym f.rows_are ∙ g.rows_are)) [
       | same s t ↦ (
         sym f.stands ∙ ap length s ∙ g.stands,
-        one_kind (reverse g.before) g.row kind other (subst (λ r. IsFault K mint handed (reverse g.before) r kind) t (subst (λ l. IsFault K mint handed (reverse l) f.row kind) s f.fault)) g.fault,
+        one_kind (reverse g.before) g.row kind other (subst (λ r. IsRowFault K mint handed (reverse g.before) r kind) t (subst (λ l. IsRowFault K mint handed (reverse l) f.row kind) s f.fault)) g.fault,
       )
       | first d s ↦ absurd (no_earlier f.before d f.row kind g.book (subst (λ l. Passes K mint handed (reverse l) g.book) s g.pass) f.fault)
       | second d s ↦ absurd (no_earlier g.before d g.row other f.book (subst (λ l. Passes K mint handed (reverse l) f.book) s f.pass) g.fault)
     ]
 
-    done_here : (J : ℕ → List Record) (before after : List Row) (row : Row) → AllByRecursion (λ r. IsDone K J r.what) (before ++ row ∷ after) → IsDone K J row.what
+    done_here : (J : ℕ → List Record) (before after : List Row) (row : Row) → AllByRecursion (λ r. IsBatchDone K J r.what) (before ++ row ∷ after) → IsBatchDone K J row.what
     done_here J [] after row h = h.0
     done_here J (r ∷ before) after row h = done_here J before after row h.1
 
-    not_open : (J : ℕ → List Record) (before after : List Row) (row : Row) (all : List Row) → all ≡ before ++ row ∷ after → AllDone K J all → (IsDone K J row.what → ⊥) → ⊥
+    not_open : (J : ℕ → List Record) (before after : List Row) (row : Row) (all : List Row) → all ≡ before ++ row ∷ after → AllDone K J all → (IsBatchDone K J row.what → ⊥) → ⊥
     not_open J before after row all e done unfinished =
-        unfinished (done_here J before after row (subst (AllByRecursion (λ r. IsDone K J r.what)) e (recursion_from_All (λ r. IsDone K J r.what) all done)))
+        unfinished (done_here J before after row (subst (AllByRecursion (λ r. IsBatchDone K J r.what)) e (recursion_from_All (λ r. IsBatchDone K J r.what) all done)))
 
     opens_same : (J : ℕ → List Record) (p q : ℕ) → IsFirstOpen K J rows p → IsFirstOpen K J rows q → p ≡ q
     opens_same J p q f g = elim (places f.before g.before f.row g.row f.after g.after (sym f.rows_are ∙ g.rows_are)) [
@@ -199,7 +199,7 @@ module _ (K : Shape) (mint : List Output) (handed : List FullTx) where
       | second d s ↦ absurd (not_open J g.before d g.row f.before s f.done g.unfinished)
     ]
 
-    totals_same : (v w : Totals) → IsSound K mint handed rows v → IsSound K mint handed rows w → v ≡ w
+    totals_same : (v w : Totals) → IsSoundHistory K mint handed rows v → IsSoundHistory K mint handed rows w → v ≡ w
     totals_same v w s t =
         let e : s.book ≡ t.book = one_book mint handed (committed (reverse rows)) s.book t.book s.pass.spent t.pass.spent in
         let coins : v.coins ≡ w.coins = s.coins ∙ ap len e ∙ sym t.coins in
@@ -224,10 +224,10 @@ one_verdict K mint handed rows (Unsound p kind) (Sound w) s t = by kind s
     by Unfinished s = absurd (not_open K mint handed rows (journals_of rows) s.first.before s.first.after s.first.row rows s.first.rows_are t.done s.first.unfinished)
 one_verdict K mint handed rows (Unsound p kind) (Unsound q other) s t = by kind other s t
   where
-    both : (kind other : UnsoundKind) → IsFirstFault K mint handed rows p kind → IsFirstFault K mint handed rows q other → Unsound p kind ≡ Unsound q other
+    both : (kind other : UnsoundKind) → IsFirstUnsound K mint handed rows p kind → IsFirstUnsound K mint handed rows q other → Unsound p kind ≡ Unsound q other
     both kind other f g = let e = faults_same K mint handed rows p q kind other f g in λ i. Unsound (e.0 i) (e.1 i)
 
-    fault_in : (kind : UnsoundKind) (n : ℕ) → IsVerdict K mint handed rows (Unsound n kind) → IsFirstFault K mint handed rows n kind ⊎ ((kind ≡ Unfinished) × IsUnfinished K mint handed rows n)
+    fault_in : (kind : UnsoundKind) (n : ℕ) → IsVerdict K mint handed rows (Unsound n kind) → IsFirstUnsound K mint handed rows n kind ⊎ ((kind ≡ Unfinished) × IsFirstUnfinished K mint handed rows n)
     fault_in Cause n s = inl s
     fault_in (Unknown id) n s = inl s
     fault_in (Unfunded id) n s = inl s

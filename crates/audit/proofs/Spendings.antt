@@ -9,8 +9,8 @@ use Rattle.cbdc_model.specs.Outcomes.{won_txs}
 use Rattle.cbdc_types.specs.declared.answer.UnsoundKind.{UnsoundKind}
 use Rattle.audit.specs.declared.book.Book.{Book as Kept}
 use Rattle.audit.specs.declared.folding.Fold.{Fold}
-use Rattle.audit.specs.Spending.{AreSpent, IsWrong, IsFirstWrong}
-use Rattle.audit.specs.Keeping.{Keeps, IsLeft, HasSpent}
+use Rattle.audit.specs.Spending.{AreSpent, IsFormWrong, IsFirstWrong}
+use Rattle.audit.specs.Keeping.{HasBook, HasRest, HasSpent}
 
 handed_more : (handed : List FullTx) (ks : List Compact) (ts : List FullTx) (k : Compact) (t : FullTx) → AreHandedIn handed ks ts → first_with handed k ≡ Some t → AreHandedIn handed (ks ++ k ∷ []) (ts ++ t ∷ [])
 handed_more handed [] [] k t h f = (f, tt)
@@ -31,10 +31,10 @@ length_more [] x = refl
 length_more (y ∷ xs) x = omega (arith, length_more xs x)
 
 pub spent_more : (mint : List Output) (handed : List FullTx) (forms : List Compact) (form : Compact) (t : FullTx) (old new : Fold) → HasSpent mint handed forms old
-    → first_with handed form ≡ Some t → ((b : Book) → Keeps old.book b → IsLeft true new.book (spend b t)) → new.committed ≡ old.committed + 1 → HasSpent mint handed (forms ++ form ∷ []) new
+    → first_with handed form ≡ Some t → ((b : Book) → HasBook old.book b → HasRest true new.book (spend b t)) → new.committed ≡ old.committed + 1 → HasSpent mint handed (forms ++ form ∷ []) new
 spent_more mint handed forms form t old new h first left count = by (spend h.left t) refl (left h.left h.keeps)
   where
-    by : (r : Option Book) → spend h.left t ≡ r → IsLeft true new.book r → HasSpent mint handed (forms ++ form ∷ []) new
+    by : (r : Option Book) → spend h.left t ≡ r → HasRest true new.book r → HasSpent mint handed (forms ++ form ∷ []) new
     by None e l = absurd l
     by (Some c) e l = record {
       left = c;
@@ -48,7 +48,7 @@ spent_more mint handed forms form t old new h first left count = by (spend h.lef
     }
 
 -- a book that is not left
-pub not_left : (m : Kept) (r : Option Book) → IsLeft false m r → r ≡ None
+pub not_left : (m : Kept) (r : Option Book) → HasRest false m r → r ≡ None
 not_left m None h = refl
 not_left m (Some b) h = absurd h
 
@@ -111,7 +111,7 @@ won_skipped mint handed forms txs os k t o fold lt less e f lost h =
 
 pub first_wrong : (mint : List Output) (handed : List FullTx) (forms txs : List Compact) (os : List Outcome) (k : ℕ) (t : Compact) (o : Outcome) (kind : UnsoundKind) → k < length txs → k < length os
     → t ≡ get_or txs k t → o ≡ get_or os k o → is_won o ≡ true
-    → (b : Book) × AreSpent mint handed (forms ++ won_txs (take k txs) (take k os)) b × IsWrong handed b t kind → IsFirstWrong mint handed forms (won_txs txs os) kind
+    → (b : Book) × AreSpent mint handed (forms ++ won_txs (take k txs) (take k os)) b × IsFormWrong handed b t kind → IsFirstWrong mint handed forms (won_txs txs os) kind
 first_wrong mint handed forms txs os k t o kind lt less e f won w = record {
   earlier = won_txs (take k txs) (take k os);
   form = t;

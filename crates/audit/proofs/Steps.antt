@@ -11,14 +11,14 @@ use Rattle.cbdc_types.specs.declared.answer.UnsoundKind.TheVariants.{Cause, Unkn
 use Rattle.audit.specs.declared.folding.Fold.{Fold}
 use Rattle.audit.specs.declared.verdict.Verdict.TheVariants.{Unsound}
 use Rattle.audit.specs.Spending.{IsFirstWrong}
-use Rattle.audit.specs.Verdicts.{Passes, IsFault, IsFirstFault, IsVerdict}
+use Rattle.audit.specs.Verdicts.{Passes, IsRowFault, IsFirstUnsound, IsVerdict}
 use Rattle.audit.specs.Keeping.{HasSpent}
 use Rattle.cbdc_model.specs.Causes.{IsCaused}
 use Rattle.audit.specs.declared.place.Place.{Place}
 use Rattle.audit.specs.Rows.{row_at, rows_at, record_at, newest_first}
 use Rattle.audit.specs.declared.known.Known.{Known}
 use Rattle.audit.specs.Knowing.{Knows}
-use Rattle.audit.specs.Walks.{IsCausedBy, AllCaused, IsFirstUncaused, IsDone, AllDone, IsFirstOpen}
+use Rattle.audit.specs.Walks.{IsRowCaused, AllCaused, IsFirstUncaused, IsBatchDone, AllDone, IsFirstOpen}
 
 -- one more row is the newest
 pub one_more : (all : List (List Record)) (h : List Place) (k : ℕ) (d : Place) → k < length h
@@ -67,7 +67,7 @@ first_uncaused K all h k p d r lt ep er rest uncaused = record {
 }
 
 pub first_open_at : (K : Shape) (J : ℕ → List Record) (all : List (List Record)) (h : List Place) (k : ℕ) (p d : Place) (r : Record) → k < length h → p ≡ get_or h k d → r ≡ record_at all p
-    → AllDone K J (rows_at all (take k h)) → (IsDone K J r → ⊥) → IsFirstOpen K J (rows_at all h) k
+    → AllDone K J (rows_at all (take k h)) → (IsBatchDone K J r → ⊥) → IsFirstOpen K J (rows_at all h) k
 first_open_at K J all h k p d r lt ep er rest unfinished = record {
   before = rows_at all (take k h);
   row = record { node = p.node; what = r };
@@ -79,16 +79,16 @@ first_open_at K J all h k p d r lt ep er rest unfinished = record {
 }
 
 pub done_more : (K : Shape) (J : ℕ → List Record) (all : List (List Record)) (h : List Place) (k : ℕ) (p d : Place) (r : Record) → k < length h → p ≡ get_or h k d → r ≡ record_at all p
-    → AllDone K J (rows_at all (take k h)) → IsDone K J r → AllDone K J (rows_at all (take (k + 1) h))
+    → AllDone K J (rows_at all (take k h)) → IsBatchDone K J r → AllDone K J (rows_at all (take (k + 1) h))
 done_more K J all h k p d r lt ep er rest here =
-    let P : Row → Type 0 = λ row. IsDone K J row.what in
+    let P : Row → Type 0 = λ row. IsBatchDone K J row.what in
     All-same P (rows_at all (take (k + 1) h)) (rows_at all (take k h) ++ row_at all (get_or h k d) ∷ []) (map_more (row_at all) h k d lt)
-    (All-push P (rows_at all (take k h)) (row_at all (get_or h k d)) rest (subst (λ q. IsDone K J (record_at all q)) ep (subst (IsDone K J) er here)))
+    (All-push P (rows_at all (take k h)) (row_at all (get_or h k d)) rest (subst (λ q. IsBatchDone K J (record_at all q)) ep (subst (IsBatchDone K J) er here)))
 
 -- the row at a place is the first with which something is wrong
 pub first_fault : (K : Shape) (mint : List Output) (handed : List FullTx) (all : List (List Record)) (h : List Place) (k : ℕ) (p d : Place) (r : Record) (kind : UnsoundKind) (b : Book) → k < length h → p ≡ get_or h k d
-    → r ≡ record_at all p → Passes K mint handed (newest_first all (take k h)) b → IsFault K mint handed (newest_first all (take k h)) (record { node = p.node; what = r }) kind
-    → IsFirstFault K mint handed (rows_at all h) k kind
+    → r ≡ record_at all p → Passes K mint handed (newest_first all (take k h)) b → IsRowFault K mint handed (newest_first all (take k h)) (record { node = p.node; what = r }) kind
+    → IsFirstUnsound K mint handed (rows_at all h) k kind
 first_fault K mint handed all h k p d r kind b lt ep er pass fault = record {
   before = rows_at all (take k h);
   row = record { node = p.node; what = r };
@@ -100,8 +100,8 @@ first_fault K mint handed all h k p d r kind b lt ep er pass fault = record {
   fault = fault;
 }
 
-pub fault_of : (K : Shape) (mint : List Output) (handed : List FullTx) (past : List Row) (row : Row) (kind : UnsoundKind) → IsCausedBy K past row
-    → IsFirstWrong mint handed (committed past) (newly_won row.what (journal row.node past)) kind → IsFault K mint handed past row kind
+pub fault_of : (K : Shape) (mint : List Output) (handed : List FullTx) (past : List Row) (row : Row) (kind : UnsoundKind) → IsRowCaused K past row
+    → IsFirstWrong mint handed (committed past) (newly_won row.what (journal row.node past)) kind → IsRowFault K mint handed past row kind
 fault_of K mint handed past row Cause caused w = absurd w.wrong
 fault_of K mint handed past row (Unknown id) caused w = (caused, w)
 fault_of K mint handed past row (Unfunded id) caused w = (caused, w)
@@ -116,7 +116,7 @@ pub spent_next : (mint : List Output) (handed : List FullTx) (all : List (List R
 spent_next mint handed all h k p d r fold lt ep er s = subst (λ rows. HasSpent mint handed (committed rows) fold) (sym (next_row all h k p d r lt ep er)) s
 
 -- what is wrong at a place is the verdict
-pub verdict_of : (K : Shape) (mint : List Output) (handed : List FullTx) (rows : List Row) (place : ℕ) (kind : UnsoundKind) → IsFirstFault K mint handed rows place kind → IsVerdict K mint handed rows (Unsound place kind)
+pub verdict_of : (K : Shape) (mint : List Output) (handed : List FullTx) (rows : List Row) (place : ℕ) (kind : UnsoundKind) → IsFirstUnsound K mint handed rows place kind → IsVerdict K mint handed rows (Unsound place kind)
 verdict_of K mint handed rows place Cause f = f
 verdict_of K mint handed rows place (Unknown id) f = f
 verdict_of K mint handed rows place (Unfunded id) f = f

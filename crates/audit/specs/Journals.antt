@@ -6,7 +6,7 @@ use Rattle.cbdc_model.specs.History.{Minted, header_of}
 use Rattle.cbdc_model.specs.Lanes.{IsEnd, first_of}
 
 -- each node of the ledger has a journal under its own header, and no other node has a record
-pub record AreJournals (K : Shape) (genesis : Digest) (J : ℕ → List Record) : Type 0 where
+pub record AreLedgerJournals (K : Shape) (genesis : Digest) (J : ℕ → List Record) : Type 0 where
   pub nodes : (n : ℕ) → n < K.coordinators + K.shards → IsJournal (header_of K genesis n) (J n)
   pub others : (n : ℕ) → K.coordinators + K.shards ≤ n → J n ≡ []
 

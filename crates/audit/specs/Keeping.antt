@@ -17,27 +17,27 @@ use Rattle.audit.specs.declared.auditing.Walked.TheVariants.{Whole, Stopped}
 use Rattle.audit.specs.Knowing.{Knows}
 use Rattle.audit.specs.Walks.{AllCaused}
 use Rattle.audit.specs.Spending.{AreSpent}
-use Rattle.audit.specs.Verdicts.{IsFirstFault}
+use Rattle.audit.specs.Verdicts.{IsFirstUnsound}
 
 -- an outpoint as the map has it
 abbrev pub Point : Type 0
 Point = Digest × ℕ
 
-abbrev pub same_point : Point → Point → Bool
-same_point p q = eq-value.it p.0 q.0 && nat_eq p.1 q.1
+abbrev pub same_kept_point : Point → Point → Bool
+same_kept_point p q = eq-value.it p.0 q.0 && nat_eq p.1 q.1
 
 -- the map has the outputs of this book
-pub record Keeps (m : Kept) (b : Book) : Type 0 where
-  pub outputs : (p : OutPoint) → get same_point m.outputs (p.tx, p.index) ≡ book.get b (key p)
+pub record HasBook (m : Kept) (b : Book) : Type 0 where
+  pub outputs : (p : OutPoint) → get same_kept_point m.outputs (p.tx, p.index) ≡ book.get b (key p)
   pub size : hash_map_len m.outputs ≡ book.len b
   pub worth : sum_by (λ o. o.value) (values m.outputs) ≡ value b
 
 -- whether the map has what is left of a book, if something is
-abbrev pub IsLeft : Bool → Kept → Option Book → Type 0
-IsLeft true m (Some b) = Keeps m b
-IsLeft true m None = ⊥
-IsLeft false m (Some b) = ⊥
-IsLeft false m None = Unit {0}
+abbrev pub HasRest : Bool → Kept → Option Book → Type 0
+HasRest true m (Some b) = HasBook m b
+HasRest true m None = ⊥
+HasRest false m (Some b) = ⊥
+HasRest false m None = Unit {0}
 
 -- this is the compact form of a transaction
 abbrev pub IsFormOf : FullTx → Compact → Type 0
@@ -48,23 +48,23 @@ abbrev pub no_tx : FullTx
 no_tx = record { inputs = []; outputs = []; witnesses = [] }
 
 -- a node's journal of first records
-abbrev pub first_of : ById → Digest → Option ℕ
-first_of ids x = get eq-value.it ids.firsts x
+abbrev pub first_with_id : ById → Digest → Option ℕ
+first_with_id ids x = get eq-value.it ids.firsts x
 
 -- of each id the map has the index of the first transaction with it
 pub record IsIndex (txs : List FullTx) (ids : ById) : Type 0 where
-  pub inside : (x : Digest) (i : ℕ) → first_of ids x ≡ Some i → i < length txs
-  pub first : (x : Digest) → option_map (λ i. slice_index_or txs i no_tx) (first_of ids x) ≡ find (λ t. same_digest (tx_id t) x) txs
+  pub inside : (x : Digest) (i : ℕ) → first_with_id ids x ≡ Some i → i < length txs
+  pub first : (x : Digest) → option_map (λ i. slice_index_or txs i no_tx) (first_with_id ids x) ≡ find (λ t. same_digest (tx_id t) x) txs
 
 -- these forms are spent, and counted
 pub record HasSpent (mint : List Output) (handed : List FullTx) (forms : List Compact) (fold : Fold) : Type 0 where
   pub left : Book
   pub are_spent : AreSpent mint handed forms left
-  pub keeps : Keeps fold.book left
+  pub keeps : HasBook fold.book left
   pub count : fold.committed ≡ length forms
 
 -- what a walk says: all is known, caused and spent, or something is wrong at a place
 abbrev pub IsWalked : Shape → List Output → List FullTx → List (List Record) → List Place → Fold → Walked → Type 0
 IsWalked K mint handed all h fold (Whole known) =
     Knows all known (λ n. journal n (newest_first all h)) × AllCaused K (newest_first all h) × HasSpent mint handed (committed (newest_first all h)) fold
-IsWalked K mint handed all h fold (Stopped place kind) = IsFirstFault K mint handed (rows_at all h) place kind
+IsWalked K mint handed all h fold (Stopped place kind) = IsFirstUnsound K mint handed (rows_at all h) place kind

@@ -10,12 +10,12 @@ abbrev pub Key : Type 0
 Key = ℕ × ℕ × ℕ × ℕ
 
 -- whether two are the same
-abbrev pub same_key : Key → Key → Bool
-same_key x y = ((nat_eq x.0 y.0 && nat_eq x.1 y.1) && nat_eq x.2 y.2) && nat_eq x.3 y.3
+abbrev pub same_record_key : Key → Key → Bool
+same_record_key x y = ((nat_eq x.0 y.0 && nat_eq x.1 y.1) && nat_eq x.2 y.2) && nat_eq x.3 y.3
 
 -- the index in its node's journal of the newest record of a kind of a batch
 abbrev pub index_of : Known → ℕ → ℕ → Batch → Option ℕ
-index_of k n kind b = get same_key k.indices (n, kind, b.lane, b.number)
+index_of k n kind b = get same_record_key k.indices (n, kind, b.lane, b.number)
 
 -- what is kept are the newest records of each kind of each batch in the journals J, and their last stamps
 pub record Knows (all : List (List Record)) (k : Known) (J : ℕ → List Record) : Type 0 where

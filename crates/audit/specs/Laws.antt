@@ -9,7 +9,7 @@ use Rattle.cbdc_model.specs.Records.{Digest, Shape, Record, Row, journal}
 use Rattle.cbdc_model.specs.World.{IsHistory, IsUnspent}
 use Rattle.audit.specs.declared.verdict.Totals.{Totals}
 use Rattle.audit.specs.declared.verdict.Verdict.{Verdict}
-use Rattle.audit.specs.Verdicts.{IsSound, IsVerdict}
+use Rattle.audit.specs.Verdicts.{IsSoundHistory, IsVerdict}
 
 -- a history has one verdict
 abbrev pub OneVerdictLaw : Type 0
@@ -30,5 +30,5 @@ OrderedLaw = (K : Shape) (mint : List Output) (J : ℕ → List Record) (later r
 abbrev pub UnspentLaw : Type 0
 UnspentLaw = (K : Shape) (mint : List Output) (handed : List FullTx) (later : List Row) (totals : Totals) → 0 < K.shards → Clean mint handed
     → AllAfter K (minted mint) later → All (λ form. 0 < length form.inputs) (committed (history_of K mint later))
-    → (sound : IsSound K mint handed (reverse (history_of K mint later)) totals)
+    → (sound : IsSoundHistory K mint handed (reverse (history_of K mint later)) totals)
     → (x : Digest) → IsUnspent K (λ n. journal n (history_of K mint later)) x ↔ InBook sound.book x

@@ -23,11 +23,11 @@ abbrev pub AreApart : List Row → List Row → Type 0
 AreApart a b = (n : ℕ) → (journal n a ≡ []) ⊎ (journal n b ≡ [])
 
 -- the rows of records of one node
-abbrev pub rows_of : ℕ → List Record → List Row
-rows_of node records = map (λ r. record { node = node; what = r }) records
+abbrev pub rows_of_node : ℕ → List Record → List Row
+rows_of_node node records = map (λ r. record { node = node; what = r }) records
 
 -- of two lists of rows, the first i of the one and the first j of the other are merged
-pub record Merged (a b rows : List Row) (i j : ℕ) : Type 0 where
+pub record MergedUpTo (a b rows : List Row) (i j : ℕ) : Type 0 where
   pub left : i ≤ length a
   pub right : j ≤ length b
   pub journals : AreApart a b → (n : ℕ) → journal n rows ++ (journal n (drop i a) ++ journal n (drop j b)) ≡ journal n a ++ journal n b

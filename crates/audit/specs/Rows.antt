@@ -13,17 +13,17 @@ abbrev pub journal_in : List (List Record) → ℕ → List Record
 journal_in all n = slice_index_or all n []
 
 -- what is read where no record stands
-abbrev pub no_record : Record
-no_record = Done 0 (record { lane = 0; number = 0 })
+abbrev pub absent_record : Record
+absent_record = Done 0 (record { lane = 0; number = 0 })
 
 -- a record stands there
-abbrev pub IsPlace : List (List Record) → Place → Type 0
-IsPlace all p = p.index < length (journal_in all p.node)
+abbrev pub IsRecordPlace : List (List Record) → Place → Type 0
+IsRecordPlace all p = p.index < length (journal_in all p.node)
 
--- `journal_in`, `record_at`, `row_at`, `rows_at`, `newest_first`, `IsPlace`: the records at places of journals; the rows of places in order, and
+-- `journal_in`, `record_at`, `row_at`, `rows_at`, `newest_first`, `IsRecordPlace`: the records at places of journals; the rows of places in order, and
 -- the other way round
 abbrev pub record_at : List (List Record) → Place → Record
-record_at all p = slice_index_or (journal_in all p.node) p.index no_record
+record_at all p = slice_index_or (journal_in all p.node) p.index absent_record
 
 abbrev pub row_at : List (List Record) → Place → Row
 row_at all p = record { node = p.node; what = record_at all p }

@@ -14,11 +14,11 @@ pub record AreSpent (mint : List Output) (handed : List FullTx) (forms : List Co
   pub folds : fold_txs (Some (genesis_book mint)) txs ≡ Some b
 
 -- what is wrong with a committed form: none was handed in with it, or the first with it can't be spent from this book
-abbrev pub IsWrong : List FullTx → Book → Compact → UnsoundKind → Type 0
-IsWrong handed b form Cause = ⊥
-IsWrong handed b form (Unknown id) = (id ≡ form.id) × (first_with handed form ≡ None)
-IsWrong handed b form (Unfunded id) = (id ≡ form.id) × ((tx : FullTx) × (first_with handed form ≡ Some tx) × (spend b tx ≡ None))
-IsWrong handed b form Unfinished = ⊥
+abbrev pub IsFormWrong : List FullTx → Book → Compact → UnsoundKind → Type 0
+IsFormWrong handed b form Cause = ⊥
+IsFormWrong handed b form (Unknown id) = (id ≡ form.id) × (first_with handed form ≡ None)
+IsFormWrong handed b form (Unfunded id) = (id ≡ form.id) × ((tx : FullTx) × (first_with handed form ≡ Some tx) × (spend b tx ≡ None))
+IsFormWrong handed b form Unfinished = ⊥
 
 -- what is wrong with the first of these forms with which something is, those before it being spent behind the spent ones
 pub record IsFirstWrong (mint : List Output) (handed : List FullTx) (spent forms : List Compact) (kind : UnsoundKind) : Type 0 where
@@ -28,4 +28,4 @@ pub record IsFirstWrong (mint : List Output) (handed : List FullTx) (spent forms
   pub forms_are : forms ≡ earlier ++ form ∷ later
   pub book : Book
   pub are_spent : AreSpent mint handed (spent ++ earlier) book
-  pub wrong : IsWrong handed book form kind
+  pub wrong : IsFormWrong handed book form kind

@@ -11,7 +11,7 @@ use Rattle.cbdc_model.specs.History.{committed, newly_won}
 use Rattle.audit.specs.declared.verdict.Totals.{Totals}
 use Rattle.audit.specs.declared.verdict.Verdict.{Verdict}
 use Rattle.audit.specs.declared.verdict.Verdict.TheVariants.{Sound, Unsound}
-use Rattle.audit.specs.Walks.{IsCausedBy, AllCaused, AllDone, IsFirstOpen}
+use Rattle.audit.specs.Walks.{IsRowCaused, AllCaused, AllDone, IsFirstOpen}
 use Rattle.audit.specs.Spending.{AreSpent, IsFirstWrong}
 
 -- the journals of a history whose oldest row is the first
@@ -24,14 +24,14 @@ pub record Passes (K : Shape) (mint : List Output) (handed : List FullTx) (past 
   pub spent : AreSpent mint handed (committed past) b
 
 -- what is wrong with a row behind these: it is not caused, or it is and something is wrong with what it commits
-abbrev pub IsFault : Shape → List Output → List FullTx → List Row → Row → UnsoundKind → Type 0
-IsFault K mint handed past row Cause = IsCausedBy K past row → ⊥
-IsFault K mint handed past row (Unknown id) = IsCausedBy K past row × IsFirstWrong mint handed (committed past) (newly_won row.what (journal row.node past)) (Unknown id)
-IsFault K mint handed past row (Unfunded id) = IsCausedBy K past row × IsFirstWrong mint handed (committed past) (newly_won row.what (journal row.node past)) (Unfunded id)
-IsFault K mint handed past row Unfinished = ⊥
+abbrev pub IsRowFault : Shape → List Output → List FullTx → List Row → Row → UnsoundKind → Type 0
+IsRowFault K mint handed past row Cause = IsRowCaused K past row → ⊥
+IsRowFault K mint handed past row (Unknown id) = IsRowCaused K past row × IsFirstWrong mint handed (committed past) (newly_won row.what (journal row.node past)) (Unknown id)
+IsRowFault K mint handed past row (Unfunded id) = IsRowCaused K past row × IsFirstWrong mint handed (committed past) (newly_won row.what (journal row.node past)) (Unfunded id)
+IsRowFault K mint handed past row Unfinished = ⊥
 
 -- the row at this place of a history, the oldest of which is the first, is the first with which something is wrong
-pub record IsFirstFault (K : Shape) (mint : List Output) (handed : List FullTx) (rows : List Row) (place : ℕ) (kind : UnsoundKind) : Type 0 where
+pub record IsFirstUnsound (K : Shape) (mint : List Output) (handed : List FullTx) (rows : List Row) (place : ℕ) (kind : UnsoundKind) : Type 0 where
   pub before : List Row
   pub row : Row
   pub after : List Row
@@ -39,16 +39,16 @@ pub record IsFirstFault (K : Shape) (mint : List Output) (handed : List FullTx) 
   pub stands : length before ≡ place
   pub book : Book
   pub pass : Passes K mint handed (reverse before) book
-  pub fault : IsFault K mint handed (reverse before) row kind
+  pub fault : IsRowFault K mint handed (reverse before) row kind
 
 -- nothing is wrong with any row, and the row at this place is the first Prepare whose batch is not done
-pub record IsUnfinished (K : Shape) (mint : List Output) (handed : List FullTx) (rows : List Row) (place : ℕ) : Type 0 where
+pub record IsFirstUnfinished (K : Shape) (mint : List Output) (handed : List FullTx) (rows : List Row) (place : ℕ) : Type 0 where
   pub book : Book
   pub pass : Passes K mint handed (reverse rows) book
   pub first : IsFirstOpen K (journals_of rows) rows place
 
 -- nothing is wrong with any row, all batches are done, and the totals are those of the last book, the mint and what is committed
-pub record IsSound (K : Shape) (mint : List Output) (handed : List FullTx) (rows : List Row) (totals : Totals) : Type 0 where
+pub record IsSoundHistory (K : Shape) (mint : List Output) (handed : List FullTx) (rows : List Row) (totals : Totals) : Type 0 where
   pub book : Book
   pub pass : Passes K mint handed (reverse rows) book
   pub done : AllDone K (journals_of rows) rows
@@ -59,8 +59,8 @@ pub record IsSound (K : Shape) (mint : List Output) (handed : List FullTx) (rows
 
 -- an audit's verdict
 abbrev pub IsVerdict : Shape → List Output → List FullTx → List Row → Verdict → Type 0
-IsVerdict K mint handed rows (Sound totals) = IsSound K mint handed rows totals
-IsVerdict K mint handed rows (Unsound place Cause) = IsFirstFault K mint handed rows place Cause
-IsVerdict K mint handed rows (Unsound place (Unknown id)) = IsFirstFault K mint handed rows place (Unknown id)
-IsVerdict K mint handed rows (Unsound place (Unfunded id)) = IsFirstFault K mint handed rows place (Unfunded id)
-IsVerdict K mint handed rows (Unsound place Unfinished) = IsUnfinished K mint handed rows place
+IsVerdict K mint handed rows (Sound totals) = IsSoundHistory K mint handed rows totals
+IsVerdict K mint handed rows (Unsound place Cause) = IsFirstUnsound K mint handed rows place Cause
+IsVerdict K mint handed rows (Unsound place (Unknown id)) = IsFirstUnsound K mint handed rows place (Unknown id)
+IsVerdict K mint handed rows (Unsound place (Unfunded id)) = IsFirstUnsound K mint handed rows place (Unfunded id)
+IsVerdict K mint handed rows (Unsound place Unfinished) = IsFirstUnfinished K mint handed rows place

@@ -9,13 +9,13 @@ use Rattle.cbdc_model.specs.Ranges.{home_of}
 use Rattle.cbdc_model.specs.Causes.{IsCaused}
 
 -- the row is caused by the rows before it, the newest of which is the first
-abbrev pub IsCausedBy : Shape → List Row → Row → Type 0
-IsCausedBy K past row = IsCaused K (λ n. journal n past) row.node row.what
+abbrev pub IsRowCaused : Shape → List Row → Row → Type 0
+IsRowCaused K past row = IsCaused K (λ n. journal n past) row.node row.what
 
 -- each row of a history, the newest of which is the first, is caused by those before it
 abbrev pub AllCaused : Shape → List Row → Type 0
 AllCaused K [] = Unit {0}
-AllCaused K (row ∷ past) = IsCausedBy K past row × AllCaused K past
+AllCaused K (row ∷ past) = IsRowCaused K past row × AllCaused K past
 
 -- the row at this place of a history, the oldest of which is the first, is the first that is not caused by those before it
 pub record IsFirstUncaused (K : Shape) (rows : List Row) (place : ℕ) : Type 0 where
@@ -25,16 +25,16 @@ pub record IsFirstUncaused (K : Shape) (rows : List Row) (place : ℕ) : Type 0 
   pub rows_are : rows ≡ before ++ row ∷ after
   pub stands : length before ≡ place
   pub caused : AllCaused K (reverse before)
-  pub uncaused : IsCausedBy K (reverse before) row → ⊥
+  pub uncaused : IsRowCaused K (reverse before) row → ⊥
 
 -- a Prepare's batch has its Done in these journals
-abbrev pub IsDone : Shape → (ℕ → List Record) → Record → Type 0
-IsDone K J (Prepare stamp b txs) = is_some (record_of 9 (J (home_of K b.lane)) b) ≡ true
-IsDone K J other = Unit {0}
+abbrev pub IsBatchDone : Shape → (ℕ → List Record) → Record → Type 0
+IsBatchDone K J (Prepare stamp b txs) = is_some (record_of 9 (J (home_of K b.lane)) b) ≡ true
+IsBatchDone K J other = Unit {0}
 
 -- each has
 abbrev pub AllDone : Shape → (ℕ → List Record) → List Row → Type 0
-AllDone K J rows = All (λ row. IsDone K J row.what) rows
+AllDone K J rows = All (λ row. IsBatchDone K J row.what) rows
 
 -- the row at this place is the first that is a Prepare whose batch is not done
 pub record IsFirstOpen (K : Shape) (J : ℕ → List Record) (rows : List Row) (place : ℕ) : Type 0 where
@@ -44,7 +44,7 @@ pub record IsFirstOpen (K : Shape) (J : ℕ → List Record) (rows : List Row) (
   pub rows_are : rows ≡ before ++ row ∷ after
   pub stands : length before ≡ place
   pub done : AllDone K J before
-  pub unfinished : IsDone K J row.what → ⊥
+  pub unfinished : IsBatchDone K J row.what → ⊥
 
 -- each row of a ledger's history behind its first ones is after those of its journal, and its Prepares have transactions that pass
 abbrev pub AllFollow : Shape → Minted → (Compact → Type 0) → List Row → Type 0

@@ -5,9 +5,9 @@ ghost use Rattle.cbdc_model.specs.Records.{Compact, Record as ModelRecord};
 ghost use Rattle.cbdc_model.specs.Coins.{Output as ModelOutput};
 ghost use Rattle.cbdc_model.specs.Clean.{value_out};
 ghost use Rattle.cbdc_model.specs.History.{newly_won};
-ghost use Rattle.audit.specs.Rows.{read, rows_at, IsPlace};
+ghost use Rattle.audit.specs.Rows.{read, rows_at, IsRecordPlace};
 ghost use Rattle.audit.specs.Knowing.{Knows};
-ghost use Rattle.audit.specs.Walks.{AllDone, IsDone, IsFirstOpen};
+ghost use Rattle.audit.specs.Walks.{AllDone, IsBatchDone, IsFirstOpen};
 ghost use Rattle.audit.specs.Spending.{IsFirstWrong};
 ghost use Rattle.audit.specs.Verdicts.{IsVerdict};
 ghost use Rattle.audit.specs.Keeping.{IsIndex, IsFormOf, HasSpent, IsWalked};
@@ -72,7 +72,7 @@ fn walk(
     compacts: &[CompactTx],
     fold: &mut Fold,
 ) -> Result<Walked, AllocError>
-    requires places { All (IsPlace (read journals.now)) history.now }
+    requires places { All (IsRecordPlace (read journals.now)) history.now }
     requires index { IsIndex handed.now ids.now }
     requires compacts { AllZip IsFormOf handed.now compacts.now }
     ensures { (mint : Items ModelOutput) → IsIndex handed.now ids.now → HasSpent mint handed.now [] fold.old
@@ -101,7 +101,7 @@ fn walk(
 
 // Whether a record's batch is done, where it is a Prepare.
 fn is_done(known: &Known, journals: &[&[Record]], shape: &Shape, r: &Record) -> bool
-    ensures { (J : ℕ → Items ModelRecord) → Knows (read journals.now) known.now J → (IsTrue result ↔ IsDone shape.now J r.now) }
+    ensures { (J : ℕ → Items ModelRecord) → Knows (read journals.now) known.now J → (IsTrue result ↔ IsBatchDone shape.now J r.now) }
 {
     match r {
         Record::Prepare { batch, .. } => known
@@ -118,7 +118,7 @@ fn first_open(
     shape: &Shape,
     history: &[Place],
 ) -> Option<u64>
-    requires { All (IsPlace (read journals.now)) history.now }
+    requires { All (IsRecordPlace (read journals.now)) history.now }
     ensures { (J : ℕ → Items ModelRecord) → Knows (read journals.now) known.now J
         → MatchOption result (AllDone shape.now J (rows_at (read journals.now) history.now)) (IsFirstOpen shape.now J (rows_at (read journals.now) history.now)) }
 {
@@ -159,7 +159,7 @@ pub fn audit<W: Threads + Sync>(
     mint: &[Output],
     handed: &[FullTx],
 ) -> Result<Verdict, AllocError>
-    requires places { All (IsPlace (read journals.now)) history.now }
+    requires places { All (IsRecordPlace (read journals.now)) history.now }
     ensures { IfOk result (IsVerdict shape.now mint.now handed.now (rows_at (read journals.now) history.now)) }
 {
     let compacts = forms_of(rt, alloc, handed)?;

@@ -26,11 +26,11 @@ fn worth_of(output: &Output) -> u128
 }
 
 impl Book {
-    ghost use Rattle.audit.specs.Keeping.{Keeps, IsLeft};
+    ghost use Rattle.audit.specs.Keeping.{HasBook, HasRest};
 
     // No outputs.
     fn new(alloc: Global) -> Book
-        ensures { Keeps result book.empty }
+        ensures { HasBook result book.empty }
     {
         Book {
             outputs: HashMap::new(alloc),
@@ -39,7 +39,7 @@ impl Book {
 
     // Puts an output in at an outpoint.
     fn put(&mut self, id: &Hash, index: u64, output: &Output) -> Result<(), AllocError>
-        ensures { OnOk result ((b : ModelBook) → Keeps self.old b → Keeps self.new (book.insert b (key (record { tx = id.now; index = index })) output.now)) }
+        ensures { OnOk result ((b : ModelBook) → HasBook self.old b → HasBook self.new (book.insert b (key (record { tx = id.now; index = index })) output.now)) }
     {
         self.outputs.insert((*id, index), *output)?;
         Ok(())
@@ -47,7 +47,7 @@ impl Book {
 
     // Puts outputs in under an id, at 0, 1, 2 and so on.
     fn put_all(&mut self, id: &Hash, outputs: &[Output]) -> Result<(), AllocError>
-        ensures { OnOk result ((b : ModelBook) → Keeps self.old b → Keeps self.new (put_all b (made_coins id.now 0 outputs.now))) }
+        ensures { OnOk result ((b : ModelBook) → HasBook self.old b → HasBook self.new (put_all b (made_coins id.now 0 outputs.now))) }
     {
         'outputs: for index in 0..outputs.len() {
             self.put(id, index as u64, &outputs[index])?;
@@ -57,7 +57,7 @@ impl Book {
 
     /// The book that a mint is.
     pub(crate) fn of_mint(alloc: Global, mint: &[Output]) -> Result<Book, AllocError>
-        ensures { IfOk result (λ m. Keeps m (genesis_book mint.now)) }
+        ensures { IfOk result (λ m. HasBook m (genesis_book mint.now)) }
     {
         let mut book = Book::new(alloc);
         let id = genesis_id(alloc, mint)?;
@@ -67,7 +67,7 @@ impl Book {
 
     // Takes a coin out. False where the book does not have the claimed output at its outpoint.
     fn take_out(&mut self, coin: &Input) -> bool
-        ensures { (b : ModelBook) → Keeps self.old b → IsLeft result self.new (take_out b coin.now) }
+        ensures { (b : ModelBook) → HasBook self.old b → HasRest result self.new (take_out b coin.now) }
     {
         match self.outputs.remove(&(coin.point.tx, coin.point.index)) {
             Some(output) => is_same_output(&output, &coin.output),
@@ -77,7 +77,7 @@ impl Book {
 
     // Takes coins out one after another. False where one is not there as claimed, or stands twice.
     fn take_all(&mut self, coins: &[Input]) -> bool
-        ensures { (b : ModelBook) → Keeps self.old b → IsLeft result self.new (take_all (Some b) coins.now) }
+        ensures { (b : ModelBook) → HasBook self.old b → HasRest result self.new (take_all (Some b) coins.now) }
     {
         'coins: for at in 0..coins.len() {
             if !self.take_out(&coins[at]) {
@@ -91,7 +91,7 @@ impl Book {
     /// twice.
     pub(crate) fn spend(&mut self, tx: &FullTx, id: &Hash) -> Result<bool, AllocError>
         requires { id.now ≡ tx_id tx.now }
-        ensures { (b : ModelBook) → Keeps self.old b → IfOk result (λ yes. IsLeft yes self.new (spend b tx.now)) }
+        ensures { (b : ModelBook) → HasBook self.old b → IfOk result (λ yes. HasRest yes self.new (spend b tx.now)) }
     {
         if !self.take_all(tx.inputs.as_slice()) {
             return Ok(false);

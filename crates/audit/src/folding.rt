@@ -4,7 +4,7 @@ ghost use Rattle.cbdc_model.specs.Records.{Compact};
 ghost use Rattle.cbdc_model.specs.Coins.{Output as ModelOutput};
 ghost use Rattle.cbdc_model.specs.Book.{Book as ModelBook};
 ghost use Rattle.cbdc_model.specs.Outcomes.{won_txs};
-ghost use Rattle.audit.specs.Spending.{AreSpent, IsWrong, IsFirstWrong};
+ghost use Rattle.audit.specs.Spending.{AreSpent, IsFormWrong, IsFirstWrong};
 
 use crate::book::Book;
 use crate::handed::ById;
@@ -47,7 +47,7 @@ impl Fold {
         requires compacts { AllZip IsFormOf handed.now compacts.now }
         ensures { (mint : Items ModelOutput) → (forms : Items Compact) → IsIndex handed.now ids.now → HasSpent mint handed.now forms self.old
             → IfOk result (λ o. MatchOption o (HasSpent mint handed.now (forms ++ form.now ∷ []) self.new)
-            (λ kind. (b : ModelBook) × AreSpent mint handed.now forms b × IsWrong handed.now b form.now kind)) }
+            (λ kind. (b : ModelBook) × AreSpent mint handed.now forms b × IsFormWrong handed.now b form.now kind)) }
     {
         let Some(tx) = ids.first_with(handed, compacts, form) else {
             return Ok(Some(UnsoundKind::Unknown(form.id)));

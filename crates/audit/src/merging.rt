@@ -2,7 +2,7 @@
 ghost use Rattle.std.specs.Prelude.{◌≡◌, ◌⊎◌, ◌+◌, ◌-◌, ◌<◌, ◌≤◌, ◌^◌, ◌++◌, ℕ, [], ◌∷◌, List as Items, All, length, map, reverse, IfOk};
 ghost use Rattle.cbdc_model.specs.Records.{journal, stamp_of};
 ghost use Rattle.cbdc_model.specs.History.{goes_above, IsOrdered};
-ghost use Rattle.audit.specs.Rows.{read, row_at, rows_at, record_at, newest_first, Rises, journal_in, IsPlace};
+ghost use Rattle.audit.specs.Rows.{read, row_at, rows_at, record_at, newest_first, Rises, journal_in, IsRecordPlace};
 ghost use Rattle.audit.specs.Merges.{RiseAll, journals_below, AreApart};
 
 use crate::place::{History, Place};
@@ -27,7 +27,7 @@ pub fn stamp_of(r: &Record) -> u64
 
 /// The record at a place.
 pub fn record_at<'a>(journals: &[&'a [Record]], place: Place) -> &'a Record
-    requires { IsPlace (read journals.now) place }
+    requires { IsRecordPlace (read journals.now) place }
     ensures { result.now ≡ record_at (read journals.now) place }
 {
     let journal = journals[place.node as usize];
@@ -39,8 +39,8 @@ pub fn record_at<'a>(journals: &[&'a [Record]], place: Place) -> &'a Record
 
 // Whether the record at a place goes above that at another: by stamp, then by node.
 fn goes_above(journals: &[&[Record]], place: Place, other: Place) -> bool
-    requires place { IsPlace (read journals.now) place }
-    requires other { IsPlace (read journals.now) other }
+    requires place { IsRecordPlace (read journals.now) place }
+    requires other { IsRecordPlace (read journals.now) other }
     ensures { result ≡ goes_above (row_at (read journals.now) place) (row_at (read journals.now) other) }
 {
     let own = stamp_of(record_at(journals, place));
@@ -53,7 +53,7 @@ fn places_at(alloc: Global, journals: &[&[Record]], node: u32) -> Result<Vec<Pla
     requires { node < length journals.now }
     ensures journals { IfOk result (λ v. (n : ℕ) → journal n (rows_at (read journals.now) v.items) ≡ journals_below (read journals.now) node (node + 1) n) }
     ensures rises { Rises (journal_in (read journals.now) node) → IfOk result (λ v. RiseAll (rows_at (read journals.now) v.items)) }
-    ensures places { IfOk result (λ v. All (IsPlace (read journals.now)) v.items) }
+    ensures places { IfOk result (λ v. All (IsRecordPlace (read journals.now)) v.items) }
 {
     let journal = journals[node as usize];
     let mut places = Vec::with_capacity(alloc, journal.len())?;
@@ -73,13 +73,13 @@ fn merge_two(
     a: &[Place],
     b: &[Place],
 ) -> Result<Vec<Place>, AllocError>
-    requires left { All (IsPlace (read journals.now)) a.now }
-    requires right { All (IsPlace (read journals.now)) b.now }
+    requires left { All (IsRecordPlace (read journals.now)) a.now }
+    requires right { All (IsRecordPlace (read journals.now)) b.now }
     ensures journals { AreApart (rows_at (read journals.now) a.now) (rows_at (read journals.now) b.now) → IfOk result (λ v. (n : ℕ) → journal n (rows_at (read journals.now) v.items)
         ≡ journal n (rows_at (read journals.now) a.now) ++ journal n (rows_at (read journals.now) b.now)) }
     ensures rises { AreApart (rows_at (read journals.now) a.now) (rows_at (read journals.now) b.now) → RiseAll (rows_at (read journals.now) a.now)
         → RiseAll (rows_at (read journals.now) b.now) → IfOk result (λ v. RiseAll (rows_at (read journals.now) v.items)) }
-    ensures places { IfOk result (λ v. All (IsPlace (read journals.now)) v.items) }
+    ensures places { IfOk result (λ v. All (IsRecordPlace (read journals.now)) v.items) }
 {
     let mut places = Vec::with_capacity(alloc, a.len().saturating_add(b.len()))?;
     let mut i = 0;
@@ -110,7 +110,7 @@ fn merge_between(
     requires { high ≤ length journals.now }
     ensures journals { IfOk result (λ v. (n : ℕ) → journal n (rows_at (read journals.now) v.items) ≡ journals_below (read journals.now) low high n) }
     ensures rises { ((n : ℕ) → Rises (journal_in (read journals.now) n)) → IfOk result (λ v. RiseAll (rows_at (read journals.now) v.items)) }
-    ensures places { IfOk result (λ v. All (IsPlace (read journals.now)) v.items) }
+    ensures places { IfOk result (λ v. All (IsRecordPlace (read journals.now)) v.items) }
 {
     if high <= low {
         return Ok(Vec::new(alloc));
@@ -132,7 +132,7 @@ pub fn merge(alloc: Global, journals: &[&[Record]]) -> Result<History, AllocErro
     ensures journals { IfOk result (λ h. (n : ℕ) → journal n (rows_at (read journals.now) h) ≡ journal_in (read journals.now) n) }
     ensures newest_first { IfOk result (λ h. (n : ℕ) → journal n (newest_first (read journals.now) h) ≡ reverse (journal_in (read journals.now) n)) }
     ensures ordered { ((n : ℕ) → Rises (journal_in (read journals.now) n)) → IfOk result (λ h. IsOrdered (newest_first (read journals.now) h)) }
-    ensures places { IfOk result (λ h. All (IsPlace (read journals.now)) h) }
+    ensures places { IfOk result (λ h. All (IsRecordPlace (read journals.now)) h) }
 {
     let places = merge_between(alloc, journals, 0, journals.len() as u32)?;
     Ok(List::from_vec(places))

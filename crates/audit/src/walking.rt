@@ -1,6 +1,6 @@
 // The walk over a history.
 ghost use Rattle.std.specs.Prelude.{All, IfOk, MatchOption};
-ghost use Rattle.audit.specs.Rows.{read, rows_at, newest_first, IsPlace};
+ghost use Rattle.audit.specs.Rows.{read, rows_at, newest_first, IsRecordPlace};
 ghost use Rattle.audit.specs.Walks.{AllCaused, IsFirstUncaused};
 
 use crate::caused::is_caused;
@@ -17,7 +17,7 @@ pub fn causes(
     journals: &[&[Record]],
     history: &[Place],
 ) -> Result<Option<u64>, AllocError>
-    requires { All (IsPlace (read journals.now)) history.now }
+    requires { All (IsRecordPlace (read journals.now)) history.now }
     ensures { IfOk result (λ first. MatchOption first (AllCaused shape.now (newest_first (read journals.now) history.now)) (IsFirstUncaused shape.now (rows_at (read journals.now) history.now))) }
 {
     let mut known = Known::new(alloc);

@@ -1,7 +1,7 @@
 // Bodies of records, whatever headers they stand under.
 ghost use Rattle.std.specs.Prelude.{◌≡◌, IfOk};
 ghost use Rattle.record_log.specs.Bodies.{body_of};
-ghost use Rattle.record_log.specs.Exact.{IsFirst, Reads};
+ghost use Rattle.record_log.specs.Exact.{IsFirstRecord, ReadsRecord};
 ghost use Rattle.byte_laws.specs.Bodies.{EachBodyLaw};
 
 use cbdc_types::{Header, Record};
@@ -29,7 +29,7 @@ pub fn first_read_back(
     first: &Record,
     header: &Header,
 ) -> Result<Record, RecordFault>
-    ensures { IsFirst first.now → Reads first.now result }
+    ensures { IsFirstRecord first.now → ReadsRecord first.now result }
 {
     match body_of_first(alloc, first, header) {
         Ok(body) => read_first(alloc, body.as_slice()),

@@ -30,7 +30,7 @@ use Rattle.command_answers.specs.Scene.{Scene}
 use Rattle.rack_runs.specs.Runs.{file_turns, open_turns}
 use Rattle.submissions.specs.SoundTest.{sound_by}
 use Rattle.submissions.specs.Checks.{VerdictsOf}
-use Rattle.sentinel.specs.Files.{told}
+use Rattle.sentinel.specs.Files.{file_verdict}
 use Rattle.rack_laws.specs.Making.{CanMake}
 use Rattle.rack_laws.specs.Ready.{limit_at}
 use Rattle.rack_laws.proofs.Audited.{audit_sound}
@@ -81,20 +81,20 @@ module _ {D : Type 0} (device : Ghosts D) (before after : Scene D) where
 
   module _ (verdicts : FileWord) (clients : List FileWord) (can : CanRun device before after verdicts.name.now (names_of clients)) where
     -- over the transactions and verdicts that the files hold
-    turns_none : (handed : List (List FullTx)) (tells : VerdictsOf) (answer : Answer) → handed ≡ can.handed → tells ≡ told can.known
+    turns_none : (handed : List (List FullTx)) (tells : VerdictsOf) (answer : Answer) → handed ≡ can.handed → tells ≡ file_verdict can.known
         → WhyNoTurns device before.disks after.disks (file_turns tells handed) answer → answer ≡ answers.Memory
-    turns_none handed tells answer these known (inl unbegun) = unresumed (sound_by (told can.known)) can.handed answer can.ready unbegun.0
+    turns_none handed tells answer these known (inl unbegun) = unresumed (sound_by (file_verdict can.known)) can.handed answer can.ready unbegun.0
     turns_none handed tells answer these known (inr lane) =
         let ready = can.ready in
         run_none device before.disks after.disks ready.shape ready.mint ready.submissions ready.journals ready.shows ready.steady tells handed
         (subst (λ v. Ample ready.shape (sound_by v) (λ n. limit_at device (before.disks.held n)) handed ready.journals) (sym known)
-        (subst (λ hs. Ample ready.shape (sound_by (told can.known)) (λ n. limit_at device (before.disks.held n)) hs ready.journals) (sym these) ready.ample)) answer lane
+        (subst (λ hs. Ample ready.shape (sound_by (file_verdict can.known)) (λ n. limit_at device (before.disks.held n)) hs ready.journals) (sym these) ready.ample)) answer lane
 
     run_unhindered : (answer : Answer) → WhyNoRun device before after verdicts clients answer → answer ≡ answers.Memory
     run_unhindered answer (inl not_read) = clients_none before.file before.file_faults after.file_faults clients can.handed answer can.holds not_read
     run_unhindered answer (inr (handed, read, inl unknown)) = verdicts_none before.file before.file_faults after.file_faults verdicts.name.now can.known can.knows verdicts.place answer unknown
     run_unhindered answer (inr (handed, read, inr (known, knows, why))) =
-        turns_none handed (told known) answer (clients_once before.file before.file_faults after.file_faults clients 0 can.handed handed can.holds read)
+        turns_none handed (file_verdict known) answer (clients_once before.file before.file_faults after.file_faults clients 0 can.handed handed can.holds read)
         (verdicts_once before.file before.file_faults after.file_faults verdicts.name.now can.known can.knows known knows) why
 
   module _ (file : FileWord) (clients : List FileWord) (can : CanAudit device before after file.name.now (names_of clients)) where

@@ -9,7 +9,7 @@ use Rattle.cbdc_model.specs.Due.{used_of}
 use Rattle.cbdc_model.specs.World.{AreIdle}
 use Rattle.requests.specs.declared.Request.{Request}
 use Rattle.requests.specs.declared.Request.TheVariants.{Init, Run, Recover, Status, Audit, Gen, Show}
-use Rattle.sentinel.specs.Files.{told}
+use Rattle.sentinel.specs.Files.{file_verdict}
 use Rattle.sentinel.specs.declared.file.VerdictFile.{VerdictFile}
 use Rattle.submissions.specs.SoundTest.{sound_by}
 use Rattle.command_line.specs.Refused.{AreWholeHashes}
@@ -44,7 +44,7 @@ pub record CanRun {D : Type 0} (device : Ghosts D) (before after : Scene D) (ver
   pub handed : List (List FullTx)
   pub knows : HoldsVerdicts before.file before.file_faults after.file_faults verdicts known
   pub holds : HoldClients before.file before.file_faults after.file_faults 0 clients handed
-  pub ready : AreReadyFor device before after (sound_by (told known)) handed
+  pub ready : AreReadyFor device before after (sound_by (file_verdict known)) handed
 
 -- the files hold a mint and transactions, no hashes of which clash; the disks show a kept ledger of this mint and these transactions, every lane of
 -- which is idle; each disk may hold the bytes that its journal takes; and no count of faults of its nodes rises

@@ -9,7 +9,7 @@ use Rattle.cbdc_model.specs.Records.{Digest, Shape, Record}
 use Rattle.cbdc_model.specs.Coins.{Output, FullTx, genesis_id}
 use Rattle.requests.specs.declared.Request.{Request}
 use Rattle.requests.specs.declared.Request.TheVariants.{Run, Recover, Status, Audit}
-use Rattle.sentinel.specs.Files.{told}
+use Rattle.sentinel.specs.Files.{file_verdict}
 use Rattle.sentinel.specs.declared.file.VerdictFile.{VerdictFile}
 use Rattle.input_files.specs.Contents.{mint_of_file}
 use Rattle.rack_ledgers.specs.Ledgers.{IsUnopened, IsUnopenedBy}
@@ -53,7 +53,7 @@ IsExact device before other = Unit {0}
 -- what was asked ended behind the opening of the ledger: a lane met a fault (`IsLaneFault`), or an audit found something wrong (`IsUnsoundBy`)
 abbrev pub IsEndedLater : {D : Type 0} → Ghosts D → Scene D → Scene D → Request → Answer → Type 0
 IsEndedLater device before after (Run verdicts clients options) answer =
-    (handed : List (List FullTx)) × (known : VerdictFile) × IsLaneFault device before.disks after.disks (file_turns (told known) handed) answer
+    (handed : List (List FullTx)) × (known : VerdictFile) × IsLaneFault device before.disks after.disks (file_turns (file_verdict known) handed) answer
 IsEndedLater device before after Recover answer = IsLaneFault device before.disks after.disks open_turns answer
 IsEndedLater device before after (Audit mint clients) answer =
     IsUnsoundBy (WasAudited device before.file before.disks after.disks mint clients.items) answer

@@ -6,7 +6,7 @@ ghost use Rattle.command_line.specs.Words.{texts};
 ghost use Rattle.requests.specs.declared.Request.{Request as Asked};
 ghost use Rattle.commands.specs.InMemory.{IsUnhinderedWhereSteady, memory_scene};
 ghost use Rattle.commands.specs.Outcomes.{AskedDid};
-ghost use Rattle.mem_devices.specs.PlainRacks.{AllIn, plain};
+ghost use Rattle.mem_devices.specs.PlainRacks.{NoPlainDiskOut, plain};
 
 use crate::top::{Done, process};
 use cbdc_types::Answer;
@@ -32,8 +32,8 @@ pub fn process_in_memory<const N: usize, W: Wait + Threads + Sync, G: Gate + Syn
     out: &mut PlainSink<N>,
     gate: &G,
 ) -> Done<PlainRack>
-    requires { AllIn rack }
-    ensures back { AllIn result.rack }
+    requires { NoPlainDiskOut rack }
+    ensures back { NoPlainDiskOut result.rack }
 
     // What was done, as `process` says it.
     ensures did { let before = memory_scene inbox.old.files.items rack out.old.bytes.items in

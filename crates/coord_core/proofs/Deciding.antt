@@ -12,7 +12,7 @@ use Rattle.cbdc_model.specs.Outcomes.{reply_at, outcome_by, outcome, outcomes}
 use Rattle.cbdc_model.specs.Causes.{greatest}
 use Rattle.cbdc_model.specs.Deciding.{replies_at, replies_in, reply_stamp, answered_with, decided, reply_cause}
 use Rattle.coord_core.specs.Masks.{marked, mask_of, masks_of}
-use Rattle.coord_core.specs.Decided.{told, combined, latest, RisesBelow, AreRepliesTo}
+use Rattle.coord_core.specs.Decided.{replied_outcomes, combined_outcomes, latest_reply, ShardsRise, AreRepliesTo}
 use Rattle.coord_core.proofs.Walks.{told_pass, told_cons, latest-ge}
 
 -- a bit of the mask is set where a hash lies on that shard
@@ -104,16 +104,16 @@ outcomes_from locks s n k (t ∷ ts) = outcome locks k s n ∷ outcomes_from loc
 -- one shard's replies, taken into the outcomes by the greater ones
 told_by : (shards s n : ℕ) (locks : ℕ → List Answered) (k : ℕ) (ts : List Compact) (rs : List Reply) → length rs ≡ length (part shards s k ts)
     → ((j : ℕ) → k ≤ j → reply_at (locks s) j ≡ reply_at (answered_with (part shards s k ts) rs) j)
-    → told s (masks_of shards ts) rs (outcomes_from locks (suc s) n k ts) ≡ outcomes_from locks s (suc n) k ts
+    → replied_outcomes s (masks_of shards ts) rs (outcomes_from locks (suc s) n k ts) ≡ outcomes_from locks s (suc n) k ts
 told_by shards s n locks k [] rs len at = refl
 told_by shards s n locks k (t ∷ ts) rs len at = go (told_by shards s n locks (suc k) ts) (misses shards s t) refl rs len at
   where
     go : ((rs : List Reply) → length rs ≡ length (part shards s (suc k) ts)
         → ((j : ℕ) → suc k ≤ j → reply_at (locks s) j ≡ reply_at (answered_with (part shards s (suc k) ts) rs) j)
-        → told s (masks_of shards ts) rs (outcomes_from locks (suc s) n (suc k) ts) ≡ outcomes_from locks s (suc n) (suc k) ts)
+        → replied_outcomes s (masks_of shards ts) rs (outcomes_from locks (suc s) n (suc k) ts) ≡ outcomes_from locks s (suc n) (suc k) ts)
         → (b : Bool) → misses shards s t ≡ b → (rs : List Reply) → length rs ≡ length (part shards s k (t ∷ ts))
         → ((j : ℕ) → k ≤ j → reply_at (locks s) j ≡ reply_at (answered_with (part shards s k (t ∷ ts)) rs) j)
-        → told s (masks_of shards (t ∷ ts)) rs (outcomes_from locks (suc s) n k (t ∷ ts)) ≡ outcomes_from locks s (suc n) k (t ∷ ts)
+        → replied_outcomes s (masks_of shards (t ∷ ts)) rs (outcomes_from locks (suc s) n k (t ∷ ts)) ≡ outcomes_from locks s (suc n) k (t ∷ ts)
     go ih true e rs len at =
         let is : part shards s k (t ∷ ts) ≡ part shards s (suc k) ts = part_misses shards s k t ts e in
         let here : reply_at (locks s) k ≡ None = at k (omega arith) ∙ ap (λ p. reply_at (answered_with p rs) k) is ∙ none_before shards s (suc k) k ts rs (omega arith) in
@@ -151,7 +151,7 @@ passed locks s n k (t ∷ ts) none =
     ∙ ap (λ o. outcome_by o s (outcome locks k (suc s) n) ∷ outcomes_from locks s (suc n) (suc k) ts) (sym e)
 
 -- shards that rise: none is below the first
-none_at : (low limit i : ℕ) (rs : List ShardReplies) → RisesBelow low limit rs → i < low → replies_at rs i ≡ None
+none_at : (low limit i : ℕ) (rs : List ShardReplies) → ShardsRise low limit rs → i < low → replies_at rs i ≡ None
 none_at low limit i [] rise lt = refl
 none_at low limit i (r ∷ rs) rise lt =
     let f : eqb r.shard i ≡ false = ne_eqb r.shard i (omega (arith, rise.0)) in
@@ -168,10 +168,10 @@ all_won locks shards s k [] = refl
 all_won locks shards s k (t ∷ ts) = ap (λ os. Won ∷ os) (all_won locks shards s (suc k) ts)
 
 -- the shards from s on answer for themselves
-combined_by : (shards n s limit : ℕ) (locks : ℕ → List Answered) (txs : List Compact) (rs : List ShardReplies) → s + n ≡ limit → RisesBelow s limit rs
+combined_by : (shards n s limit : ℕ) (locks : ℕ → List Answered) (txs : List Compact) (rs : List ShardReplies) → s + n ≡ limit → ShardsRise s limit rs
     → ((i : ℕ) → s ≤ i → i < limit → locks i ≡ answered_with (part shards i 0 txs) (replies_in (replies_at rs i)))
     → ((i : ℕ) → s ≤ i → i < limit → length (replies_in (replies_at rs i)) ≡ length (part shards i 0 txs))
-    → combined (masks_of shards txs) rs ≡ outcomes_from locks s n 0 txs
+    → combined_outcomes (masks_of shards txs) rs ≡ outcomes_from locks s n 0 txs
 combined_by shards zero s limit locks txs [] sum rise is len = all_won locks shards s 0 txs
 combined_by shards zero s limit locks txs (r ∷ rs) sum rise is len = absurd (omega (arith, rise.0, rise.1))
 combined_by shards (suc n) s limit locks txs [] sum rise is len =
@@ -180,23 +180,23 @@ combined_by shards (suc n) s limit locks txs [] sum rise is len =
 combined_by shards (suc n) s limit locks txs (r ∷ rs) sum rise is len = go (combined_by shards n (suc s) limit locks txs rs (omega arith)) (combined_by shards n (suc s) limit locks txs (r ∷ rs) (omega arith)) (eqb_tells r.shard s)
   where
     IH : List ShardReplies → Type 0
-    IH rs = RisesBelow (suc s) limit rs
+    IH rs = ShardsRise (suc s) limit rs
         → ((i : ℕ) → suc s ≤ i → i < limit → locks i ≡ answered_with (part shards i 0 txs) (replies_in (replies_at rs i)))
         → ((i : ℕ) → suc s ≤ i → i < limit → length (replies_in (replies_at rs i)) ≡ length (part shards i 0 txs))
-        → combined (masks_of shards txs) rs ≡ outcomes_from locks (suc s) n 0 txs
+        → combined_outcomes (masks_of shards txs) rs ≡ outcomes_from locks (suc s) n 0 txs
 
-    go : IH rs → IH (r ∷ rs) → ((eqb r.shard s ≡ true) × (r.shard ≡ s)) ⊎ ((eqb r.shard s ≡ false) × (r.shard ≢ s)) → combined (masks_of shards txs) (r ∷ rs) ≡ outcomes_from locks s (suc n) 0 txs
+    go : IH rs → IH (r ∷ rs) → ((eqb r.shard s ≡ true) × (r.shard ≡ s)) ⊎ ((eqb r.shard s ≡ false) × (r.shard ≢ s)) → combined_outcomes (masks_of shards txs) (r ∷ rs) ≡ outcomes_from locks s (suc n) 0 txs
     go ih ih' (inl (t, e)) =
         let here : replies_at (r ∷ rs) s ≡ Some r = found_at r rs s e in
-        let rise' : RisesBelow (suc s) limit rs = let P : ℕ → Type 0 = λ x. RisesBelow (suc x) limit rs in subst P e rise.2 in
-        let rest : combined (masks_of shards txs) rs ≡ outcomes_from locks (suc s) n 0 txs =
+        let rise' : ShardsRise (suc s) limit rs = let P : ℕ → Type 0 = λ x. ShardsRise (suc x) limit rs in subst P e rise.2 in
+        let rest : combined_outcomes (masks_of shards txs) rs ≡ outcomes_from locks (suc s) n 0 txs =
         ih rise'
         (λ i le lt. is i (omega arith) lt ∙ ap (λ x. answered_with (part shards i 0 txs) (replies_in x)) (later_at r rs i (omega arith)))
         (λ i le lt. ap (λ x. length (replies_in x)) (sym (later_at r rs i (omega arith))) ∙ len i (omega arith) lt) in
         let own : locks s ≡ answered_with (part shards s 0 txs) r.replies = is s (omega arith) (omega arith) ∙ ap (λ x. answered_with (part shards s 0 txs) (replies_in x)) here in
         let count : length r.replies ≡ length (part shards s 0 txs) = ap (λ x. length (replies_in x)) (sym here) ∙ len s (omega arith) (omega arith) in
-        ap (λ os. told r.shard (masks_of shards txs) r.replies os) rest
-        ∙ ap (λ x. told x (masks_of shards txs) r.replies (outcomes_from locks (suc s) n 0 txs)) e
+        ap (λ os. replied_outcomes r.shard (masks_of shards txs) r.replies os) rest
+        ∙ ap (λ x. replied_outcomes x (masks_of shards txs) r.replies (outcomes_from locks (suc s) n 0 txs)) e
         ∙ told_by shards s n locks 0 txs r.replies count (λ j le. ap (λ es. reply_at es j) own)
     go ih ih' (inr (f, ne)) =
         let above : s < r.shard = omega (arith, rise.0) in
@@ -209,7 +209,7 @@ all_shards locks shards k [] = refl
 all_shards locks shards k (t ∷ ts) = ap (λ os. outcome locks k 0 shards ∷ os) (all_shards locks shards (suc k) ts)
 
 -- what becomes of a batch
-pub decided_is : (K : Shape) (txs : List Compact) (replies : List ShardReplies) → AreRepliesTo K txs replies → combined (masks_of K.shards txs) replies ≡ decided K txs replies
+pub decided_is : (K : Shape) (txs : List Compact) (replies : List ShardReplies) → AreRepliesTo K txs replies → combined_outcomes (masks_of K.shards txs) replies ≡ decided K txs replies
 decided_is K txs replies are =
     let locks : ℕ → List Answered = λ s. answered_with (part K.shards s 0 txs) (replies_in (replies_at replies s)) in
     combined_by K.shards K.shards 0 K.shards locks txs replies (omega arith) are.rising (λ i le lt. refl) (λ i le lt. are.each i lt)
@@ -230,8 +230,8 @@ greatest_below f (suc n) b all =
     let k : f n ≤ b = all n (omega arith) in
     omega arith
 
-latest_below : (low limit n b : ℕ) (f : ℕ → ℕ) (rs : List ShardReplies) → RisesBelow low limit rs → ((i : ℕ) → low ≤ i → f i ≡ reply_stamp (replies_at rs i))
-    → ((i : ℕ) → i < limit → f i ≤ b) → n ≤ b → latest n rs ≤ b
+latest_below : (low limit n b : ℕ) (f : ℕ → ℕ) (rs : List ShardReplies) → ShardsRise low limit rs → ((i : ℕ) → low ≤ i → f i ≡ reply_stamp (replies_at rs i))
+    → ((i : ℕ) → i < limit → f i ≤ b) → n ≤ b → latest_reply n rs ≤ b
 latest_below low limit n b f [] rise is all le = le
 latest_below low limit n b f (r ∷ rs) rise is all le =
     let own : f r.shard ≡ r.stamp = is r.shard (omega (arith, rise.0)) ∙ ap reply_stamp (found_at r rs r.shard refl) in
@@ -239,21 +239,21 @@ latest_below low limit n b f (r ∷ rs) rise is all le =
     latest_below (suc r.shard) limit (max n r.stamp) b f rs rise.2
     (λ i above. is i (omega (arith, rise.0)) ∙ ap reply_stamp (later_at r rs i (omega arith))) all (omega arith)
 
-stamp_below : (n : ℕ) (rs : List ShardReplies) (i : ℕ) → reply_stamp (replies_at rs i) ≤ latest n rs
+stamp_below : (n : ℕ) (rs : List ShardReplies) (i : ℕ) → reply_stamp (replies_at rs i) ≤ latest_reply n rs
 stamp_below n [] i = omega arith
 stamp_below n (r ∷ rs) i = go (stamp_below (max n r.stamp) rs i) (eqb_tells r.shard i)
   where
-    go : reply_stamp (replies_at rs i) ≤ latest (max n r.stamp) rs → ((eqb r.shard i ≡ true) × (r.shard ≡ i)) ⊎ ((eqb r.shard i ≡ false) × (r.shard ≢ i)) → reply_stamp (replies_at (r ∷ rs) i) ≤ latest (max n r.stamp) rs
+    go : reply_stamp (replies_at rs i) ≤ latest_reply (max n r.stamp) rs → ((eqb r.shard i ≡ true) × (r.shard ≡ i)) ⊎ ((eqb r.shard i ≡ false) × (r.shard ≢ i)) → reply_stamp (replies_at (r ∷ rs) i) ≤ latest_reply (max n r.stamp) rs
     go ih (inl (t, e)) = rw (found_at r rs i e) (let h = latest-ge (max n r.stamp) rs in omega arith)
     go ih (inr (f, ne)) = rw f ih
 
 -- and its stamp
-pub latest_is : (K : Shape) (n : ℕ) (replies : List ShardReplies) → RisesBelow 0 K.shards replies → latest n replies ≡ max n (reply_cause K replies)
+pub latest_is : (K : Shape) (n : ℕ) (replies : List ShardReplies) → ShardsRise 0 K.shards replies → latest_reply n replies ≡ max n (reply_cause K replies)
 latest_is K n replies rise =
     let f : ℕ → ℕ = λ s. reply_stamp (replies_at replies s) in
-    let up : latest n replies ≤ max n (greatest f K.shards) =
+    let up : latest_reply n replies ≤ max n (greatest f K.shards) =
     latest_below 0 K.shards n (max n (greatest f K.shards)) f replies rise (λ i le. refl)
     (λ i lt. (let h : f i ≤ greatest f K.shards = greatest_above f K.shards i lt in omega arith)) (omega arith) in
-    let down : greatest f K.shards ≤ latest n replies = greatest_below f K.shards (latest n replies) (λ s lt. stamp_below n replies s) in
-    let own : n ≤ latest n replies = latest-ge n replies in
+    let down : greatest f K.shards ≤ latest_reply n replies = greatest_below f K.shards (latest_reply n replies) (λ s lt. stamp_below n replies s) in
+    let own : n ≤ latest_reply n replies = latest-ge n replies in
     omega arith

@@ -11,8 +11,8 @@ use Rattle.cbdc_model.specs.Ranges.{home_of}
 use Rattle.cbdc_model.specs.Room.{room_in, lane_room, kept_below, kept_room}
 use Rattle.cbdc_model.specs.After.{IsJournal}
 use Rattle.coord_core.specs.Masks.{mask_of}
-use Rattle.coord_core.specs.Lanes.{CoordOf, IsOwn, IsWhole, no_lane, lane_at, lane_kept, kept_of}
-use Rattle.coord_core.specs.Stands.{StandsFor}
+use Rattle.coord_core.specs.Lanes.{CoordOf, IsOwnLane, IsCoordWhole, no_lane, coord_lane, lane_kept, kept_of}
+use Rattle.coord_core.specs.Stands.{CoordStands}
 use Rattle.coord_core.proofs.Journals.{IsCoordPhase, SlotFacts, slot_facts}
 
 coord_room : (p : Phase) (m n k : ℕ) → IsCoordPhase p → (p ≡ InPrepare → n ≡ k) → room_in p m n ≡ room_in p 0 k
@@ -31,14 +31,14 @@ coord_phase h lane s (inl e) = rw e tt
 coord_phase h lane s (inr f) = f.2
 
 -- of a lane of its own
-own_room : (c : CoordOf) (J : List Record) (lane : ℕ) → IsWhole c → StandsFor c J → IsJournal c.header J → IsOwn c.header lane → lane_room J lane ≡ lane_kept (lane_at c lane)
+own_room : (c : CoordOf) (J : List Record) (lane : ℕ) → IsCoordWhole c → CoordStands c J → IsJournal c.header J → IsOwnLane c.header lane → lane_room J lane ≡ lane_kept (coord_lane c lane)
 own_room c J lane whole stands j own =
-    let s : (lane_at c lane).slot ≡ slot J lane = stands.slots lane own in
+    let s : (coord_lane c lane).slot ≡ slot J lane = stands.slots lane own in
     let b : Batch = record { lane = lane; number = (slot J lane).number } in
-    let masks : (slot J lane).phase ≡ InPrepare → length (txs_of J b) ≡ length (lane_at c lane).masks =
+    let masks : (slot J lane).phase ≡ InPrepare → length (txs_of J b) ≡ length (coord_lane c lane).masks =
     λ e. sym (ap length (stands.masks lane own e) ∙ length-map (txs_of J b) (λ t. mask_of c.header.shape.shards t)) in
-    coord_room (slot J lane).phase (length (lock_of J b)) (length (txs_of J b)) (length (lane_at c lane).masks) (coord_phase c.header lane (slot J lane) (slot_facts c.header J lane whole.node j)) masks
-    ∙ ap (λ x. room_in x.phase 0 (length (lane_at c lane).masks)) (sym s)
+    coord_room (slot J lane).phase (length (lock_of J b)) (length (txs_of J b)) (length (coord_lane c lane).masks) (coord_phase c.header lane (slot J lane) (slot_facts c.header J lane whole.node j)) masks
+    ∙ ap (λ x. room_in x.phase 0 (length (coord_lane c lane).masks)) (sym s)
 
 -- of a lane of another coordinator
 other_room : (h : Header) (J : List Record) (lane : ℕ) → h.node < h.shape.coordinators → IsJournal h J → (home_of h.shape lane ≡ h.node → ⊥) → lane_room J lane ≡ 0
@@ -56,7 +56,7 @@ zeros J a (suc k) none =
     let ih : kept_below J (a + k) ≡ kept_below J a = zeros J a k (λ m le lt. none m le (omega arith)) in
     ap (kept_below J) e ∙ ap (λ x. kept_below J (a + k) + x) z ∙ ap (λ x. x + 0) ih ∙ omega arith
 
-own_sum : (c : CoordOf) (J : List Record) (i : ℕ) → IsWhole c → StandsFor c J → IsJournal c.header J → i ≤ length c.lanes
+own_sum : (c : CoordOf) (J : List Record) (i : ℕ) → IsCoordWhole c → CoordStands c J → IsJournal c.header J → i ≤ length c.lanes
     → kept_below J (c.header.node * c.header.shape.lanes + i) ≡ kept_below J (c.header.node * c.header.shape.lanes) + sum_by lane_kept (take i c.lanes)
 own_sum c J zero whole stands j le =
     let e : c.header.node * c.header.shape.lanes + 0 ≡ c.header.node * c.header.shape.lanes = omega arith in
@@ -66,7 +66,7 @@ own_sum c J (suc i) whole stands j le =
     let a : ℕ = c.header.node * L in
     let lt : i < L = omega (arith, whole.lanes) in
     let e : c.header.node * c.header.shape.lanes + suc i ≡ suc (c.header.node * c.header.shape.lanes + i) = omega arith in
-    let own : IsOwn c.header (c.header.node * c.header.shape.lanes + i) = div-mul-add c.header.node L i lt in
+    let own : IsOwnLane c.header (c.header.node * c.header.shape.lanes + i) = div-mul-add c.header.node L i lt in
     let place : (c.header.node * c.header.shape.lanes + i) % c.header.shape.lanes ≡ i = mod-mul-add c.header.node L i lt in
     let here : lane_room J (c.header.node * c.header.shape.lanes + i) ≡ lane_kept (get_or c.lanes i no_lane) =
     own_room c J (c.header.node * c.header.shape.lanes + i) whole stands j own ∙ ap (λ x. lane_kept (get_or c.lanes x no_lane)) place in
@@ -78,7 +78,7 @@ own_sum c J (suc i) whole stands j le =
     ap (kept_below J) e ∙ here' ∙ omega (arith, ih, more)
 
 -- what is kept for all lanes below the count
-pub kept_is : (c : CoordOf) (J : List Record) → IsWhole c → StandsFor c J → IsJournal c.header J → kept_of c.lanes ≡ kept_room c.header.shape J
+pub kept_is : (c : CoordOf) (J : List Record) → IsCoordWhole c → CoordStands c J → IsJournal c.header J → kept_of c.lanes ≡ kept_room c.header.shape J
 kept_is c J whole stands j =
     let L : ℕ = c.header.shape.lanes in
     let p : ℕ = c.header.node in

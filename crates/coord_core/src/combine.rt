@@ -4,7 +4,7 @@ ghost use Rattle.cbdc_model.specs.Records.{Shape};
 ghost use Rattle.cbdc_model.specs.Grammar.{IsOutcome};
 ghost use Rattle.cbdc_model.specs.Outcomes.{outcome_by};
 ghost use Rattle.coord_core.specs.Hashes.{NamesBatch, AllNameBatches};
-ghost use Rattle.coord_core.specs.Decided.{told, combined, latest, RisesBelow, AllEarlier};
+ghost use Rattle.coord_core.specs.Decided.{replied_outcomes, combined_outcomes, latest_reply, ShardsRise, StampsBelow};
 
 use cbdc_types::{Hash, Outcome, Reply, ShardReplies};
 
@@ -24,7 +24,7 @@ fn outcome_with(shard: u32, reply: &Reply, rest: Outcome) -> Outcome
 fn tell(shard: u32, masks: &[u64], replies: &[Reply], outcomes: &mut Vec<Outcome>)
     requires limit { shard < 64 }
     requires same_length { vec_len outcomes.old ≡ length masks.now }
-    ensures items { outcomes.new.items ≡ told shard masks.now replies.now outcomes.old.items }
+    ensures items { outcomes.new.items ≡ replied_outcomes shard masks.now replies.now outcomes.old.items }
     ensures same_length { vec_len outcomes.new ≡ length masks.now }
     ensures grammar { (K : Shape) → shard < K.shards → All (NamesBatch K) replies.now → All (IsOutcome K) outcomes.old.items → All (IsOutcome K) outcomes.new.items }
 {
@@ -41,9 +41,9 @@ fn tell(shard: u32, masks: &[u64], replies: &[Reply], outcomes: &mut Vec<Outcome
 pub(crate) fn combine(masks: &[u64], replies: &[ShardReplies], outcomes: &mut Vec<Outcome>)
     requires empty { outcomes.old.items ≡ [] }
     requires room { length masks.now ≤ vec_capacity outcomes.old }
-    requires rising { RisesBelow 0 64 replies.now }
-    ensures value { outcomes.new.items ≡ combined masks.now replies.now }
-    ensures grammar { (K : Shape) → RisesBelow 0 K.shards replies.now → AllNameBatches K replies.now → All (IsOutcome K) outcomes.new.items }
+    requires rising { ShardsRise 0 64 replies.now }
+    ensures value { outcomes.new.items ≡ combined_outcomes masks.now replies.now }
+    ensures grammar { (K : Shape) → ShardsRise 0 K.shards replies.now → AllNameBatches K replies.now → All (IsOutcome K) outcomes.new.items }
 {
     for _ in masks {
         outcomes.push_reserved(Outcome::Held);
@@ -61,8 +61,8 @@ pub(crate) fn combine(masks: &[u64], replies: &[ShardReplies], outcomes: &mut Ve
 /// The greatest of the stamp and those of the replies.
 pub(crate) fn latest_stamp(last: u64, replies: &[ShardReplies]) -> u64
     requires last { last < 2 ^ 63 }
-    requires earlier { AllEarlier (2 ^ 63) replies.now }
-    ensures value { result ≡ latest last replies.now }
+    requires earlier { StampsBelow (2 ^ 63) replies.now }
+    ensures value { result ≡ latest_reply last replies.now }
     ensures bound { result < 2 ^ 63 }
 {
     let mut greatest = last;

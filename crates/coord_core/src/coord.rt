@@ -7,11 +7,11 @@ ghost use Rattle.cbdc_model.specs.Deciding.{decided, reply_cause};
 ghost use Rattle.cbdc_model.specs.Slots.{Idle, InPrepare, InCommit, InDiscard};
 ghost use Rattle.coord_core.specs.Phases.{slot_of};
 ghost use Rattle.coord_core.specs.Hashes.{AreHashed, AllNameBatches};
-ghost use Rattle.coord_core.specs.Decided.{combined, latest, RisesBelow, AllEarlier, AreRepliesTo};
+ghost use Rattle.coord_core.specs.Decided.{combined_outcomes, latest_reply, ShardsRise, StampsBelow, AreRepliesTo};
 ghost use Rattle.coord_core.specs.Masks.{masks_of};
-ghost use Rattle.coord_core.specs.Stands.{StandsFor};
+ghost use Rattle.coord_core.specs.Stands.{CoordStands};
 ghost use Rattle.cbdc_model.specs.Ranges.{home_of};
-ghost use Rattle.coord_core.specs.Lanes.{IsOwn, no_lane, lane_at, with_lane, open_batch, next_batch, IsNext, HasRoom, IsSameButRoom, HasGrown, KeepsOthers, ahead_of, turned, begun, Takes, IsFresh, IsIdle, IsLaterAt, IsAdmitted, kept_of, IsPrepareAt, IsCommitAt};
+ghost use Rattle.coord_core.specs.Lanes.{IsOwnLane, no_lane, coord_lane, with_lane, core_batch, next_core_batch, CoordAdmits, HasLaneRoom, IsSameButRoom, HasNoLessRoom, KeepsOtherRooms, ahead_of, with_slot, with_prepared, CoordTakes, IsFreshCoord, IsIdleLane, IsLaterAt, IsCoordNext, kept_of, IsPrepareAt, IsCommitAt};
 
 use crate::combine::latest_stamp;
 use crate::copying::copied_txs;
@@ -36,24 +36,24 @@ pub struct CoordCore {
 }
 
 impl Model for CoordCore {
-    ghost use Rattle.coord_core.specs.Lanes.{CoordOf, IsWhole};
+    ghost use Rattle.coord_core.specs.Lanes.{CoordOf, IsCoordWhole};
 
     ghost Value = { CoordOf };
 
     ghost view = { λ c. record { header = c.header; last = c.last; lanes = c.lanes.items } };
 
-    ghost invariant = { λ c. IsWhole (record { header = c.header; last = c.last; lanes = c.lanes.items }) };
+    ghost invariant = { λ c. IsCoordWhole (record { header = c.header; last = c.last; lanes = c.lanes.items }) };
 }
 
 impl CoordCore {
     ghost use Rattle.cbdc_types.specs.Limits.{IsWithinLimits};
-    ghost use Rattle.coord_core.specs.Lanes.{IsWhole};
+    ghost use Rattle.coord_core.specs.Lanes.{IsCoordWhole};
 
     /// The lanes of a coordinator without a batch. Its header names a coordinator.
     pub fn new(alloc: Global, header: &Header) -> Result<CoordCore, AllocError>
         requires { header.now.node < header.now.shape.coordinators }
-        ensures fresh { IfOk result (IsFresh header.now) }
-        ensures stands { IfOk result (λ c. StandsFor c (Start header.now ∷ [])) }
+        ensures fresh { IfOk result (IsFreshCoord header.now) }
+        ensures stands { IfOk result (λ c. CoordStands c (Start header.now ∷ [])) }
     {
         let lanes = idle_lanes(alloc, header.shape.lanes())?;
         let _coordinators = header.shape.coordinators();
@@ -77,7 +77,7 @@ impl CoordCore {
     /// The header of the coordinator.
     pub fn header(&self) -> &Header
         ensures value { result.now ≡ self.now.header }
-        ensures whole { IsWhole self.now }
+        ensures whole { IsCoordWhole self.now }
     {
         let _ = &self.lanes;
         &self.header
@@ -85,9 +85,9 @@ impl CoordCore {
 
     /// Where a lane stands. One of another coordinator has no batch here.
     pub fn phase(&self, lane: LaneId) -> LanePhase
-        ensures own { IsOwn self.now.header lane → slot_of result ≡ (lane_at self.now lane).slot }
+        ensures own { IsOwnLane self.now.header lane → slot_of result ≡ (coord_lane self.now lane).slot }
         ensures other { home_of self.now.header.shape lane ≢ self.now.header.node → slot_of result ≡ no_lane.slot }
-        ensures whole { IsWhole self.now }
+        ensures whole { IsCoordWhole self.now }
     {
         let _ = &self.lanes;
         if !self.owns(lane) {
@@ -99,8 +99,8 @@ impl CoordCore {
     /// Takes the memory of a batch of n transactions on a lane.
     fn reserve(&mut self, lane: LaneId, n: usize) -> Result<(), AllocError>
         ensures same { IsSameButRoom self.old self.new }
-        ensures grown { HasGrown self.old self.new }
-        ensures room { OnOk result (HasRoom self.new lane n) }
+        ensures grown { HasNoLessRoom self.old self.new }
+        ensures room { OnOk result (HasLaneRoom self.new lane n) }
     {
         let place = self.place(lane);
         let lane = &mut self.lanes[place];
@@ -112,19 +112,19 @@ impl CoordCore {
     ///
     /// `prepare` and `admit` take the memory of the batch's Commit, `decide` gives it away.
     pub fn prepare(&mut self, lane: LaneId, txs: &[CompactTx]) -> Result<Record, AllocError>
-        requires own { IsOwn self.old.header lane }
-        requires idle { (lane_at self.old lane).slot.phase ≡ Idle }
+        requires own { IsOwnLane self.old.header lane }
+        requires idle { (coord_lane self.old lane).slot.phase ≡ Idle }
         requires some { 1 ≤ length txs.now }
         requires limit { length txs.now ≤ self.old.header.shape.batch }
-        ensures record { IfOk result (λ r. r ≡ Prepare (self.old.last + 1) (next_batch self.old lane) txs.now) }
+        ensures record { IfOk result (λ r. r ≡ Prepare (self.old.last + 1) (next_core_batch self.old lane) txs.now) }
         ensures same { IsSameButRoom self.old self.new }
-        ensures grown { HasGrown self.old self.new }
-        ensures room { OnOk result (HasRoom self.new lane (length txs.now)) }
+        ensures grown { HasNoLessRoom self.old self.new }
+        ensures room { OnOk result (HasLaneRoom self.new lane (length txs.now)) }
         ensures limits { IsWithinLimits self.old.header.shape }
         ensures hashes { IfOk result (λ r. All AreHashed txs.now) }
 
         // It may be taken in.
-        ensures next { IfOk result (λ r. self.old.last < 2 ^ 62 + 2 ^ 20 → IsNext self.new r) }
+        ensures next { IfOk result (λ r. self.old.last < 2 ^ 62 + 2 ^ 20 → CoordAdmits self.new r) }
     {
         let _ = &self.lanes;
         let copied = copied_txs(self.alloc, txs)?;
@@ -141,7 +141,7 @@ impl CoordCore {
 
     /// The number of a lane's last batch.
     fn number(&self, lane: LaneId) -> u64
-        ensures value { result ≡ (lane_at self.now lane).slot.number }
+        ensures value { result ≡ (coord_lane self.now lane).slot.number }
         ensures bound { result ≤ self.now.last }
         ensures last { self.now.last ≤ 2 ^ 62 + 2 ^ 20 }
     {
@@ -157,25 +157,25 @@ impl CoordCore {
     /// The Commit of a lane's prepared batch, by the replies of each shard that it concerns. The replies are as
     /// many as the entries of the shard's part.
     pub fn decide(&mut self, lane: LaneId, replies: &Replies) -> Record
-        requires own { IsOwn self.old.header lane }
-        requires prepared { (lane_at self.old lane).slot.phase ≡ InPrepare }
-        requires room { HasRoom self.old lane (length (lane_at self.old lane).masks) }
-        requires rising { RisesBelow 0 self.old.header.shape.shards replies.now }
-        requires earlier { AllEarlier (2 ^ 63) replies.now }
-        ensures record { result ≡ Commit (suc (latest self.old.last replies.now)) (open_batch self.old lane) (combined (lane_at self.old lane).masks replies.now) }
+        requires own { IsOwnLane self.old.header lane }
+        requires prepared { (coord_lane self.old lane).slot.phase ≡ InPrepare }
+        requires room { HasLaneRoom self.old lane (length (coord_lane self.old lane).masks) }
+        requires rising { ShardsRise 0 self.old.header.shape.shards replies.now }
+        requires earlier { StampsBelow (2 ^ 63) replies.now }
+        ensures record { result ≡ Commit (suc (latest_reply self.old.last replies.now)) (core_batch self.old lane) (combined_outcomes (coord_lane self.old lane).masks replies.now) }
         ensures same { IsSameButRoom self.old self.new }
-        ensures others { KeepsOthers self.old self.new lane }
-        ensures whole { IsWhole self.new }
+        ensures others { KeepsOtherRooms self.old self.new lane }
+        ensures whole { IsCoordWhole self.new }
 
         // It is what becomes of these transactions, if the replies are to their parts.
-        ensures decided { (txs : List Compact) → (lane_at self.old lane).masks ≡ masks_of self.old.header.shape.shards txs → AreRepliesTo self.old.header.shape txs replies.now
-            → result ≡ Commit (suc (max self.old.last (reply_cause self.old.header.shape replies.now))) (open_batch self.old lane) (decided self.old.header.shape txs replies.now) }
+        ensures decided { (txs : List Compact) → (coord_lane self.old lane).masks ≡ masks_of self.old.header.shape.shards txs → AreRepliesTo self.old.header.shape txs replies.now
+            → result ≡ Commit (suc (max self.old.last (reply_cause self.old.header.shape replies.now))) (core_batch self.old lane) (decided self.old.header.shape txs replies.now) }
 
         // Its outcomes are in the grammar.
         ensures outcomes { AllNameBatches self.old.header.shape replies.now → All (IsOutcome self.old.header.shape) (outcomes_in (Some result)) }
 
         // It may be taken in.
-        ensures next { suc (latest self.old.last replies.now) ≤ 2 ^ 62 + 2 ^ 20 → IsNext self.new result }
+        ensures next { suc (latest_reply self.old.last replies.now) ≤ 2 ^ 62 + 2 ^ 20 → CoordAdmits self.new result }
     {
         let _ = &self.lanes;
         let stamp = self.commit_stamp(replies);
@@ -192,9 +192,9 @@ impl CoordCore {
 
     /// The stamp of a Commit by these replies.
     pub fn commit_stamp(&self, replies: &Replies) -> Stamp
-        requires { AllEarlier (2 ^ 63) replies.now }
-        ensures value { result ≡ suc (latest self.now.last replies.now) }
-        ensures whole { IsWhole self.now }
+        requires { StampsBelow (2 ^ 63) replies.now }
+        ensures value { result ≡ suc (latest_reply self.now.last replies.now) }
+        ensures whole { IsCoordWhole self.now }
     {
         let _ = &self.lanes;
         Stamp(latest_stamp(self.last, replies.as_slice()) + 1)
@@ -203,7 +203,7 @@ impl CoordCore {
     /// Whether the memory for the outcomes of the lane's last batch is there: taken with its Prepare, given away
     /// with its Commit.
     pub fn has_room(&self, lane: LaneId) -> bool
-        ensures { IsTrue result ↔ HasRoom self.now lane (length (lane_at self.now lane).masks) }
+        ensures { IsTrue result ↔ HasLaneRoom self.now lane (length (coord_lane self.now lane).masks) }
     {
         let place = self.place(lane);
         self.lanes[place].has_room()
@@ -213,7 +213,7 @@ impl CoordCore {
     pub fn kept_room(&self) -> u64
         ensures value { result ≡ kept_of self.now.lanes }
         ensures bound { result ≤ 935648 }
-        ensures whole { IsWhole self.now }
+        ensures whole { IsCoordWhole self.now }
     {
         let mut kept = 0;
         for lane in &self.lanes {
@@ -226,7 +226,7 @@ impl CoordCore {
     pub fn records_ahead(&self) -> usize
         ensures value { result ≡ ahead_of self.now.lanes }
         ensures bound { result ≤ 48 }
-        ensures whole { IsWhole self.now }
+        ensures whole { IsCoordWhole self.now }
     {
         let mut ahead = 0;
         for lane in &self.lanes {
@@ -237,13 +237,13 @@ impl CoordCore {
 
     // The outcomes of a lane's last batch, in the memory that was taken for them.
     fn outcomes(&mut self, lane: LaneId, replies: &Replies) -> Outcomes
-        requires room { HasRoom self.old lane (length (lane_at self.old lane).masks) }
-        requires rising { RisesBelow 0 64 replies.now }
-        ensures whole { IsWhole self.new }
-        ensures value { result ≡ combined (lane_at self.old lane).masks replies.now }
-        ensures grammar { (K : Shape) → RisesBelow 0 K.shards replies.now → AllNameBatches K replies.now → All (IsOutcome K) result }
+        requires room { HasLaneRoom self.old lane (length (coord_lane self.old lane).masks) }
+        requires rising { ShardsRise 0 64 replies.now }
+        ensures whole { IsCoordWhole self.new }
+        ensures value { result ≡ combined_outcomes (coord_lane self.old lane).masks replies.now }
+        ensures grammar { (K : Shape) → ShardsRise 0 K.shards replies.now → AllNameBatches K replies.now → All (IsOutcome K) result }
         ensures same { IsSameButRoom self.old self.new }
-        ensures others { KeepsOthers self.old self.new lane }
+        ensures others { KeepsOtherRooms self.old self.new lane }
     {
         let place = self.place(lane);
         let lane = &mut self.lanes[place];
@@ -252,14 +252,14 @@ impl CoordCore {
 
     /// The Discard of a lane's committed batch; the cause is the greatest stamp of its Finishes.
     pub fn discard(&mut self, lane: LaneId, cause: Stamp) -> Record
-        requires own { IsOwn self.old.header lane }
-        requires committed { (lane_at self.old lane).slot.phase ≡ InCommit }
+        requires own { IsOwnLane self.old.header lane }
+        requires committed { (coord_lane self.old lane).slot.phase ≡ InCommit }
         requires cause { cause < 2 ^ 63 }
-        ensures record { result ≡ Discard (suc (max self.old.last cause)) (open_batch self.old lane) }
+        ensures record { result ≡ Discard (suc (max self.old.last cause)) (core_batch self.old lane) }
         ensures same { self.new ≡ self.old }
 
         // It may be taken in.
-        ensures next { suc (max self.old.last cause) ≤ 2 ^ 62 + 2 ^ 20 → IsNext self.new result }
+        ensures next { suc (max self.old.last cause) ≤ 2 ^ 62 + 2 ^ 20 → CoordAdmits self.new result }
     {
         Record::Discard {
             stamp: self.after(cause),
@@ -272,14 +272,14 @@ impl CoordCore {
 
     /// The Done of a lane's discarded batch; the cause is the greatest stamp of its Forgets.
     pub fn done(&mut self, lane: LaneId, cause: Stamp) -> Record
-        requires own { IsOwn self.old.header lane }
-        requires discarded { (lane_at self.old lane).slot.phase ≡ InDiscard }
+        requires own { IsOwnLane self.old.header lane }
+        requires discarded { (coord_lane self.old lane).slot.phase ≡ InDiscard }
         requires cause { cause < 2 ^ 63 }
-        ensures record { result ≡ Done (suc (max self.old.last cause)) (open_batch self.old lane) }
+        ensures record { result ≡ Done (suc (max self.old.last cause)) (core_batch self.old lane) }
         ensures same { self.new ≡ self.old }
 
         // It may be taken in.
-        ensures next { suc (max self.old.last cause) ≤ 2 ^ 62 + 2 ^ 20 → IsNext self.new result }
+        ensures next { suc (max self.old.last cause) ≤ 2 ^ 62 + 2 ^ 20 → CoordAdmits self.new result }
     {
         Record::Done {
             stamp: self.after(cause),
@@ -294,7 +294,7 @@ impl CoordCore {
     pub fn after(&self, cause: Stamp) -> Stamp
         requires { cause < 2 ^ 63 }
         ensures value { result ≡ suc (max self.now.last cause) }
-        ensures whole { IsWhole self.now }
+        ensures whole { IsCoordWhole self.now }
     {
         let _ = &self.lanes;
         Stamp(self.last.max(cause.0) + 1)
@@ -302,7 +302,7 @@ impl CoordCore {
 
     /// Whether the lane is this coordinator's.
     pub fn owns(&self, lane: LaneId) -> bool
-        ensures { IsTrue result ↔ IsOwn self.now.header lane }
+        ensures { IsTrue result ↔ IsOwnLane self.now.header lane }
     {
         let lanes = self.header.shape.lanes();
         lane.0 / lanes == self.header.node.0
@@ -318,7 +318,7 @@ impl CoordCore {
 
     // Whether the lane is in this phase.
     fn is_at(&self, lane: LaneId, phase: LanePhase) -> bool
-        ensures { IsTrue result ↔ ((lane_at self.now lane).slot ≡ slot_of phase) }
+        ensures { IsTrue result ↔ ((coord_lane self.now lane).slot ≡ slot_of phase) }
     {
         let place = self.place(lane);
         let at = self.lanes[place].phase();
@@ -327,7 +327,7 @@ impl CoordCore {
 
     // How many transactions the last batch of the lane has.
     fn count(&self, lane: LaneId) -> usize
-        ensures { result ≡ length (lane_at self.now lane).masks }
+        ensures { result ≡ length (coord_lane self.now lane).masks }
     {
         let place = self.place(lane);
         self.lanes[place].count()
@@ -337,13 +337,13 @@ impl CoordCore {
     /// number one more than the last, a Commit behind it with as many outcomes, a Discard behind the Commit, a Done
     /// behind the Discard; on lanes of this coordinator, with stamps that rise. The memory to take it in is taken then.
     pub fn admit(&mut self, next: &Record) -> Result<bool, AllocError>
-        ensures next { IfOk result (λ b. IsTrue b ↔ (IsInGrammar self.old.header next.now × IsAdmitted self.old next.now)) }
+        ensures next { IfOk result (λ b. IsTrue b ↔ (IsInGrammar self.old.header next.now × IsCoordNext self.old next.now)) }
 
         // It is next just where it may come behind the journal that the lanes stand for.
-        ensures after { IfOk result (λ b. (J : List AnyRecord) → StandsFor self.old J → J ≢ [] → (IsTrue b ↔ After self.old.header J next.now)) }
+        ensures after { IfOk result (λ b. (J : List AnyRecord) → CoordStands self.old J → J ≢ [] → (IsTrue b ↔ After self.old.header J next.now)) }
         ensures same { IsSameButRoom self.old self.new }
-        ensures grown { HasGrown self.old self.new }
-        ensures room { IfOk result (λ b. IsTrue b → IsNext self.new next.now) }
+        ensures grown { HasNoLessRoom self.old self.new }
+        ensures room { IfOk result (λ b. IsTrue b → CoordAdmits self.new next.now) }
     {
         let _ = &self.lanes;
         if !is_in_grammar(&self.header, next) {
@@ -355,11 +355,11 @@ impl CoordCore {
     /// The same of a record that is known to be in the grammar of this coordinator's journals.
     pub(crate) fn admit_known(&mut self, next: &Record) -> Result<bool, AllocError>
         requires { IsInGrammar self.old.header next.now }
-        ensures next { IfOk result (λ b. IsTrue b ↔ IsAdmitted self.old next.now) }
-        ensures after { IfOk result (λ b. (J : List AnyRecord) → StandsFor self.old J → J ≢ [] → (IsTrue b ↔ After self.old.header J next.now)) }
+        ensures next { IfOk result (λ b. IsTrue b ↔ IsCoordNext self.old next.now) }
+        ensures after { IfOk result (λ b. (J : List AnyRecord) → CoordStands self.old J → J ≢ [] → (IsTrue b ↔ After self.old.header J next.now)) }
         ensures same { IsSameButRoom self.old self.new }
-        ensures grown { HasGrown self.old self.new }
-        ensures room { IfOk result (λ b. IsTrue b → IsNext self.new next.now) }
+        ensures grown { HasNoLessRoom self.old self.new }
+        ensures room { IfOk result (λ b. IsTrue b → CoordAdmits self.new next.now) }
     {
         let _ = &self.lanes;
         self.admit_next(next)
@@ -367,10 +367,10 @@ impl CoordCore {
 
     // Whether a record is next on its lane.
     fn admit_next(&mut self, next: &Record) -> Result<bool, AllocError>
-        ensures next { IfOk result (λ b. IsTrue b ↔ IsAdmitted self.old next.now) }
+        ensures next { IfOk result (λ b. IsTrue b ↔ IsCoordNext self.old next.now) }
         ensures same { IsSameButRoom self.old self.new }
-        ensures grown { HasGrown self.old self.new }
-        ensures room { IfOk result (λ b. IsTrue b → IsNext self.new next.now) }
+        ensures grown { HasNoLessRoom self.old self.new }
+        ensures room { IfOk result (λ b. IsTrue b → CoordAdmits self.new next.now) }
     {
         match next {
             Record::Prepare { stamp, batch, txs } => {
@@ -419,21 +419,21 @@ impl CoordCore {
     /// Takes an appended record in.
     #[tactic(auto, using(crate::proofs::Standing::stands_next))]
     pub fn apply(&mut self, r: &Record)
-        requires { IsNext self.old r.now }
-        ensures taken { Takes self.old self.new r.now }
-        ensures whole { IsWhole self.old }
+        requires { CoordAdmits self.old r.now }
+        ensures taken { CoordTakes self.old self.new r.now }
+        ensures whole { IsCoordWhole self.old }
 
         // The lanes are then as the journal with the record leaves them.
-        ensures stands { (past : List AnyRecord) → StandsFor self.old past → StandsFor self.new (r.now ∷ past) }
+        ensures stands { (past : List AnyRecord) → CoordStands self.old past → CoordStands self.new (r.now ∷ past) }
     {
         self.take(r);
     }
 
     // Takes a record in.
     fn take(&mut self, r: &Record)
-        requires { IsNext self.old r.now }
-        ensures taken { Takes self.old self.new r.now }
-        ensures whole { IsWhole self.old }
+        requires { CoordAdmits self.old r.now }
+        ensures taken { CoordTakes self.old self.new r.now }
+        ensures whole { IsCoordWhole self.old }
     {
         let _ = &self.lanes;
         match r {
@@ -455,10 +455,10 @@ impl CoordCore {
 
     // Sets a lane's phase and the last stamp.
     fn turn(&mut self, stamp: Stamp, batch: &BatchId, phase: LanePhase)
-        requires number { (slot_of phase).number ≡ (lane_at self.old batch.now.lane).slot.number }
+        requires number { (slot_of phase).number ≡ (coord_lane self.old batch.now.lane).slot.number }
         requires later { self.old.last < stamp }
         requires limit { stamp ≤ 2 ^ 62 + 2 ^ 20 }
-        ensures { self.new ≡ turned self.old stamp batch.now.lane (slot_of phase) }
+        ensures { self.new ≡ with_slot self.old stamp batch.now.lane (slot_of phase) }
     {
         let place = self.place(batch.lane);
         let lane = &mut self.lanes[place];
@@ -468,12 +468,12 @@ impl CoordCore {
 
     // Begins a batch on a lane.
     fn begin(&mut self, stamp: Stamp, batch: &BatchId, txs: &[CompactTx])
-        requires number { batch.now.number ≡ (lane_at self.old batch.now.lane).slot.number + 1 }
+        requires number { batch.now.number ≡ (coord_lane self.old batch.now.lane).slot.number + 1 }
         requires later { self.old.last < stamp }
         requires limit { stamp ≤ 2 ^ 62 + 2 ^ 20 }
-        requires room { HasRoom self.old batch.now.lane (length txs.now) }
+        requires room { HasLaneRoom self.old batch.now.lane (length txs.now) }
         requires small { length txs.now ≤ 1024 }
-        ensures { self.new ≡ begun self.old stamp batch.now txs.now }
+        ensures { self.new ≡ with_prepared self.old stamp batch.now txs.now }
     {
         let place = self.place(batch.lane);
         let shards = self.header.shape.shards();
@@ -486,7 +486,7 @@ impl CoordCore {
 // As many lanes without a batch.
 fn idle_lanes(alloc: Global, lanes: u32) -> Result<Vec<Lane>, AllocError>
     ensures count { IfOk result (λ v. length v.items ≡ lanes) }
-    ensures idle { IfOk result (λ v. All IsIdle v.items) }
+    ensures idle { IfOk result (λ v. All IsIdleLane v.items) }
 {
     let mut made = Vec::with_capacity(alloc, lanes as usize)?;
     for _ in 0..lanes {

@@ -6,7 +6,7 @@ ghost use Rattle.cbdc_model.specs.Slots.{InPrepare};
 ghost use Rattle.coord_core.specs.Phases.{slot_of};
 ghost use Rattle.coord_core.specs.Hashes.{AllNameBatches};
 ghost use Rattle.coord_core.specs.Masks.{masks_of};
-ghost use Rattle.coord_core.specs.Decided.{combined, RisesBelow};
+ghost use Rattle.coord_core.specs.Decided.{combined_outcomes, ShardsRise};
 ghost use Rattle.coord_core.specs.Lanes.{lane_kept, ahead_in};
 
 use crate::combine::combine;
@@ -28,10 +28,10 @@ pub(crate) struct Lane {
 
 impl Model for Lane {
     ghost use Rattle.std.specs.Prelude.{◌≡◌, min, vec_capacity, []};
-    ghost use Rattle.coord_core.specs.Lanes.{LaneOf};
+    ghost use Rattle.coord_core.specs.Lanes.{CoordLaneOf};
     ghost use Rattle.coord_core.specs.Phases.{slot_of};
 
-    ghost Value = { LaneOf };
+    ghost Value = { CoordLaneOf };
 
     ghost view = { λ l. record { slot = slot_of l.phase; masks = l.masks.items; room = min (vec_capacity l.masks) (vec_capacity l.outcomes) } };
 
@@ -106,9 +106,9 @@ impl Lane {
     /// The outcomes of the last batch, in the memory that was taken for them.
     pub(crate) fn decide(&mut self, replies: &[ShardReplies]) -> Vec<Outcome>
         requires room { length self.old.masks ≤ self.old.room }
-        requires rising { RisesBelow 0 64 replies.now }
-        ensures outcomes { result.items ≡ combined self.old.masks replies.now }
-        ensures grammar { (K : Shape) → RisesBelow 0 K.shards replies.now → AllNameBatches K replies.now → All (IsOutcome K) result.items }
+        requires rising { ShardsRise 0 64 replies.now }
+        ensures outcomes { result.items ≡ combined_outcomes self.old.masks replies.now }
+        ensures grammar { (K : Shape) → ShardsRise 0 K.shards replies.now → AllNameBatches K replies.now → All (IsOutcome K) result.items }
         ensures slot { self.new.slot ≡ self.old.slot }
         ensures masks { self.new.masks ≡ self.old.masks }
     {

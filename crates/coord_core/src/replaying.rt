@@ -6,16 +6,16 @@ use std::alloc::{AllocError, Global};
 
 impl Core for CoordCore {
     ghost use Rattle.record_grammar.specs.Kinds.{IsCoord, IsGenesis};
-    ghost use Rattle.coord_core.specs.Lanes.{IsNext};
-    ghost use Rattle.coord_core.specs.Stands.{IsRoomyFor, HasTaken};
+    ghost use Rattle.coord_core.specs.Lanes.{CoordAdmits};
+    ghost use Rattle.coord_core.specs.Stands.{IsRoomyFor, CoordHasTaken};
 
     ghost header = { λ c. c.header };
 
     ghost stands = { IsRoomyFor };
 
-    ghost admits = { IsNext };
+    ghost admits = { CoordAdmits };
 
-    ghost takes = { HasTaken };
+    ghost takes = { CoordHasTaken };
 
     ghost kind = { IsCoord };
 

@@ -13,45 +13,45 @@ use Rattle.cbdc_model.specs.Next.{next_stamp}
 use Rattle.cbdc_model.specs.Deciding.{decided, reply_cause}
 use Rattle.cbdc_model.specs.Due.{Answers, Writes, last_late, open_batch, decide_due, commit_record}
 use Rattle.cbdc_model.specs.Room.{size_of, room_in}
-use Rattle.record_log.specs.Logs.{HasRoom}
+use Rattle.record_log.specs.Logs.{HasLogRoom}
 use Rattle.record_log.specs.declared.log.RecordLog.{RecordLog}
 use Rattle.coord_core.specs.Masks.{mask_of, masks_of}
-use Rattle.coord_core.specs.Decided.{latest, RisesBelow, AreRepliesTo}
-use Rattle.coord_core.specs.Lanes.{CoordOf, IsWhole, IsOwn, IsNext, lane_at, lane_kept, ahead_in, ahead_of, IsSameButRoom, KeepsOthers, open_batch as core_batch}
-use Rattle.coord_core.specs.Stands.{StandsFor}
+use Rattle.coord_core.specs.Decided.{latest_reply, ShardsRise, AreRepliesTo}
+use Rattle.coord_core.specs.Lanes.{CoordOf, IsCoordWhole, IsOwnLane, CoordAdmits, coord_lane, lane_kept, ahead_in, ahead_of, IsSameButRoom, KeepsOtherRooms, core_batch}
+use Rattle.coord_core.specs.Stands.{CoordStands}
 use Rattle.coord_core.proofs.Deciding.{latest_is}
 use Rattle.coord_log.specs.Logs.{commit_due}
-use Rattle.coord_log.specs.Inside.{largest, IsReady, StandsOn, IsDue}
+use Rattle.coord_log.specs.Inside.{largest, IsCoordReady, StandsOn, IsDue}
 use Rattle.coord_core.proofs.Rooms.{others_roomed}
 use Rattle.coord_core.proofs.Same.{stands_same}
 use Rattle.coord_core.proofs.Journals.{prepared_size}
 use Rattle.coord_log.proofs.Places.{commit_place, next_fits, next_ahead, commit_size}
-use Rattle.coord_log.proofs.Owed.{batch_is, named_batch, in_time, too_late, memory_for, all_memory}
+use Rattle.coord_log.proofs.Owed.{core_batch_is, named_batch, in_time, too_late, memory_for, all_memory}
 
 -- the stamp of a Commit by these replies
-pub commit_stamp_is : (c : CoordOf) (K : Shape) (J : List Record) (replies : List ShardReplies) → StandsFor c J → RisesBelow 0 K.shards replies → suc (latest c.last replies) ≡ next_stamp J (reply_cause K replies)
+pub commit_stamp_is : (c : CoordOf) (K : Shape) (J : List Record) (replies : List ShardReplies) → CoordStands c J → ShardsRise 0 K.shards replies → suc (latest_reply c.last replies) ≡ next_stamp J (reply_cause K replies)
 commit_stamp_is c K J replies stands rising = ap suc (latest_is K c.last replies rising) ∙ ap (λ x. suc (max x (reply_cause K replies))) stands.last
 
 -- what is owed whatever the shards replied: this record, or that its stamp is past its bound
-pub commit_owed : (c : CoordOf) (K : Shape) (J : List Record) (broken : Option ℕ) (t : ℕ) (r : Record) (replies : List ShardReplies) → StandsFor c J → broken ≡ None → RisesBelow 0 K.shards replies
-    → t ≡ suc (latest c.last replies) → t ≤ last_late → commit_due K replies r broken J ≡ Writes t r
+pub commit_owed : (c : CoordOf) (K : Shape) (J : List Record) (broken : Option ℕ) (t : ℕ) (r : Record) (replies : List ShardReplies) → CoordStands c J → broken ≡ None → ShardsRise 0 K.shards replies
+    → t ≡ suc (latest_reply c.last replies) → t ≤ last_late → commit_due K replies r broken J ≡ Writes t r
 commit_owed c K J broken t r replies stands whole rising t-is le =
     let s : next_stamp J (reply_cause K replies) ≡ t = sym (commit_stamp_is c K J replies stands rising) ∙ sym t-is in
     in_time broken last_late (next_stamp J (reply_cause K replies)) (Writes (next_stamp J (reply_cause K replies)) r) whole (rw s le) ∙ ap (λ x. Writes x r) s
 
-pub commit_late : (c : CoordOf) (K : Shape) (J : List Record) (broken : Option ℕ) (t : ℕ) (r : Record) (replies : List ShardReplies) → StandsFor c J → broken ≡ None → RisesBelow 0 K.shards replies
-    → t ≡ suc (latest c.last replies) → last_late < t → commit_due K replies r broken J ≡ Answers (Err (ClockEnd t))
+pub commit_late : (c : CoordOf) (K : Shape) (J : List Record) (broken : Option ℕ) (t : ℕ) (r : Record) (replies : List ShardReplies) → CoordStands c J → broken ≡ None → ShardsRise 0 K.shards replies
+    → t ≡ suc (latest_reply c.last replies) → last_late < t → commit_due K replies r broken J ≡ Answers (Err (ClockEnd t))
 commit_late c K J broken t r replies stands whole rising t-is late =
     let s : next_stamp J (reply_cause K replies) ≡ t = sym (commit_stamp_is c K J replies stands rising) ∙ sym t-is in
     too_late broken last_late (next_stamp J (reply_cause K replies)) (Writes (next_stamp J (reply_cause K replies)) r) whole (rw s late) ∙ ap (λ x. Answers (Err (ClockEnd x))) s
 
 -- what the lanes make of the replies
 abbrev pub IsDecided : CoordOf → ℕ → List ShardReplies → Record → Type 0
-IsDecided c lane replies r = (txs : List Compact) → (lane_at c lane).masks ≡ masks_of c.header.shape.shards txs → AreRepliesTo c.header.shape txs replies
+IsDecided c lane replies r = (txs : List Compact) → (coord_lane c lane).masks ≡ masks_of c.header.shape.shards txs → AreRepliesTo c.header.shape txs replies
     → r ≡ Commit (suc (max c.last (reply_cause c.header.shape replies))) (core_batch c lane) (decided c.header.shape txs replies)
 
-pub decide_owed : (c : CoordOf) (K : Shape) (J : List Record) (broken : Option ℕ) (lane t : ℕ) (r : Record) (replies : List ShardReplies) → K ≡ c.header.shape → StandsFor c J → IsOwn c.header lane
-    → broken ≡ None → (slot J lane).phase ≡ InPrepare → t ≡ suc (latest c.last replies) → t ≤ last_late → IsDecided c lane replies r → AreRepliesTo K (txs_of J (open_batch J lane)) replies
+pub decide_owed : (c : CoordOf) (K : Shape) (J : List Record) (broken : Option ℕ) (lane t : ℕ) (r : Record) (replies : List ShardReplies) → K ≡ c.header.shape → CoordStands c J → IsOwnLane c.header lane
+    → broken ≡ None → (slot J lane).phase ≡ InPrepare → t ≡ suc (latest_reply c.last replies) → t ≤ last_late → IsDecided c lane replies r → AreRepliesTo K (txs_of J (open_batch J lane)) replies
     → decide_due K lane replies broken J ≡ Writes t r
 decide_owed c K J broken lane t r replies shape stands own whole phase t-is le is are =
     let txs : List Compact = txs_of J (open_batch J lane) in
@@ -62,12 +62,12 @@ decide_owed c K J broken lane t r replies shape stands own whole phase t-is le i
     let e : commit_record K lane replies J ≡ r =
     ap (λ k. commit_record k lane replies J) shape
     ∙ ap (λ x. Commit (suc (max x (reply_cause c.header.shape replies))) (open_batch J lane) (decided c.header.shape txs replies)) (sym stands.last)
-    ∙ ap (λ b. Commit (suc (max c.last (reply_cause c.header.shape replies))) b (decided c.header.shape txs replies)) (sym (batch_is c J lane stands own))
+    ∙ ap (λ b. Commit (suc (max c.last (reply_cause c.header.shape replies))) b (decided c.header.shape txs replies)) (sym (core_batch_is c J lane stands own))
     ∙ sym record_is in
     in_time broken last_late (next_stamp J (reply_cause K replies)) (Writes (next_stamp J (reply_cause K replies)) (commit_record K lane replies J)) whole (rw s le)
     ∙ ap (λ x. Writes x (commit_record K lane replies J)) s ∙ ap (λ x. Writes t x) e
 
-pub decide_late : (c : CoordOf) (K : Shape) (J : List Record) (broken : Option ℕ) (lane t : ℕ) (txs : List Compact) (replies : List ShardReplies) → StandsFor c J → broken ≡ None → t ≡ suc (latest c.last replies) → last_late < t
+pub decide_late : (c : CoordOf) (K : Shape) (J : List Record) (broken : Option ℕ) (lane t : ℕ) (txs : List Compact) (replies : List ShardReplies) → CoordStands c J → broken ≡ None → t ≡ suc (latest_reply c.last replies) → last_late < t
     → AreRepliesTo K txs replies → decide_due K lane replies broken J ≡ Answers (Err (ClockEnd t))
 decide_late c K J broken lane t txs replies stands whole t-is late are =
     let s : next_stamp J (reply_cause K replies) ≡ t = sym (commit_stamp_is c K J replies stands are.rising) ∙ sym t-is in
@@ -75,22 +75,22 @@ decide_late c K J broken lane t txs replies stands whole t-is late are =
     ∙ ap (λ x. Answers (Err (ClockEnd x))) s
 
 pub decide_ready : {D : Type 0} {G : Ghosts D} (l : RecordLog D G) (b c : CoordOf) (flight : Option Record) (lane stamp : ℕ) (os : List Outcome) (r : Record)
-    → IsWhole c → IsSameButRoom b c → KeepsOthers b c lane → StandsOn l b → broken_of l.journal ≡ None → IsReady l b flight → IsOwn b.header lane → (slot (reverse l.records.items) lane).phase ≡ InPrepare
-    → 1 ≤ stamp → stamp ≤ last_late → r ≡ Commit stamp (core_batch b lane) os → All (λ o. IsOutcome l.header.shape o) os → IsNext c r → IsDue l c flight r
+    → IsCoordWhole c → IsSameButRoom b c → KeepsOtherRooms b c lane → StandsOn l b → broken_of l.journal ≡ None → IsCoordReady l b flight → IsOwnLane b.header lane → (slot (reverse l.records.items) lane).phase ≡ InPrepare
+    → 1 ≤ stamp → stamp ≤ last_late → r ≡ Commit stamp (core_batch b lane) os → All (λ o. IsOutcome l.header.shape o) os → CoordAdmits c r → IsDue l c flight r
 decide_ready {D} {G} l b c flight lane stamp os r whole same keeps on sound ready own phase some le r-is outcomes next =
     let J : List Record = reverse l.records.items in
     let P : Record → Type 0 = λ x. IsDue l c flight x in
-    let next' : IsNext c (Commit stamp (core_batch b lane) os) = let Q : Record → Type 0 = λ x. IsNext c x in subst Q r-is next in
-    let at : (lane_at c lane).slot.phase ≡ InPrepare = ap (λ s. s.phase) next'.1 in
-    let kept : lane_kept (lane_at c lane) ≡ 110 + 57 * length (lane_at c lane).masks = ap (λ x. room_in x 0 (length (lane_at c lane).masks)) at in
-    let ahead : ahead_in (lane_at c lane).slot.phase ≡ 3 = ap ahead_in at in
+    let next' : CoordAdmits c (Commit stamp (core_batch b lane) os) = let Q : Record → Type 0 = λ x. CoordAdmits c x in subst Q r-is next in
+    let at : (coord_lane c lane).slot.phase ≡ InPrepare = ap (λ s. s.phase) next'.1 in
+    let kept : lane_kept (coord_lane c lane) ≡ 110 + 57 * length (coord_lane c lane).masks = ap (λ x. room_in x 0 (length (coord_lane c lane).masks)) at in
+    let ahead : ahead_in (coord_lane c lane).slot.phase ≡ 3 = ap ahead_in at in
     let node : l.header.node < l.header.shape.coordinators = let Q : Header → Type 0 = λ h. h.node < h.shape.coordinators in subst Q (same.header ∙ on.header) whole.node in
     let batch : IsBatchOf l.header.shape (open_batch J lane) = named_batch l.header J lane node on.journal (λ e. (let w : InPrepare ≡ Idle = sym phase ∙ e in cc)) in
     let size : HasSize l.header.shape (txs_of J (open_batch J lane)) = prepared_size l.header J lane on.journal phase in
     let count : length os ≡ length (txs_of J (open_batch J lane)) =
     sym next'.2 ∙ ap length (same.masks lane ∙ on.stands.masks lane own phase) ∙ length-map (txs_of J (open_batch J lane)) (λ t. mask_of b.header.shape.shards t) in
     let rooms = others_roomed b c lane same keeps ready.place.rooms in
-    let memory : HasRoom l (0 + ahead_of c.lanes) largest = let Q : ℕ → Type 0 = λ n. HasRoom l (0 + n) largest in subst Q (sym same.ahead) ready.place.memory in
+    let memory : HasLogRoom l (0 + ahead_of c.lanes) largest = let Q : ℕ → Type 0 = λ n. HasLogRoom l (0 + n) largest in subst Q (sym same.ahead) ready.place.memory in
     subst P (sym r-is) (record {
       on = record {
         header = same.header ∙ on.header;
@@ -104,7 +104,7 @@ decide_ready {D} {G} l b c flight lane stamp os r whole same keeps on sound read
       next = next';
       grammar = (
         (some, le),
-        (let Q : Batch → Type 0 = λ x. IsBatchOf l.header.shape x in subst Q (sym (batch_is b J lane on.stands own)) batch),
+        (let Q : Batch → Type 0 = λ x. IsBatchOf l.header.shape x in subst Q (sym (core_batch_is b J lane on.stands own)) batch),
         node,
         ((omega (arith, size.0, count)), (omega (arith, size.1, count))),
         outcomes,

@@ -5,8 +5,8 @@ use Rattle.cbdc_model.specs.Records.{Header, Record, Genesis, Start, Prepare, Co
 use Rattle.cbdc_model.specs.Ranges.{home_of}
 use Rattle.cbdc_model.specs.Slots.{Slot, slot}
 use Rattle.cbdc_model.specs.After.{IsFirst, IsJournal}
-use Rattle.coord_core.specs.Lanes.{CoordOf, IsOwn, lane_at, no_lane}
-use Rattle.coord_core.specs.Stands.{StandsFor}
+use Rattle.coord_core.specs.Lanes.{CoordOf, IsOwnLane, coord_lane, no_lane}
+use Rattle.coord_core.specs.Stands.{CoordStands}
 
 module _ (h : Header) (lane : ℕ) (inside : h.node < h.shape.coordinators) (other : home_of h.shape lane ≢ h.node) where
   -- a record of the coordinator's own lanes is of another one
@@ -35,8 +35,8 @@ module _ (h : Header) (lane : ℕ) (inside : h.node < h.shape.coordinators) (oth
   no_batch (other ∷ (q ∷ past)) j = absurd (let shard = j.0.0.2 in omega (arith, shard, inside))
 
 -- what the lanes say of a lane is what the journal says
-pub slot_there : (c : CoordOf) (h : Header) (J : List Record) (lane : ℕ) (s : Slot) → c.header ≡ h → c.header.node < c.header.shape.coordinators → StandsFor c J → IsJournal h J
-    → (IsOwn c.header lane → s ≡ (lane_at c lane).slot) → (home_of c.header.shape lane ≢ c.header.node → s ≡ no_lane.slot) → s ≡ slot J lane
+pub slot_there : (c : CoordOf) (h : Header) (J : List Record) (lane : ℕ) (s : Slot) → c.header ≡ h → c.header.node < c.header.shape.coordinators → CoordStands c J → IsJournal h J
+    → (IsOwnLane c.header lane → s ≡ (coord_lane c lane).slot) → (home_of c.header.shape lane ≢ c.header.node → s ≡ no_lane.slot) → s ≡ slot J lane
 slot_there c h J lane s same inside stands journal own other = go (eqb_tells (home_of c.header.shape lane) c.header.node)
   where
     go : (((home_of c.header.shape lane == c.header.node) ≡ true) × (home_of c.header.shape lane ≡ c.header.node)) ⊎ (((home_of c.header.shape lane == c.header.node) ≡ false) × (home_of c.header.shape lane ≢ c.header.node)) → s ≡ slot J lane

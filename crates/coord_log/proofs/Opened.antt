@@ -7,18 +7,18 @@ use Rattle.cbdc_model.specs.After.{IsJournal}
 use Rattle.cbdc_model.specs.Room.{kept_room}
 use Rattle.cbdc_model.specs.Due.{used_of}
 use Rattle.cbdc_model.specs.Sights.{IsBrokenSince}
-use Rattle.record_log.specs.Logs.{HasRoom, IsUntouched}
+use Rattle.record_log.specs.Logs.{HasLogRoom, IsUntouched}
 use Rattle.record_log.specs.declared.log.RecordLog.{RecordLog}
 use Rattle.record_grammar.specs.Kinds.{IsCoord}
-use Rattle.coord_core.specs.Lanes.{CoordOf, IsWhole, kept_of, ahead_of}
+use Rattle.coord_core.specs.Lanes.{CoordOf, IsCoordWhole, kept_of, ahead_of}
 use Rattle.coord_core.specs.Stands.{IsRoomyFor}
 use Rattle.coord_core.proofs.Kept.{kept_is}
 use Rattle.node_journal.specs.Opened.{IsOpened}
-use Rattle.coord_log.specs.Inside.{largest, IsSound}
+use Rattle.coord_log.specs.Inside.{largest, IsCoordSound}
 
 -- with memory for the records that are still to come
-pub opened_sound : {D : Type 0} {G : Ghosts D} (old l : RecordLog D G) (c : CoordOf) → IsOpened {C = CoordOf} {D = D} {G = G} (λ x. x.header) IsRoomyFor IsCoord (record { log = old; core = c }) → IsWhole c → IsUntouched old l
-    → l.records.items ≡ old.records.items → l.header ≡ old.header → HasRoom l (ahead_of c.lanes) largest → IsSound l c (G.count (disk_of l.journal)) None
+pub opened_sound : {D : Type 0} {G : Ghosts D} (old l : RecordLog D G) (c : CoordOf) → IsOpened {C = CoordOf} {D = D} {G = G} (λ x. x.header) IsRoomyFor IsCoord (record { log = old; core = c }) → IsCoordWhole c → IsUntouched old l
+    → l.records.items ≡ old.records.items → l.header ≡ old.header → HasLogRoom l (ahead_of c.lanes) largest → IsCoordSound l c (G.count (disk_of l.journal)) None
 opened_sound {D} {G} old l c is whole untouched records header memory =
     let J : List Record = reverse old.records.items in
     let played = is.played in

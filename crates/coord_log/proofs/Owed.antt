@@ -13,13 +13,13 @@ use Rattle.cbdc_model.specs.Next.{next_stamp}
 use Rattle.cbdc_model.specs.Due.{Due, Answers, Writes, unless_broken, if_early, last_late, open_batch, discard_due, done_due, discard_record, done_record}
 use Rattle.cbdc_model.specs.Room.{room_in}
 use Rattle.cbdc_model.specs.Sights.{Sight, Appends, Fails, MeetsFault, Meets}
-use Rattle.record_log.specs.Logs.{HasRoom}
+use Rattle.record_log.specs.Logs.{HasLogRoom}
 use Rattle.record_log.specs.declared.log.RecordLog.{RecordLog}
-use Rattle.coord_core.specs.Lanes.{CoordOf, IsWhole, IsOwn, IsNext, lane_at, lane_kept, ahead_in, ahead_of, open_batch as core_batch}
-use Rattle.coord_core.specs.Stands.{StandsFor}
+use Rattle.coord_core.specs.Lanes.{CoordOf, IsCoordWhole, IsOwnLane, CoordAdmits, coord_lane, lane_kept, ahead_in, ahead_of, core_batch}
+use Rattle.coord_core.specs.Stands.{CoordStands}
 use Rattle.node_journal.specs.Nodes.{NodeOf, sight, broken_behind}
 use Rattle.node_journal.specs.Shown.{shown}
-use Rattle.coord_log.specs.Inside.{largest, IsReady, StandsOn, IsDue}
+use Rattle.coord_log.specs.Inside.{largest, IsCoordReady, StandsOn, IsDue}
 use Rattle.coord_core.proofs.Rooms.{all_others}
 use Rattle.coord_core.proofs.Journals.{SlotFacts, slot_facts}
 use Rattle.coord_log.proofs.Places.{discard_place, done_place, next_fits, next_ahead}
@@ -42,25 +42,25 @@ pub too_late : {A : Type 0} (broken : Option ℕ) (bound stamp : ℕ) (due : Due
 too_late broken bound stamp due whole lt = let t = lt-ltb bound stamp lt in rw whole (rw t refl)
 
 -- the stamp and the batch of the lanes are those of the journal
-pub stamp_is : (c : CoordOf) (J : List Record) (cause : ℕ) → StandsFor c J → suc (max c.last cause) ≡ next_stamp J cause
+pub stamp_is : (c : CoordOf) (J : List Record) (cause : ℕ) → CoordStands c J → suc (max c.last cause) ≡ next_stamp J cause
 stamp_is c J cause stands = ap (λ x. suc (max x cause)) stands.last
 
-pub batch_is : (c : CoordOf) (J : List Record) (lane : ℕ) → StandsFor c J → IsOwn c.header lane → core_batch c lane ≡ open_batch J lane
-batch_is c J lane stands own = ap (λ s. record { lane = lane; number = s.number }) (stands.slots lane own)
+pub core_batch_is : (c : CoordOf) (J : List Record) (lane : ℕ) → CoordStands c J → IsOwnLane c.header lane → core_batch c lane ≡ open_batch J lane
+core_batch_is c J lane stands own = ap (λ s. record { lane = lane; number = s.number }) (stands.slots lane own)
 
-pub discard_owed : (c : CoordOf) (J : List Record) (broken : Option ℕ) (lane cause t : ℕ) (r : Record) → StandsFor c J → IsOwn c.header lane → broken ≡ None → t ≡ suc (max c.last cause) → t ≤ last_late
+pub discard_owed : (c : CoordOf) (J : List Record) (broken : Option ℕ) (lane cause t : ℕ) (r : Record) → CoordStands c J → IsOwnLane c.header lane → broken ≡ None → t ≡ suc (max c.last cause) → t ≤ last_late
     → r ≡ Discard (suc (max c.last cause)) (core_batch c lane) → discard_due lane cause broken J ≡ Writes t r
 discard_owed c J broken lane cause t r stands own whole t-is le r-is =
     let s : next_stamp J cause ≡ t = sym (stamp_is c J cause stands) ∙ sym t-is in
-    let e : discard_record lane cause J ≡ r = ap (λ x. Discard x (open_batch J lane)) (sym (stamp_is c J cause stands)) ∙ ap (λ b. Discard (suc (max c.last cause)) b) (sym (batch_is c J lane stands own)) ∙ sym r-is in
+    let e : discard_record lane cause J ≡ r = ap (λ x. Discard x (open_batch J lane)) (sym (stamp_is c J cause stands)) ∙ ap (λ b. Discard (suc (max c.last cause)) b) (sym (core_batch_is c J lane stands own)) ∙ sym r-is in
     in_time broken last_late (next_stamp J cause) (Writes (next_stamp J cause) (discard_record lane cause J)) whole (rw s le)
     ∙ ap (λ x. Writes x (discard_record lane cause J)) s ∙ ap (λ x. Writes t x) e
 
-pub done_owed : (c : CoordOf) (J : List Record) (broken : Option ℕ) (lane cause t : ℕ) (r : Record) → StandsFor c J → IsOwn c.header lane → broken ≡ None → t ≡ suc (max c.last cause) → t ≤ last_late
+pub done_owed : (c : CoordOf) (J : List Record) (broken : Option ℕ) (lane cause t : ℕ) (r : Record) → CoordStands c J → IsOwnLane c.header lane → broken ≡ None → t ≡ suc (max c.last cause) → t ≤ last_late
     → r ≡ Done (suc (max c.last cause)) (core_batch c lane) → done_due lane cause broken J ≡ Writes t r
 done_owed c J broken lane cause t r stands own whole t-is le r-is =
     let s : next_stamp J cause ≡ t = sym (stamp_is c J cause stands) ∙ sym t-is in
-    let e : done_record lane cause J ≡ r = ap (λ x. Done x (open_batch J lane)) (sym (stamp_is c J cause stands)) ∙ ap (λ b. Done (suc (max c.last cause)) b) (sym (batch_is c J lane stands own)) ∙ sym r-is in
+    let e : done_record lane cause J ≡ r = ap (λ x. Done x (open_batch J lane)) (sym (stamp_is c J cause stands)) ∙ ap (λ b. Done (suc (max c.last cause)) b) (sym (core_batch_is c J lane stands own)) ∙ sym r-is in
     in_time broken last_late (next_stamp J cause) (Writes (next_stamp J cause) (done_record lane cause J)) whole (rw s le)
     ∙ ap (λ x. Writes x (done_record lane cause J)) s ∙ ap (λ x. Writes t x) e
 
@@ -72,22 +72,22 @@ named_batch h J lane node j busy = go (slot_facts h J lane node j)
     go (inl e) = absurd (busy (ap (λ s. s.phase) e))
     go (inr f) = f.0
 
-pub all_memory : {D : Type 0} {G : Ghosts D} (l : RecordLog D G) (n : ℕ) → HasRoom l (0 + n) largest → HasRoom l n largest
+pub all_memory : {D : Type 0} {G : Ghosts D} (l : RecordLog D G) (n : ℕ) → HasLogRoom l (0 + n) largest → HasLogRoom l n largest
 all_memory l n room = record { records = omega (arith, room.records); body = room.body; row = room.row }
 
-pub memory_for : {D : Type 0} {G : Ghosts D} (l : RecordLog D G) (n size : ℕ) → 1 ≤ n → size ≤ largest → HasRoom l (0 + n) largest → HasRoom l 1 size
+pub memory_for : {D : Type 0} {G : Ghosts D} (l : RecordLog D G) (n size : ℕ) → 1 ≤ n → size ≤ largest → HasLogRoom l (0 + n) largest → HasLogRoom l 1 size
 memory_for l n size some le room = record { records = omega (arith, room.records); body = omega (arith, room.body); row = omega (arith, room.row) }
 
 pub discard_ready : {D : Type 0} {G : Ghosts D} (l : RecordLog D G) (c : CoordOf) (flight : Option Record) (lane stamp : ℕ) (r : Record)
-    → IsWhole c → StandsOn l c → broken_of l.journal ≡ None → IsReady l c flight → IsOwn c.header lane → (slot (reverse l.records.items) lane).phase ≡ InCommit
-    → 1 ≤ stamp → stamp ≤ last_late → r ≡ Discard stamp (core_batch c lane) → IsNext c r → IsDue l c flight r
+    → IsCoordWhole c → StandsOn l c → broken_of l.journal ≡ None → IsCoordReady l c flight → IsOwnLane c.header lane → (slot (reverse l.records.items) lane).phase ≡ InCommit
+    → 1 ≤ stamp → stamp ≤ last_late → r ≡ Discard stamp (core_batch c lane) → CoordAdmits c r → IsDue l c flight r
 discard_ready {D} {G} l c flight lane stamp r whole on sound ready own phase some le r-is next =
     let J : List Record = reverse l.records.items in
     let P : Record → Type 0 = λ x. IsDue l c flight x in
-    let next' : IsNext c (Discard stamp (core_batch c lane)) = let Q : Record → Type 0 = λ x. IsNext c x in subst Q r-is next in
-    let at : (lane_at c lane).slot.phase ≡ InCommit = ap (λ s. s.phase) (on.stands.slots lane own) ∙ phase in
-    let kept : lane_kept (lane_at c lane) ≡ 68 = ap (λ x. room_in x 0 (length (lane_at c lane).masks)) at in
-    let ahead : ahead_in (lane_at c lane).slot.phase ≡ 2 = ap ahead_in at in
+    let next' : CoordAdmits c (Discard stamp (core_batch c lane)) = let Q : Record → Type 0 = λ x. CoordAdmits c x in subst Q r-is next in
+    let at : (coord_lane c lane).slot.phase ≡ InCommit = ap (λ s. s.phase) (on.stands.slots lane own) ∙ phase in
+    let kept : lane_kept (coord_lane c lane) ≡ 68 = ap (λ x. room_in x 0 (length (coord_lane c lane).masks)) at in
+    let ahead : ahead_in (coord_lane c lane).slot.phase ≡ 2 = ap ahead_in at in
     let node : c.header.node < c.header.shape.coordinators = whole.node in
     let batch : IsBatchOf l.header.shape (open_batch J lane) =
     named_batch l.header J lane (let Q : Header → Type 0 = λ h. h.node < h.shape.coordinators in subst Q on.header node) on.journal (λ e. (let w : InCommit ≡ Idle = sym phase ∙ e in cc)) in
@@ -99,7 +99,7 @@ discard_ready {D} {G} l c flight lane stamp r whole on sound ready own phase som
       next = next';
       grammar = (
         (some, le),
-        (let Q : Batch → Type 0 = λ b. IsBatchOf l.header.shape b in subst Q (sym (batch_is c J lane on.stands own)) batch),
+        (let Q : Batch → Type 0 = λ b. IsBatchOf l.header.shape b in subst Q (sym (core_batch_is c J lane on.stands own)) batch),
         (let Q : Header → Type 0 = λ h. h.node < h.shape.coordinators in subst Q on.header node),
       );
       size = memory_for l (ahead_of c.lanes) 34 (next_ahead c lane whole (omega arith)) (omega arith) ready.place.memory;
@@ -110,15 +110,15 @@ discard_ready {D} {G} l c flight lane stamp r whole on sound ready own phase som
     })
 
 pub done_ready : {D : Type 0} {G : Ghosts D} (l : RecordLog D G) (c : CoordOf) (flight : Option Record) (lane stamp : ℕ) (r : Record)
-    → IsWhole c → StandsOn l c → broken_of l.journal ≡ None → IsReady l c flight → IsOwn c.header lane → (slot (reverse l.records.items) lane).phase ≡ InDiscard
-    → 1 ≤ stamp → stamp ≤ last_late → r ≡ Done stamp (core_batch c lane) → IsNext c r → IsDue l c flight r
+    → IsCoordWhole c → StandsOn l c → broken_of l.journal ≡ None → IsCoordReady l c flight → IsOwnLane c.header lane → (slot (reverse l.records.items) lane).phase ≡ InDiscard
+    → 1 ≤ stamp → stamp ≤ last_late → r ≡ Done stamp (core_batch c lane) → CoordAdmits c r → IsDue l c flight r
 done_ready {D} {G} l c flight lane stamp r whole on sound ready own phase some le r-is next =
     let J : List Record = reverse l.records.items in
     let P : Record → Type 0 = λ x. IsDue l c flight x in
-    let next' : IsNext c (Done stamp (core_batch c lane)) = let Q : Record → Type 0 = λ x. IsNext c x in subst Q r-is next in
-    let at : (lane_at c lane).slot.phase ≡ InDiscard = ap (λ s. s.phase) (on.stands.slots lane own) ∙ phase in
-    let kept : lane_kept (lane_at c lane) ≡ 34 = ap (λ x. room_in x 0 (length (lane_at c lane).masks)) at in
-    let ahead : ahead_in (lane_at c lane).slot.phase ≡ 1 = ap ahead_in at in
+    let next' : CoordAdmits c (Done stamp (core_batch c lane)) = let Q : Record → Type 0 = λ x. CoordAdmits c x in subst Q r-is next in
+    let at : (coord_lane c lane).slot.phase ≡ InDiscard = ap (λ s. s.phase) (on.stands.slots lane own) ∙ phase in
+    let kept : lane_kept (coord_lane c lane) ≡ 34 = ap (λ x. room_in x 0 (length (coord_lane c lane).masks)) at in
+    let ahead : ahead_in (coord_lane c lane).slot.phase ≡ 1 = ap ahead_in at in
     let node : c.header.node < c.header.shape.coordinators = whole.node in
     let batch : IsBatchOf l.header.shape (open_batch J lane) =
     named_batch l.header J lane (let Q : Header → Type 0 = λ h. h.node < h.shape.coordinators in subst Q on.header node) on.journal (λ e. (let w : InDiscard ≡ Idle = sym phase ∙ e in cc)) in
@@ -130,7 +130,7 @@ done_ready {D} {G} l c flight lane stamp r whole on sound ready own phase some l
       next = next';
       grammar = (
         (some, le),
-        (let Q : Batch → Type 0 = λ b. IsBatchOf l.header.shape b in subst Q (sym (batch_is c J lane on.stands own)) batch),
+        (let Q : Batch → Type 0 = λ b. IsBatchOf l.header.shape b in subst Q (sym (core_batch_is c J lane on.stands own)) batch),
         (let Q : Header → Type 0 = λ h. h.node < h.shape.coordinators in subst Q on.header node),
       );
       size = memory_for l (ahead_of c.lanes) 34 (next_ahead c lane whole (omega arith)) (omega arith) ready.place.memory;
@@ -158,10 +158,10 @@ told_ok {A} {D} memory due old new opened flight left now a r is owed told =
     subst P is (meets_ok memory (due (broken_of old.journal) (reverse old.records.items)) a r (sight (shown old opened flight)) (sight (shown new opened left)) (reverse old.records.items) owed told)
 
 -- the lane is the lanes' own, and in the phase of the journal
-pub own_lane : {D : Type 0} {G : Ghosts D} (l : RecordLog D G) (c : CoordOf) (opened : ℕ) (flight : Option Record) (now : NodeOf D) (lane : ℕ) → shown l opened flight ≡ now → c.header ≡ l.header → IsOwn now.header lane → IsOwn c.header lane
+pub own_lane : {D : Type 0} {G : Ghosts D} (l : RecordLog D G) (c : CoordOf) (opened : ℕ) (flight : Option Record) (now : NodeOf D) (lane : ℕ) → shown l opened flight ≡ now → c.header ≡ l.header → IsOwnLane now.header lane → IsOwnLane c.header lane
 own_lane {D} l c opened flight now lane is header own =
-    let P : NodeOf D → Type 0 = λ x. IsOwn x.header lane in
-    let Q : Header → Type 0 = λ h. IsOwn h lane in
+    let P : NodeOf D → Type 0 = λ x. IsOwnLane x.header lane in
+    let Q : Header → Type 0 = λ h. IsOwnLane h lane in
     subst Q (sym header) (subst P (sym is) own)
 
 pub own_phase : {D : Type 0} {G : Ghosts D} (l : RecordLog D G) (opened : ℕ) (flight : Option Record) (now : NodeOf D) (lane : ℕ) (p : Phase) → shown l opened flight ≡ now → (slot now.journal lane).phase ≡ p

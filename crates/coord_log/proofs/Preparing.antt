@@ -17,16 +17,16 @@ use Rattle.cbdc_model.specs.Next.{next_stamp}
 use Rattle.cbdc_model.specs.Due.{Due, Answers, Writes, last_early, if_room, used_of, new_batch, prepare_due, prepare_record}
 use Rattle.cbdc_model.specs.Room.{size_of, compact_size, room_behind_prepare, kept_room, need_of}
 use Rattle.cbdc_model.specs.Sights.{Sight, Stays, MeetsFault, IsBrokenSince}
-use Rattle.record_log.specs.Logs.{HasRoom, KeepsRoom, IsUntouched}
+use Rattle.record_log.specs.Logs.{HasLogRoom, KeepsRoom, IsUntouched}
 use Rattle.record_log.specs.declared.log.RecordLog.{RecordLog}
 use Rattle.coord_core.specs.Hashes.{AreHashed}
-use Rattle.coord_core.specs.Lanes.{CoordOf, IsWhole, IsOwn, IsNext, IsSameButRoom, HasGrown, no_lane, lane_at, kept_of, ahead_of, next_batch}
-use Rattle.coord_core.specs.Stands.{StandsFor}
-use Rattle.coord_log.specs.Logs.{IsShort}
-use Rattle.coord_log.specs.Inside.{largest, IsReady, StandsOn, IsSound, IsDue, IsNoRoom}
+use Rattle.coord_core.specs.Lanes.{CoordOf, IsCoordWhole, IsOwnLane, CoordAdmits, IsSameButRoom, HasNoLessRoom, no_lane, coord_lane, kept_of, ahead_of, next_core_batch}
+use Rattle.coord_core.specs.Stands.{CoordStands}
+use Rattle.coord_log.specs.Logs.{HasShortLists}
+use Rattle.coord_log.specs.Inside.{largest, IsCoordReady, StandsOn, IsCoordSound, IsDue, IsNoRoom}
 use Rattle.coord_core.proofs.Rooms.{rooms_grow}
 use Rattle.coord_core.proofs.Same.{stands_same}
-use Rattle.coord_log.proofs.Places.{prepare_place, fewer}
+use Rattle.coord_log.proofs.Places.{prepare_place, room_for_fewer}
 use Rattle.coord_core.proofs.Kept.{kept_is}
 use Rattle.coord_log.proofs.Owed.{in_time}
 
@@ -40,7 +40,7 @@ stands_on old new b c records header same on = record {
 }
 
 pub sound_kept : {D : Type 0} {G : Ghosts D} (old new : RecordLog D G) (b c : CoordOf) (opened : ℕ) (flight : Option Record) → IsUntouched old new → new.records.items ≡ old.records.items → new.header ≡ old.header
-    → KeepsRoom old new → IsSameButRoom b c → HasGrown b c → IsSound old b opened flight → IsSound new c opened flight
+    → KeepsRoom old new → IsSameButRoom b c → HasNoLessRoom b c → IsCoordSound old b opened flight → IsCoordSound new c opened flight
 sound_kept {D} {G} old new b c opened flight untouched records header keeps same grown sound =
     let count : G.count (disk_of new.journal) ≡ G.count (disk_of old.journal) = ap G.count untouched.disk in
     let limit : G.limit (disk_of new.journal) ≡ G.limit (disk_of old.journal) = ap G.limit untouched.disk in
@@ -56,7 +56,7 @@ sound_kept {D} {G} old new b c opened flight untouched records header keeps same
         place = record {
           space = omega (arith, untouched.gate, ready.place.space, same.kept, limit);
           rooms = rooms_grow b c same grown ready.place.rooms;
-          memory = let P : ℕ → Type 0 = λ n. HasRoom new (0 + n) largest in subst P (sym same.ahead) (keeps (0 + ahead_of b.lanes) largest ready.place.memory);
+          memory = let P : ℕ → Type 0 = λ n. HasLogRoom new (0 + n) largest in subst P (sym same.ahead) (keeps (0 + ahead_of b.lanes) largest ready.place.memory);
         };
       });
       flying = rw (header, records) sound.flying;
@@ -76,11 +76,11 @@ room_refused due old new J used need limit (Refuses why) none owed stays = absur
 room_refused due old new J used need limit (ClockEnd stamp) none owed stays = absurd none
 room_refused due old new J used need limit DiskFault none owed stays = absurd none
 
-compact_le : (t : Compact) → IsShort t → compact_size t ≤ 16368
+compact_le : (t : Compact) → HasShortLists t → compact_size t ≤ 16368
 compact_le t short = omega (arith, short.0, short.1)
 
 -- a Prepare is small
-pub prepare_small : (stamp : ℕ) (b : Batch) (txs : List Compact) → All IsShort txs → length txs ≤ 1024 → size_of (Prepare stamp b txs) < 2 ^ 25
+pub prepare_small : (stamp : ℕ) (b : Batch) (txs : List Compact) → All HasShortLists txs → length txs ≤ 1024 → size_of (Prepare stamp b txs) < 2 ^ 25
 prepare_small stamp b txs short le = omega (arith, le, sum_by-le compact_size 16368 txs (λ k d lt. compact_le (get_or txs k d) (short k d lt)))
 
 -- and in the grammar
@@ -89,12 +89,12 @@ own_below h lane some node own =
     let at : h.node * h.shape.lanes + lane % h.shape.lanes ≡ lane = ap (λ x. x * h.shape.lanes + lane % h.shape.lanes) (sym own) ∙ div-add-mod' lane h.shape.lanes in
     omega (arith, at, mod-lt lane some, mul-le-mul_right h.shape.lanes node, suc-mul h.node h.shape.lanes)
 
-pub prepare_grammar : (h : Header) (c : CoordOf) (lane : ℕ) (txs : List Compact) → IsWhole c → c.header ≡ h → IsOwn c.header lane → c.last + 1 ≤ last_early → 1 ≤ length txs → length txs ≤ h.shape.batch
-    → All IsShort txs → All AreHashed txs → IsInGrammar h (Prepare (c.last + 1) (next_batch c lane) txs)
+pub prepare_grammar : (h : Header) (c : CoordOf) (lane : ℕ) (txs : List Compact) → IsCoordWhole c → c.header ≡ h → IsOwnLane c.header lane → c.last + 1 ≤ last_early → 1 ≤ length txs → length txs ≤ h.shape.batch
+    → All HasShortLists txs → All AreHashed txs → IsInGrammar h (Prepare (c.last + 1) (next_core_batch c lane) txs)
 prepare_grammar h c lane txs whole is own early some limit short hashed =
     let W : Header → Type 0 = λ x. (x.node < x.shape.coordinators) × (1 ≤ x.shape.lanes) × (lane / x.shape.lanes ≡ x.node) in
     let w : W h = subst W is (whole.node, whole.limits.some_lane, own) in
-    let number : (lane_at c lane).slot.number ≤ c.last = whole.numbers (lane % c.header.shape.lanes) no_lane (rw whole.lanes (mod-lt lane whole.limits.some_lane)) in (
+    let number : (coord_lane c lane).slot.number ≤ c.last = whole.numbers (lane % c.header.shape.lanes) no_lane (rw whole.lanes (mod-lt lane whole.limits.some_lane)) in (
       ((omega arith), early),
       ((own_below h lane w.1 w.0 w.2), (omega arith), (omega (arith, number, early))),
       w.0,
@@ -107,24 +107,24 @@ prepare_grammar h c lane txs whole is own early some limit short hashed =
     )
 
 pub prepare_ready : {D : Type 0} {G : Ghosts D} (old l : RecordLog D G) (b c : CoordOf) (flight : Option Record) (lane size : ℕ) (txs : List Compact) (r : Record)
-    → IsWhole c → IsSameButRoom b c → HasGrown b c → StandsOn old b → broken_of old.journal ≡ None → IsReady old b flight → IsUntouched old l → l.records.items ≡ old.records.items → l.header ≡ old.header
-    → IsOwn b.header lane → 1 ≤ length txs → length txs ≤ b.header.shape.batch → All IsShort txs → All AreHashed txs → b.last + 1 ≤ last_early
-    → r ≡ Prepare (b.last + 1) (next_batch b lane) txs → IsNext c r → size ≡ size_of r → HasRoom l (ahead_of c.lanes + 4) size → HasRoom l (ahead_of c.lanes + 4) largest
+    → IsCoordWhole c → IsSameButRoom b c → HasNoLessRoom b c → StandsOn old b → broken_of old.journal ≡ None → IsCoordReady old b flight → IsUntouched old l → l.records.items ≡ old.records.items → l.header ≡ old.header
+    → IsOwnLane b.header lane → 1 ≤ length txs → length txs ≤ b.header.shape.batch → All HasShortLists txs → All AreHashed txs → b.last + 1 ≤ last_early
+    → r ≡ Prepare (b.last + 1) (next_core_batch b lane) txs → CoordAdmits c r → size ≡ size_of r → HasLogRoom l (ahead_of c.lanes + 4) size → HasLogRoom l (ahead_of c.lanes + 4) largest
     → gate_of old.journal + 1 + (size + room_behind_prepare (length txs) + kept_of c.lanes) ≤ G.limit (disk_of old.journal) → IsDue l c flight r
 prepare_ready {D} {G} old l b c flight lane size txs r whole same grown on sound ready untouched records header own some limit short hashed early r-is next size-is room memory space =
     let on' : StandsOn l c = stands_on old l b c records header same on in
     let limits : G.limit (disk_of l.journal) ≡ G.limit (disk_of old.journal) = ap G.limit untouched.disk in
-    let batch : next_batch c lane ≡ next_batch b lane = ap (λ s. record { lane = lane; number = s.number + 1 }) (same.slots lane) in
-    let is : r ≡ Prepare (c.last + 1) (next_batch c lane) txs = r-is ∙ ap (λ x. Prepare (x + 1) (next_batch b lane) txs) (sym same.last) ∙ ap (λ x. Prepare (c.last + 1) x txs) (sym batch) in
+    let batch : next_core_batch c lane ≡ next_core_batch b lane = ap (λ s. record { lane = lane; number = s.number + 1 }) (same.slots lane) in
+    let is : r ≡ Prepare (c.last + 1) (next_core_batch c lane) txs = r-is ∙ ap (λ x. Prepare (x + 1) (next_core_batch b lane) txs) (sym same.last) ∙ ap (λ x. Prepare (c.last + 1) x txs) (sym batch) in
     let P : Record → Type 0 = λ x. IsDue l c flight x in
-    let next' : IsNext c (Prepare (c.last + 1) (next_batch c lane) txs) = let Q : Record → Type 0 = λ x. IsNext c x in subst Q is next in
-    let own' : IsOwn c.header lane = let Q : Header → Type 0 = λ h. IsOwn h lane in subst Q (sym same.header) own in
+    let next' : CoordAdmits c (Prepare (c.last + 1) (next_core_batch c lane) txs) = let Q : Record → Type 0 = λ x. CoordAdmits c x in subst Q is next in
+    let own' : IsOwnLane c.header lane = let Q : Header → Type 0 = λ h. IsOwnLane h lane in subst Q (sym same.header) own in
     let batch_le : length txs ≤ l.header.shape.batch = let Q : Header → Type 0 = λ h. length txs ≤ h.shape.batch in subst Q (on.header ∙ sym header) limit in
-    let s : size ≡ size_of (Prepare (c.last + 1) (next_batch c lane) txs) = size-is ∙ ap size_of is in
+    let s : size ≡ size_of (Prepare (c.last + 1) (next_core_batch c lane) txs) = size-is ∙ ap size_of is in
     let used : used_of (reverse l.records.items) ≡ used_of (reverse old.records.items) = ap (λ x. used_of (reverse x)) records in
     let there : IsJournal c.header (reverse l.records.items) = let Q : Header → Type 0 = λ h. IsJournal h (reverse l.records.items) in subst Q (sym on'.header) on'.journal in
     let kept : kept_of c.lanes ≡ kept_room l.header.shape (reverse l.records.items) = kept_is c (reverse l.records.items) whole on'.stands there ∙ ap (λ h. kept_room h.shape (reverse l.records.items)) on'.header in
-    let room' : HasRoom l 1 (size_of (Prepare (c.last + 1) (next_batch c lane) txs)) = let Q : ℕ → Type 0 = λ n. HasRoom l 1 n in subst Q s (fewer l (ahead_of c.lanes + 4) 1 size (omega arith) room) in
+    let room' : HasLogRoom l 1 (size_of (Prepare (c.last + 1) (next_core_batch c lane) txs)) = let Q : ℕ → Type 0 = λ n. HasLogRoom l 1 n in subst Q s (room_for_fewer l (ahead_of c.lanes + 4) 1 size (omega arith) room) in
     subst P (sym is) (record {
       on = on';
       whole = untouched.broken ∙ sound;
@@ -136,15 +136,15 @@ prepare_ready {D} {G} old l b c flight lane size txs r whole same grown on sound
       free = omega (arith, untouched.gate, limits, space);
       fits = omega (arith, untouched.gate, limits, space, s);
       needs = omega (arith, ready.used, used, limits, space, s, kept);
-      place = λ d takes. prepare_place l c d (c.last + 1) (next_batch c lane) txs whole next' takes (rooms_grow b c same grown ready.place.rooms) memory (omega (arith, untouched.gate, limits, space, s));
+      place = λ d takes. prepare_place l c d (c.last + 1) (next_core_batch c lane) txs whole next' takes (rooms_grow b c same grown ready.place.rooms) memory (omega (arith, untouched.gate, limits, space, s));
     })
 
 -- what the lanes say of the Prepare is what the journal says
-pub record_is : (c : CoordOf) (J : List Record) (lane : ℕ) (txs : List Compact) → StandsFor c J → IsOwn c.header lane → Prepare (c.last + 1) (next_batch c lane) txs ≡ prepare_record J lane txs
+pub record_is : (c : CoordOf) (J : List Record) (lane : ℕ) (txs : List Compact) → CoordStands c J → IsOwnLane c.header lane → Prepare (c.last + 1) (next_core_batch c lane) txs ≡ prepare_record J lane txs
 record_is c J lane txs stands own =
     let s : c.last + 1 ≡ next_stamp J 0 = omega (arith, stands.last) in
-    let n : (lane_at c lane).slot.number + 1 ≡ suc (slot J lane).number = omega (arith, ap (λ x. x.number) (stands.slots lane own)) in
-    ap (λ x. Prepare x (next_batch c lane) txs) s ∙ ap (λ x. Prepare (next_stamp J 0) (record { lane = lane; number = x }) txs) n
+    let n : (coord_lane c lane).slot.number + 1 ≡ suc (slot J lane).number = omega (arith, ap (λ x. x.number) (stands.slots lane own)) in
+    ap (λ x. Prepare x (next_core_batch c lane) txs) s ∙ ap (λ x. Prepare (next_stamp J 0) (record { lane = lane; number = x }) txs) n
 
 -- what is owed where the room is known
 pub prepare_by : (K : Shape) (J : List Record) (broken : Option ℕ) (capacity lane : ℕ) (txs : List Compact) → broken ≡ None → next_stamp J 0 ≤ last_early
@@ -152,14 +152,14 @@ pub prepare_by : (K : Shape) (J : List Record) (broken : Option ℕ) (capacity l
 prepare_by K J broken capacity lane txs whole early =
     in_time broken last_early (next_stamp J 0) (if_room (used_of J) (need_of K J (prepare_record J lane txs)) capacity (Writes (new_batch J lane, next_stamp J 0) (prepare_record J lane txs))) whole early
 
-pub has_room : {A : Type 0} (used need capacity : ℕ) (due : Due A) → used + need ≤ capacity → if_room used need capacity due ≡ due
-has_room used need capacity due le = let f = le-ltb capacity (used + need) le in rw f refl
+pub room_is_there : {A : Type 0} (used need capacity : ℕ) (due : Due A) → used + need ≤ capacity → if_room used need capacity due ≡ due
+room_is_there used need capacity due le = let f = le-ltb capacity (used + need) le in rw f refl
 
 pub is_full : {A : Type 0} (used need capacity : ℕ) (due : Due A) → capacity < used + need → if_room used need capacity due ≡ Answers (Err (Full used need capacity))
 is_full used need capacity due lt = let t = lt-ltb capacity (used + need) lt in rw t refl
 
 -- what the lanes add up to is what the journal needs
-pub need_is : (c : CoordOf) (K : Shape) (J : List Record) (lane size : ℕ) (txs : List Compact) (r : Record) → IsWhole c → StandsFor c J → IsJournal c.header J → K ≡ c.header.shape → r ≡ prepare_record J lane txs → size ≡ size_of r
+pub need_is : (c : CoordOf) (K : Shape) (J : List Record) (lane size : ℕ) (txs : List Compact) (r : Record) → IsCoordWhole c → CoordStands c J → IsJournal c.header J → K ≡ c.header.shape → r ≡ prepare_record J lane txs → size ≡ size_of r
     → size + room_behind_prepare (length txs) + kept_of c.lanes ≡ need_of K J (prepare_record J lane txs)
 need_is c K J lane size txs r whole stands j shape r-is s =
     let a : size ≡ size_of (prepare_record J lane txs) = s ∙ ap size_of r-is in
@@ -167,24 +167,24 @@ need_is c K J lane size txs r whole stands j shape r-is s =
     omega (arith, a, k)
 
 -- a size that fits its type
-pub exact_size : (b : CoordOf) (lane size batch : ℕ) (txs : List Compact) (r : Record) → r ≡ Prepare (b.last + 1) (next_batch b lane) txs → All IsShort txs → length txs ≤ batch → batch ≤ 1024
+pub exact_size : (b : CoordOf) (lane size batch : ℕ) (txs : List Compact) (r : Record) → r ≡ Prepare (b.last + 1) (next_core_batch b lane) txs → All HasShortLists txs → length txs ≤ batch → batch ≤ 1024
     → size ≡ min (size_of r) (2 ^ 64 - 1) → size ≡ size_of r
 exact_size b lane size batch txs r is short count limit size-is =
-    let small = prepare_small (b.last + 1) (next_batch b lane) txs short (omega arith) in
-    let e : size_of r ≡ size_of (Prepare (b.last + 1) (next_batch b lane) txs) = ap size_of is in
+    let small = prepare_small (b.last + 1) (next_core_batch b lane) txs short (omega arith) in
+    let e : size_of r ≡ size_of (Prepare (b.last + 1) (next_core_batch b lane) txs) = ap size_of is in
     omega arith
 
 -- the lanes behind the reservation, and the journal
 pub record Prepares (b c : CoordOf) (K : Shape) (J : List Record) (broken : Option ℕ) (lane size used t : ℕ) (batch : Batch) (txs told : List Compact) (r : Record) : Type 0 where
-  pub whole : IsWhole c
+  pub whole : IsCoordWhole c
   pub same : IsSameButRoom b c
-  pub stands : StandsFor b J
+  pub stands : CoordStands b J
   pub journal : IsJournal b.header J
   pub shape : K ≡ b.header.shape
-  pub own : IsOwn b.header lane
+  pub own : IsOwnLane b.header lane
   pub sound : broken ≡ None
   pub early : t ≤ last_early
-  pub record_is : r ≡ Prepare (b.last + 1) (next_batch b lane) txs
+  pub record_is : r ≡ Prepare (b.last + 1) (next_core_batch b lane) txs
   pub answer : r ≡ Prepare t batch told
   pub size_is : size ≡ size_of r
   pub used_is : used ≡ used_of J
@@ -209,7 +209,7 @@ before_room b c K J broken capacity lane size used t batch txs told r p =
 pub prepare_owed : (b c : CoordOf) (K : Shape) (J : List Record) (broken : Option ℕ) (capacity lane size used t : ℕ) (batch : Batch) (txs told : List Compact) (r : Record) → Prepares b c K J broken lane size used t batch txs told r
     → used + (size + room_behind_prepare (length txs) + kept_of c.lanes) ≤ capacity → prepare_due K capacity lane txs broken J ≡ Writes (batch, t) r
 prepare_owed b c K J broken capacity lane size used t batch txs told r p le =
-    before_room b c K J broken capacity lane size used t batch txs told r p ∙ has_room used (size + room_behind_prepare (length txs) + kept_of c.lanes) capacity (Writes (batch, t) r) le
+    before_room b c K J broken capacity lane size used t batch txs told r p ∙ room_is_there used (size + room_behind_prepare (length txs) + kept_of c.lanes) capacity (Writes (batch, t) r) le
 
 pub prepare_full : (b c : CoordOf) (K : Shape) (J : List Record) (broken : Option ℕ) (capacity lane size used t : ℕ) (batch : Batch) (txs told : List Compact) (r : Record) → Prepares b c K J broken lane size used t batch txs told r
     → capacity < used + (size + room_behind_prepare (length txs) + kept_of c.lanes)

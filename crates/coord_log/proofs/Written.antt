@@ -12,20 +12,20 @@ use Rattle.cbdc_model.specs.Room.{size_of, need_of}
 use Rattle.cbdc_model.specs.Sights.{HasRisen, IsBrokenSince}
 use Rattle.record_log.specs.Bodies.{body_of}
 use Rattle.record_log.proofs.LogSizes.{size_is}
-use Rattle.record_log.specs.Logs.{HasRoom}
+use Rattle.record_log.specs.Logs.{HasLogRoom}
 use Rattle.record_log.specs.declared.log.RecordLog.{RecordLog}
 use Rattle.coord_core.specs.Lanes.{CoordOf, ahead_of}
-use Rattle.coord_core.specs.Stands.{StandsFor, HasTaken}
+use Rattle.coord_core.specs.Stands.{CoordStands, CoordHasTaken}
 use Rattle.coord_core.proofs.Journals.{follows_next}
 use Rattle.coord_core.proofs.Same.{takes_header}
 use Rattle.node_journal.specs.Writing.{HasKept, HasBroken}
-use Rattle.node_journal.proofs.Journals.{goes_on}
+use Rattle.node_journal.proofs.Journals.{journal_goes_on}
 use Rattle.node_journal.proofs.Behind.{pushed}
-use Rattle.coord_log.specs.Inside.{largest, HasPlace, IsSound, IsDue}
+use Rattle.coord_log.specs.Inside.{largest, HasPlace, IsCoordSound, IsDue}
 
 module _ {D : Type 0} {G : Ghosts D} where
   -- memory and room for the record itself
-  pub own_memory : (l : RecordLog D G) (c : CoordOf) (flight : Option Record) (r : Record) → IsDue l c flight r → HasRoom l 1 (length (body_of r))
+  pub own_memory : (l : RecordLog D G) (c : CoordOf) (flight : Option Record) (r : Record) → IsDue l c flight r → HasLogRoom l 1 (length (body_of r))
   own_memory l c flight r due =
       let size = size_is l.header r due.on.limits due.grammar in
       record { records = due.size.records; body = omega (arith, due.size.body, size); row = omega (arith, due.size.row, size) }
@@ -41,7 +41,7 @@ module _ {D : Type 0} {G : Ghosts D} where
 
   -- the record was written
   pub sound_after : (old new : RecordLog D G) (c d : CoordOf) (flight landed : Option Record) (r : Record) (opened : ℕ)
-      → IsDue old c flight r → opened ≤ G.count (disk_of old.journal) → HasKept old new r → landed ≡ None → HasTaken c d r → IsSound new d opened landed
+      → IsDue old c flight r → opened ≤ G.count (disk_of old.journal) → HasKept old new r → landed ≡ None → CoordHasTaken c d r → IsCoordSound new d opened landed
   sound_after old new c d flight landed r opened due since kept none taken =
       let P : List Record = reverse old.records.items in
       let J : reverse new.records.items ≡ r ∷ P = pushed old new r kept in
@@ -49,14 +49,14 @@ module _ {D : Type 0} {G : Ghosts D} where
       let place : HasPlace old d (size_of r) 1 = due.place d taken.taken in
       let sums : sum_by size_of (r ∷ P) ≡ size_of r + sum_by size_of P = sum_by-cons size_of r P in
       let u : used_of (reverse new.records.items) ≡ gate_of new.journal + 1 = ap used_of J ∙ omega (arith, sums, due.used, kept.gate, size) in
-      let memory : HasRoom new (ahead_of d.lanes) largest =
-      kept.room (ahead_of d.lanes) largest (let M : ℕ → Type 0 = λ n. HasRoom old n largest in subst M (omega arith) place.memory) in
+      let memory : HasLogRoom new (ahead_of d.lanes) largest =
+      kept.room (ahead_of d.lanes) largest (let M : ℕ → Type 0 = λ n. HasLogRoom old n largest in subst M (omega arith) place.memory) in
       record {
         on = record {
           header = takes_header c d r taken.taken ∙ due.on.header ∙ sym kept.header;
           limits = let L : Header → Type 0 = λ h. IsWithinLimits h.shape in subst L (sym kept.header) due.on.limits;
-          stands = let S : List Record → Type 0 = λ x. StandsFor d x in subst S (sym J) (taken.stands P due.on.stands);
-          journal = let I : Header → List Record → Type 0 = λ h x. IsJournal h x in rw (kept.header, J) (goes_on old.header P r due.on.journal (due_after old c flight r due));
+          stands = let S : List Record → Type 0 = λ x. CoordStands d x in subst S (sym J) (taken.stands P due.on.stands);
+          journal = let I : Header → List Record → Type 0 = λ h x. IsJournal h x in rw (kept.header, J) (journal_goes_on old.header P r due.on.journal (due_after old c flight r due));
         };
         since_opened = omega (arith, since, kept.later);
         broken = let B : Option ℕ → Type 0 = λ b. IsBrokenSince opened (G.count (disk_of new.journal)) b in subst B (sym kept.broken) tt;
@@ -66,7 +66,7 @@ module _ {D : Type 0} {G : Ghosts D} where
           place = record {
             space = omega (arith, place.space, kept.gate, kept.limit, size);
             rooms = place.rooms;
-            memory = let M : ℕ → Type 0 = λ n. HasRoom new n largest in subst M (omega arith) memory;
+            memory = let M : ℕ → Type 0 = λ n. HasLogRoom new n largest in subst M (omega arith) memory;
           };
         };
         flying = let F : Option Record → Type 0 = λ f. IfSome f (After new.header (reverse new.records.items)) in subst F (sym none) tt;
@@ -77,16 +77,16 @@ module _ {D : Type 0} {G : Ghosts D} where
 
   -- the disk failed at it
   pub sound_broken : (old new : RecordLog D G) (c d : CoordOf) (flight landed : Option Record) (r : Record) (opened : ℕ)
-      → IsDue old c flight r → opened ≤ G.count (disk_of old.journal) → HasBroken old new → landed ≡ Some r → d ≡ c → IsSound new d opened landed
+      → IsDue old c flight r → opened ≤ G.count (disk_of old.journal) → HasBroken old new → landed ≡ Some r → d ≡ c → IsCoordSound new d opened landed
   sound_broken old new c d flight landed r opened due since failed is same =
       let risen : HasRisen opened (G.count (disk_of new.journal)) = omega (arith, since, failed.rose, failed.later) in
       let B : Option ℕ → Type 0 = λ b. IsBrokenSince opened (G.count (disk_of new.journal)) b in
-      let S : CoordOf → Option Record → Type 0 = λ x f. IsSound new x opened f in
-      let sound : IsSound new c opened (Some r) = record {
+      let S : CoordOf → Option Record → Type 0 = λ x f. IsCoordSound new x opened f in
+      let sound : IsCoordSound new c opened (Some r) = record {
         on = record {
           header = due.on.header ∙ sym failed.header;
           limits = let L : Header → Type 0 = λ h. IsWithinLimits h.shape in subst L (sym failed.header) due.on.limits;
-          stands = let P : List Record → Type 0 = λ x. StandsFor c (reverse x) in subst P (sym failed.records) due.on.stands;
+          stands = let P : List Record → Type 0 = λ x. CoordStands c (reverse x) in subst P (sym failed.records) due.on.stands;
           journal = rw (failed.header, failed.records) due.on.journal;
         };
         since_opened = omega (arith, since, failed.later);

@@ -7,8 +7,8 @@ use Rattle.cbdc_model.specs.Deciding.{reply_cause}
 use Rattle.cbdc_model.specs.Due.{Due, Writes, unless_broken, if_early, last_late}
 
 -- the lists of a transaction are within the limits
-abbrev pub IsShort : Compact → Type 0
-IsShort t = (length t.inputs ≤ 255) × (length t.outputs ≤ 255)
+abbrev pub HasShortLists : Compact → Type 0
+HasShortLists t = (length t.inputs ≤ 255) × (length t.outputs ≤ 255)
 
 -- what is owed to replies that make this Commit: it is written, if its stamp is within its bound
 abbrev pub commit_due : Shape → List ShardReplies → Record → Option ℕ → List Record → Due ℕ

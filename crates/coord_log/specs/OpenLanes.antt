@@ -8,15 +8,15 @@ use Rattle.cbdc_model.specs.Slots.{Phase, slot, slot_stamp, InPrepare, InCommit,
 use Rattle.cbdc_model.specs.Due.{open_batch}
 
 -- what is written down last of a batch, where it is not done
-abbrev pub open_phase : Phase → Option OpenPhase
-open_phase InPrepare = Some Prepared
-open_phase InCommit = Some Committed
-open_phase InDiscard = Some Discarded
-open_phase other = None
+abbrev pub open_phase_of : Phase → Option OpenPhase
+open_phase_of InPrepare = Some Prepared
+open_phase_of InCommit = Some Committed
+open_phase_of InDiscard = Some Discarded
+open_phase_of other = None
 
 -- the batch in this phase: the stamp of its last record, its transactions, and its outcomes, none before its Commit
-abbrev pub batch_in : List Record → ℕ → OpenPhase → OpenLane
-batch_in J lane p = record {
+abbrev pub open_lane_in : List Record → ℕ → OpenPhase → OpenLane
+open_lane_in J lane p = record {
   batch = open_batch J lane;
   phase = p;
   stamp = slot_stamp J lane;
@@ -26,4 +26,4 @@ batch_in J lane p = record {
 
 -- a lane's open batch as its journal tells it; none where the lane is idle
 abbrev pub open_lane : List Record → ℕ → Option OpenLane
-open_lane J lane = option_map (batch_in J lane) (open_phase (slot J lane).phase)
+open_lane J lane = option_map (open_lane_in J lane) (open_phase_of (slot J lane).phase)

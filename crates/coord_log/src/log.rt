@@ -10,9 +10,9 @@ ghost use Rattle.cbdc_model.specs.Due.{used_of, open_batch, prepare_due, decide_
 ghost use Rattle.cbdc_model.specs.Sights.{Meets, MeetsFault, IsSameNode, IsBrokenSince};
 ghost use Rattle.coord_core.specs.Phases.{slot_of};
 ghost use Rattle.coord_core.specs.Hashes.{AllNameBatches};
-ghost use Rattle.coord_core.specs.Decided.{RisesBelow, AllEarlier, AreRepliesTo};
-ghost use Rattle.coord_core.specs.Lanes.{IsOwn};
-ghost use Rattle.coord_log.specs.Logs.{IsShort, commit_due};
+ghost use Rattle.coord_core.specs.Decided.{ShardsRise, StampsBelow, AreRepliesTo};
+ghost use Rattle.coord_core.specs.Lanes.{IsOwnLane};
+ghost use Rattle.coord_log.specs.Logs.{HasShortLists, commit_due};
 ghost use Rattle.node_journal.specs.Nodes.{sight, HoldsJournal, LeavesBetween, broken_behind};
 ghost use Rattle.coord_log.specs.OpenLanes.{open_lane};
 
@@ -46,18 +46,18 @@ pub struct CoordLog<D: Disk> {
 impl<D: Disk> Model for CoordLog<D> {
     ghost use Rattle.node_journal.specs.Nodes.{NodeOf};
     ghost use Rattle.node_journal.specs.Shown.{shown};
-    ghost use Rattle.coord_log.specs.Inside.{IsSound};
+    ghost use Rattle.coord_log.specs.Inside.{IsCoordSound};
 
     ghost Value = { NodeOf D };
 
     ghost view = { λ l. shown l.log l.opened l.flight };
 
-    ghost invariant = { λ l. IsSound l.log l.core l.opened l.flight };
+    ghost invariant = { λ l. IsCoordSound l.log l.core l.opened l.flight };
 }
 
 impl<D: Disk> CoordLog<D> {
     ghost use Rattle.node_journal.specs.Shown.{shown};
-    ghost use Rattle.coord_log.specs.Inside.{IsSound, IsDue};
+    ghost use Rattle.coord_log.specs.Inside.{IsCoordSound, IsDue};
 
     /// The header of its journal. Takes no memory.
     pub fn header(&self) -> &Header
@@ -129,11 +129,11 @@ impl<D: Disk> CoordLog<D> {
         lane: LaneId,
         txs: &[CompactTx],
     ) -> Result<(BatchId, Stamp), NodeFault>
-        requires own { IsOwn self.old.header lane }
+        requires own { IsOwnLane self.old.header lane }
         requires idle { (slot self.old.journal lane).phase ≡ Idle }
         requires some { 1 ≤ length txs.now }
         requires limit { length txs.now ≤ self.old.header.shape.batch }
-        requires short { All IsShort txs.now }
+        requires short { All HasShortLists txs.now }
 
         // It does what the journal says, or wants memory.
         ensures meets { Meets true (prepare_due self.old.header.shape self.old.capacity lane txs.now self.old.broken self.old.journal) (sight self.old) (sight self.new) self.old.journal result }
@@ -182,10 +182,10 @@ impl<D: Disk> CoordLog<D> {
         replies: &Replies,
         out: &mut Vec<Outcome>,
     ) -> Result<Stamp, NodeFault>
-        requires own { IsOwn self.old.header lane }
+        requires own { IsOwnLane self.old.header lane }
         requires prepared { (slot self.old.journal lane).phase ≡ InPrepare }
-        requires rising { RisesBelow 0 self.old.header.shape.shards replies.now }
-        requires earlier { AllEarlier (2 ^ 63) replies.now }
+        requires rising { ShardsRise 0 self.old.header.shape.shards replies.now }
+        requires earlier { StampsBelow (2 ^ 63) replies.now }
         requires named { AllNameBatches self.old.header.shape replies.now }
         requires room { length (txs_of self.old.journal (open_batch self.old.journal lane)) ≤ vec_capacity out.old }
 
@@ -233,7 +233,7 @@ impl<D: Disk> CoordLog<D> {
     ///
     /// Out of memory: never.
     pub fn discard(&mut self, lane: LaneId, cause: Stamp) -> Result<Stamp, NodeFault>
-        requires own { IsOwn self.old.header lane }
+        requires own { IsOwnLane self.old.header lane }
         requires committed { (slot self.old.journal lane).phase ≡ InCommit }
         requires cause { cause < 2 ^ 63 }
         ensures meets { Meets false (discard_due lane cause self.old.broken self.old.journal) (sight self.old) (sight self.new) self.old.journal result }
@@ -267,7 +267,7 @@ impl<D: Disk> CoordLog<D> {
     ///
     /// Out of memory: never.
     pub fn done(&mut self, lane: LaneId, cause: Stamp) -> Result<Stamp, NodeFault>
-        requires own { IsOwn self.old.header lane }
+        requires own { IsOwnLane self.old.header lane }
         requires discarded { (slot self.old.journal lane).phase ≡ InDiscard }
         requires cause { cause < 2 ^ 63 }
         ensures meets { Meets false (done_due lane cause self.old.broken self.old.journal) (sight self.old) (sight self.new) self.old.journal result }
@@ -321,7 +321,7 @@ impl<D: Disk> CoordLog<D> {
 
     // A coordinator that was opened just now.
     pub(crate) fn of_parts(alloc: Global, log: RecordLog<D>, core: CoordCore) -> CoordLog<D>
-        requires { IsSound log core (D.count (disk_of log.journal)) None }
+        requires { IsCoordSound log core (D.count (disk_of log.journal)) None }
         ensures { result ≡ shown log (D.count (disk_of log.journal)) None }
     {
         let opened = log.faults();

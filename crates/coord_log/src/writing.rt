@@ -4,11 +4,11 @@ ghost use Rattle.gate_journal.specs.Shown.{disk_of, gate_of, broken_of};
 ghost use Rattle.cbdc_model.specs.After.{IsJournal};
 ghost use Rattle.cbdc_model.specs.Room.{room_behind_prepare};
 ghost use Rattle.cbdc_model.specs.Sights.{Appends, Fails};
-ghost use Rattle.coord_core.specs.Lanes.{IsWhole, kept_of, ahead_of};
-ghost use Rattle.record_log.specs.Logs.{HasRoom, KeepsRoom, IsUntouched};
+ghost use Rattle.coord_core.specs.Lanes.{IsCoordWhole, kept_of, ahead_of};
+ghost use Rattle.record_log.specs.Logs.{HasLogRoom, KeepsRoom, IsUntouched};
 ghost use Rattle.node_journal.specs.Nodes.{sight, HoldsJournal, LeavesBetween};
 ghost use Rattle.node_journal.specs.Shown.{shown};
-ghost use Rattle.coord_log.specs.Inside.{largest, IsSound, IsDue, IsNoRoom};
+ghost use Rattle.coord_log.specs.Inside.{largest, IsCoordSound, IsDue, IsNoRoom};
 
 use cbdc_types::{NodeFault, Record};
 use coord_core::CoordCore;
@@ -36,7 +36,7 @@ pub(crate) fn write<D: Disk>(
     ensures told { (opened : ℕ) → MatchResult result
         (λ _. Appends (sight (shown log.old opened flight.old)) (sight (shown log.new opened flight.new)) (reverse log.old.records.items) next)
         (λ e. (e ≡ NodeFault.DiskFault) × Fails (sight (shown log.old opened flight.old)) (sight (shown log.new opened flight.new)) (reverse log.old.records.items) next) }
-    ensures sound { (opened : ℕ) → opened ≤ D.count (disk_of log.old.journal) → IsSound log.new core.new opened flight.new }
+    ensures sound { (opened : ℕ) → opened ≤ D.count (disk_of log.old.journal) → IsCoordSound log.new core.new opened flight.new }
     ensures broken { MatchResult result (λ _. broken_of log.new.journal ≡ None) (λ _. broken_of log.new.journal ≡ Option.Some (D.count (disk_of log.new.journal))) }
     ensures holds { (opened : ℕ) → HoldsJournal D.Disk (shown log.old opened flight.old) → HoldsJournal D.Disk (shown log.new opened flight.new) }
     ensures leaves { (opened : ℕ) → HoldsJournal D.Disk (shown log.old opened flight.old)
@@ -59,12 +59,12 @@ pub(crate) fn make_room<D: Disk>(
     requires size { size < 2 ^ 40 }
     requires count { count ≤ 1024 }
     requires used { gate_of log.old.journal + 1 ≤ D.limit (disk_of log.old.journal) }
-    ensures whole { IsWhole core.now }
+    ensures whole { IsCoordWhole core.now }
     ensures header { log.new.header ≡ log.old.header }
     ensures records { log.new.records.items ≡ log.old.records.items }
     ensures untouched { IsUntouched log.old log.new }
     ensures keeps { KeepsRoom log.old log.new }
-    ensures room { OnOk result (HasRoom log.new (ahead_of core.now.lanes + 4) size × HasRoom log.new (ahead_of core.now.lanes + 4) largest) }
+    ensures room { OnOk result (HasLogRoom log.new (ahead_of core.now.lanes + 4) size × HasLogRoom log.new (ahead_of core.now.lanes + 4) largest) }
     ensures space { OnOk result (gate_of log.old.journal + 1 + (size + room_behind_prepare count + kept_of core.now.lanes) ≤ D.limit (disk_of log.old.journal)) }
     ensures refusal { IfErr result (λ e. IsNoRoom (gate_of log.old.journal + 1) (size + room_behind_prepare count + kept_of core.now.lanes) (D.limit (disk_of log.old.journal)) e) }
 {

@@ -8,7 +8,7 @@ use Rattle.cbdc_model.specs.Slots.{Slot, slot, slot_stamp}
 use Rattle.cbdc_model.specs.Ranges.{home_of}
 use Rattle.cbdc_model.specs.Grammar.{HasSize}
 use Rattle.node_journal.specs.Nodes.{NodeOf, sight}
-use Rattle.coord_log.specs.OpenLanes.{open_lane, open_phase}
+use Rattle.coord_log.specs.OpenLanes.{open_lane, open_phase_of}
 use Rattle.node_ports.specs.Nodes.{sight_at}
 use Rattle.lane_laws.specs.Batches.{own}
 use Rattle.lane_laws.proofs.Own.{slot_own, stamp_own}
@@ -25,7 +25,7 @@ use Rattle.file_runs.proofs.Turns.{told_there, none_open}
 -- ---- a lane's own records alone tell its open batch
 
 told_by : ℕ → Slot → ℕ → List Compact → List Outcome → Option OpenLane
-told_by lane s stamp txs outcomes = option_map (λ p. record { batch = record { lane = lane; number = s.number }; phase = p; stamp = stamp; txs = txs; outcomes = outcomes }) (open_phase s.phase)
+told_by lane s stamp txs outcomes = option_map (λ p. record { batch = record { lane = lane; number = s.number }; phase = p; stamp = stamp; txs = txs; outcomes = outcomes }) (open_phase_of s.phase)
 
 same_open : (lane : ℕ) (L M : List Record) → own lane M ≡ own lane L → open_lane M lane ≡ open_lane L lane
 unfolding told_by

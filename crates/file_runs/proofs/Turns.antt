@@ -10,7 +10,7 @@ use Rattle.std.specs.Prelude.{option_map}
 use Rattle.outside.specs.declared.disk.Disk.{Ghosts}
 use Rattle.cbdc_types.specs.declared.batch.Phase.{Phase as OpenPhase}
 use Rattle.cbdc_model.specs.Due.{open_batch}
-use Rattle.coord_log.specs.OpenLanes.{open_lane, open_phase, batch_in}
+use Rattle.coord_log.specs.OpenLanes.{open_lane, open_phase_of, open_lane_in}
 use Rattle.node_ports.specs.Nodes.{sight_at}
 use Rattle.lane_laws.specs.Resuming.{IsTakenUp}
 use Rattle.lane_driver.specs.declared.fault.LaneFault.{LaneFault}
@@ -43,9 +43,9 @@ read_at [] n x lt e = absurd (let z : n < 0 = lt in omega (arith, z))
 read_at (l ∷ logs) zero x lt e = ap sight (sym e)
 read_at (l ∷ logs) (suc n) x lt e = read_at logs n x (omega (arith, lt)) e
 
-batch_of : (J : List Record) (lane : ℕ) (phase : Option OpenPhase) (o : OpenLane) → option_map (batch_in J lane) phase ≡ Some o → o.batch ≡ open_batch J lane
+batch_of : (J : List Record) (lane : ℕ) (phase : Option OpenPhase) (o : OpenLane) → option_map (open_lane_in J lane) phase ≡ Some o → o.batch ≡ open_batch J lane
 batch_of J lane None o told = absurd (let z : None ≡ Some o = told in cc)
-batch_of J lane (Some p) o told = let same : o ≡ batch_in J lane p = cc in ap (λ l. l.batch) same
+batch_of J lane (Some p) o told = let same : o ≡ open_lane_in J lane p = cc in ap (λ l. l.batch) same
 
 module _ {D : Type 0} (device : Ghosts D) (h : Header) (lane : ℕ) (logs shards : List (NodeOf D))
     (ledger : IsLedger h logs shards) (lt : IsLaneOf h.shape lane) where
@@ -93,7 +93,7 @@ module _ {D : Type 0} (device : Ghosts D) (h : Header) (lane : ℕ) (logs shards
 
   -- a batch that was resumed is the one that is open there
   is_opened : (o : OpenLane) → open_lane (L (home_of K lane)).seen lane ≡ Some o → (r : ResumedBatch) → IsBatchResumed o r → r.batch ≡ open_batch (I (home_of K lane)) lane
-  is_opened o told r resumed = resumed.batch ∙ batch_of (L (home_of K lane)).seen lane (open_phase (slot (L (home_of K lane)).seen lane).phase) o told ∙ ap (λ J. open_batch J lane) (sym at_log)
+  is_opened o told r resumed = resumed.batch ∙ batch_of (L (home_of K lane)).seen lane (open_phase_of (slot (L (home_of K lane)).seen lane).phase) o told ∙ ap (λ J. open_batch J lane) (sym at_log)
 
   module _ (at : ℕ) (x : NodeOf D) (at_is : at ≡ home_of K lane) (is : x ≡ get_or logs at x) where
     here : L (home_of K lane) ≡ sight x

@@ -3,8 +3,8 @@ use Rattle.std.specs.Prelude.{ℕ, ◌+◌, ◌≤◌, List, length, take, drop}
 use Rattle.gate_journal.specs.declared.bodies.Span.{Span}
 
 -- the bytes of a span
-abbrev pub body_of : List ℕ → Span → List ℕ
-body_of bytes span = take span.len (drop span.at bytes)
+abbrev pub span_body : List ℕ → Span → List ℕ
+span_body bytes span = take span.len (drop span.at bytes)
 
-abbrev pub IsWithin : List ℕ → Span → Type 0
-IsWithin bytes span = span.at + span.len ≤ length bytes
+abbrev pub IsSpanWithin : List ℕ → Span → Type 0
+IsSpanWithin bytes span = span.at + span.len ≤ length bytes

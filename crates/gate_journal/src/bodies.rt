@@ -1,6 +1,6 @@
 // The bodies of a journal, where they lie in its bytes.
 ghost use Rattle.std.specs.Prelude.{◌≡◌, ◌↔◌, ◌+◌, ◌≤◌, ◌<◌, [], length, map, All, Some, slice_get, IsTrue};
-ghost use Rattle.gate_journal.specs.Spans.{body_of, IsWithin};
+ghost use Rattle.gate_journal.specs.Spans.{span_body, IsSpanWithin};
 
 use std::marker::Model;
 
@@ -21,19 +21,19 @@ pub struct Bodies {
 
 impl Model for Bodies {
     ghost use Rattle.std.specs.Prelude.{List, ℕ, map, All};
-    ghost use Rattle.gate_journal.specs.Spans.{body_of, IsWithin};
+    ghost use Rattle.gate_journal.specs.Spans.{span_body, IsSpanWithin};
 
     ghost Value = { List (List ℕ) };
 
-    ghost view = { λ b. map (body_of b.bytes.items) b.spans.items };
+    ghost view = { λ b. map (span_body b.bytes.items) b.spans.items };
 
-    ghost invariant = { λ b. All (IsWithin b.bytes.items) b.spans.items };
+    ghost invariant = { λ b. All (IsSpanWithin b.bytes.items) b.spans.items };
 }
 
 // The bytes of a span.
 fn bytes_of(bytes: &[u8], span: Span) -> &[u8]
-    requires { IsWithin bytes.now span }
-    ensures { result.now ≡ body_of bytes.now span }
+    requires { IsSpanWithin bytes.now span }
+    ensures { result.now ≡ span_body bytes.now span }
 {
     bytes.split_at(span.at).1.split_at(span.len).0
 }
@@ -41,8 +41,8 @@ fn bytes_of(bytes: &[u8], span: Span) -> &[u8]
 impl Bodies {
     /// The bodies that lie at these places.
     pub(crate) fn of(bytes: Vec<u8>, spans: Vec<Span>) -> Bodies
-        requires { All (IsWithin bytes.items) spans.items }
-        ensures { result ≡ map (body_of bytes.items) spans.items }
+        requires { All (IsSpanWithin bytes.items) spans.items }
+        ensures { result ≡ map (span_body bytes.items) spans.items }
     {
         Bodies { bytes, spans }
     }

@@ -18,7 +18,7 @@ use Rattle.cbdc_model.specs.World.{KeptJournals, AreIdle}
 use Rattle.mem_devices.specs.declared.plain_disk.PlainDisk.{PlainDisk}
 use Rattle.mem_devices.specs.declared.plain_rack.PlainRack.{PlainRack}
 use Rattle.mem_devices.specs.Places.{faults_at}
-use Rattle.mem_devices.specs.PlainRacks.{AllIn, disk_at, plain}
+use Rattle.mem_devices.specs.PlainRacks.{NoPlainDiskOut, disk_at, plain}
 use Rattle.ledger_laws.proofs.Recovery.{idle_law}
 use Rattle.ledger_init.specs.Made.{HoldsFirst, first_record_of}
 use Rattle.rack_ledgers.proofs.Once.{opens_once_law}
@@ -132,13 +132,13 @@ module _ (K : Shape) (seed n : ℕ) (within : IsWithinLimits K) (small : n ≤ 1
 
 module _ (K : Shape) (mint : List Output) (few_coins : length mint ≤ 1000000) (limits : IsWithinLimits K) where
   -- what is in place tells its bytes
-  pub told_there : (rack : PlainRack) → AllIn rack → (n : ℕ) → n < node_count K → (d : PlainDisk) × (disk_at rack n ≡ Some d) × ((c : List ℕ) × (plain.content d ≡ Some c) × plain.images d c)
+  pub told_there : (rack : PlainRack) → NoPlainDiskOut rack → (n : ℕ) → n < node_count K → (d : PlainDisk) × (disk_at rack n ≡ Some d) × ((c : List ℕ) × (plain.content d ≡ Some c) × plain.images d c)
   told_there rack all n inside =
       let d = there rack all n (omega (arith, inside, limits.coordinators, limits.shards)) in
       (d.0, d.1, (d.0.bytes.items, refl, refl))
 
   -- the ledger that was made
-  pub made_shown : (old mid : PlainRack) → AreDisksReady K mint old → AllIn mid → ((n : ℕ) → n < node_count K → HoldsFirst plain (first_record_of K mint n) (disk_at old n) (disk_at mid n))
+  pub made_shown : (old mid : PlainRack) → AreDisksReady K mint old → NoPlainDiskOut mid → ((n : ℕ) → n < node_count K → HoldsFirst plain (first_record_of K mint n) (disk_at old n) (disk_at mid n))
       → Shows plain (disk_at mid) K (genesis_id mint) (mint_journals K mint)
   made_shown old mid ready all holds =
       first_shown K mint limits few_coins plain (disk_at old) (disk_at mid) (λ n inside. (let e = ready.empty n inside in (e.0, e.1, refl))) (λ n inside. (let d = told_there mid all n inside in (d.0, d.1))) holds
@@ -148,7 +148,7 @@ module _ (K : Shape) (mint : List Output) (few_coins : length mint ≤ 1000000) 
   none_rises old new n inside = none_rose old.misses new.misses n (omega (arith, inside, limits.coordinators, limits.shards))
 
   -- the disks of a ledger that was made have as much room as before
-  pub room_still : (files : List (List FullTx)) (old mid : PlainRack) → AreDisksReady K mint old → AllIn mid → ((n : ℕ) → n < node_count K → SameRoom plain (disk_at old n) (disk_at mid n)) → HaveRoomForFiles K mint files old → HaveRoomForFiles K mint files mid
+  pub room_still : (files : List (List FullTx)) (old mid : PlainRack) → AreDisksReady K mint old → NoPlainDiskOut mid → ((n : ℕ) → n < node_count K → SameRoom plain (disk_at old n) (disk_at mid n)) → HaveRoomForFiles K mint files old → HaveRoomForFiles K mint files mid
   room_still files old mid ready all rooms ample =
       more_room K (sound_by all_good) (λ n. limit_at plain (disk_at old n)) (λ n. limit_at plain (disk_at mid n)) files (mint_journals K mint)
       (λ n inside. (let was = ready.empty n inside in let is = told_there mid all n inside in omega (arith, ap (limit_at plain) was.1, ap (limit_at plain) is.1, rooms n inside was.0 was.1 is.0 is.1))) ample
@@ -173,7 +173,7 @@ module _ (K : Shape) (seed n : ℕ) where
   pub memory_why : (a : Answer) → a ≡ answers.Memory → WhyNoWorkload K seed n a
   memory_why a memory = subst (WhyNoWorkload K seed n) (sym memory) tt
 
-  module _ (small : n ≤ 10000) (limits : IsWithinLimits K) (rack : PlainRack) (all : AllIn rack) (ran : Ran) (told : TellsRunOf K (mint_of seed n) (files_of seed n) rack ran) where
+  module _ (small : n ≤ 10000) (limits : IsWithinLimits K) (rack : PlainRack) (all : NoPlainDiskOut rack) (ran : Ran) (told : TellsRunOf K (mint_of seed n) (files_of seed n) rack ran) where
     is_run : IsWorkloadRun K seed n told.run.exit
     is_run = record { kept = told.run.grown.kept; waves = told.run.waves }
 

@@ -24,8 +24,8 @@ use Rattle.cbdc_model.specs.Ranges.{on_shard}
 use Rattle.cbdc_model.specs.Room.{size_of}
 use Rattle.mem_devices.specs.declared.plain_disk.PlainDisk.{PlainDisk}
 use Rattle.mem_devices.specs.declared.plain_rack.PlainRack.{PlainRack}
-use Rattle.mem_devices.specs.Places.{faults_at, disk_in, IsIn}
-use Rattle.mem_devices.specs.PlainRacks.{AllIn, IsEmptyAt, disk_at, plain}
+use Rattle.mem_devices.specs.Places.{faults_at, disk_in, HasNoDiskOut}
+use Rattle.mem_devices.specs.PlainRacks.{NoPlainDiskOut, IsEmptyAt, disk_at, plain}
 use Rattle.record_log.specs.Bodies.{body_of}
 use Rattle.gate_journal.specs.Rows.{row}
 use Rattle.rack_ledgers.specs.Blank.{IsInUse}
@@ -37,11 +37,11 @@ use Rattle.gen_command.proofs.FirstShown.{on_length, made_length}
 -- ---- the rack
 
 -- each node's disk is there
-pub there : (rack : PlainRack) → AllIn rack → (n : ℕ) → n < 80 → (d : PlainDisk) × (disk_at rack n ≡ Some d)
+pub there : (rack : PlainRack) → NoPlainDiskOut rack → (n : ℕ) → n < 80 → (d : PlainDisk) × (disk_at rack n ≡ Some d)
 there rack all n low = go ((slice_get_cases rack.places.items n).1)
   where
     in_place : (place : Option PlainDisk) → slice_get rack.places.items n ≡ Some place → (d : PlainDisk) × (disk_at rack n ≡ Some d)
-    in_place None is = absurd (subst IsIn is (all n))
+    in_place None is = absurd (subst HasNoDiskOut is (all n))
     in_place (Some d) is = (d, ap disk_in is)
 
     go : ((x : Option PlainDisk) × (n < length rack.places.items) × (slice_get rack.places.items n ≡ Some x) × (get_or rack.places.items n x ≡ x)) ⊎ ((length rack.places.items ≤ n) × (slice_get rack.places.items n ≡ None)) → (d : PlainDisk) × (disk_at rack n ≡ Some d)

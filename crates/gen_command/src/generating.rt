@@ -9,7 +9,7 @@ ghost use Rattle.command_answers.specs.Texts.{IsPrinted, IsSilent};
 ghost use Rattle.file_runs.specs.Runs.{joined as all_joined};
 ghost use Rattle.input_files.specs.Limits.{IsShort};
 ghost use Rattle.ledger_init.specs.Made.{node_count};
-ghost use Rattle.mem_devices.specs.PlainRacks.{AllIn, IsEmptyAt};
+ghost use Rattle.mem_devices.specs.PlainRacks.{NoPlainDiskOut, IsEmptyAt};
 ghost use Rattle.workload.specs.Generator.{mint_of};
 
 use audit::{Totals, Verdict};
@@ -66,7 +66,7 @@ fn files_of(alloc: Global, seed: u64, count: u32) -> Result<Files, AllocError>
 fn rack_of(alloc: Global, shape: &Shape, count: u32) -> Result<PlainRack, AllocError>
     requires { count ≤ 10000 }
     ensures limits { IsWithinLimits shape.now }
-    ensures all { IfOk result AllIn }
+    ensures all { IfOk result NoPlainDiskOut }
     ensures empty { IfOk result (λ r. (n : ℕ) → n < node_count shape.now
         → IsEmptyAt r (4096 + 400 * count) n) }
 {
@@ -84,14 +84,14 @@ fn run_files<W: Wait + Threads + Sync, G: Gate + Sync>(
     rack: &mut PlainRack,
     gate: &G,
 ) -> Result<Ran, Answer>
-    requires all { AllIn rack.old }
+    requires all { NoPlainDiskOut rack.old }
     requires few { length mint ≤ 1000000 }
     requires short { All (λ txs. All IsShort txs) clients.now }
     requires ready { AreDisksReady shape.now mint rack.old }
     requires room { HaveRoomForFiles shape.now mint clients.now rack.old }
     ensures did { IfOk result (TellsRunOf shape.now mint clients.now rack.new) }
     ensures why { IfErr result (λ e. e ≡ Answer.Memory) }
-    ensures back { AllIn rack.new }
+    ensures back { NoPlainDiskOut rack.new }
 {
     let Made {
         coins: _,
@@ -113,7 +113,7 @@ fn check_files<W: Threads + Sync>(
     clients: Vec<List<FullTx>>,
     rack: &mut PlainRack,
 ) -> Result<Totals, Answer>
-    requires all { AllIn rack.old }
+    requires all { NoPlainDiskOut rack.old }
     ensures did { IfOk result (IsCheckedSound rack.old mint.now (all_joined clients.items)) }
     ensures why { IfErr result (IsUnchecked rack.old rack.new mint.now (all_joined clients.items)) }
 {

@@ -3,7 +3,7 @@ use Rattle.std.proofs.Common.{◌≡◌, ℕ, ◌≤◌, List, Option, Result, O
 use Rattle.outside.specs.Images.{Tells}
 use Rattle.cbdc_types.specs.declared.answer.Answer.{Answer}
 use Rattle.cbdc_types.specs.declared.answer.Answer.TheVariants as answers
-use Rattle.sentinel.specs.Files.{Reads}
+use Rattle.sentinel.specs.Files.{ReadsVerdicts}
 use Rattle.sentinel.specs.declared.file.VerdictFile.{VerdictFile}
 use Rattle.input_files.specs.Inputs.{AreHadVerdicts, AreNoHadVerdicts}
 use Rattle.input_files.specs.Contents.{front, goes_on, AreVerdicts, IsNoVerdicts, IsUnfetched}
@@ -15,7 +15,7 @@ abbrev pub IsHad : Option (List ℕ) → Result Fetched Answer → Type 0
 IsHad told had = IfOk had (λ r. Tells told (λ c. (r.bytes ≡ front c) × (r.more ≡ goes_on c)))
 
 pub had_read : (told : Option (List ℕ)) (had : Result Fetched Answer) (file : VerdictFile) → IsHad told had → AreHadVerdicts had file → AreVerdicts told file
-had_read told (Ok r) file is reads = λ c e. subst (λ b. Reads (goes_on c) b (Ok file)) (is c e).0 (subst (λ m. Reads m r.bytes (Ok file)) (is c e).1 reads)
+had_read told (Ok r) file is reads = λ c e. subst (λ b. ReadsVerdicts (goes_on c) b (Ok file)) (is c e).0 (subst (λ m. ReadsVerdicts m r.bytes (Ok file)) (is c e).1 reads)
 had_read told (Err why) file is reads = absurd reads
 
 unfetched_later : (place : ℕ) (told : Option (List ℕ)) (before mid now : ℕ) (a : Answer) → before ≤ mid → IsUnfetched place mid now a → IsNoVerdicts place told before now a

@@ -11,7 +11,7 @@ use Rattle.client_files.specs.declared.fault.StreamFault.TheVariants as stream_f
 use Rattle.client_files.specs.declared.fault.BadFile.{BadFile}
 use Rattle.client_files.specs.declared.fault.FileFault.{FileFault}
 use Rattle.client_files.specs.declared.fault.FileFault.TheVariants.{Bad, Memory}
-use Rattle.sentinel.specs.Files.{Reads}
+use Rattle.sentinel.specs.Files.{ReadsVerdicts}
 use Rattle.sentinel.specs.declared.file.VerdictFault.{VerdictFault}
 use Rattle.sentinel.specs.declared.file.VerdictFault.TheVariants as verdict_fault
 use Rattle.input_files.specs.Contents.{front, goes_on, IsNotRead, IsFaultOf, IsStreamFaultOf, IsVerdictFaultOf, IsNoVerdicts, IsUnfetched, AreRead, FirstNotRead, txs_of_file, all_txs}
@@ -60,14 +60,14 @@ stream_not_read place told before old now stream_fault.Memory answer is stops =
     subst (λ a. IsNotRead place told (txs_of_file before) old now a) (sym is) tt
 
 pub no_verdicts : (place : ℕ) (told : Option (List ℕ)) (before now : ℕ) (more : Bool) (bytes : List ℕ) (fault : VerdictFault) (answer : Answer)
-    → IsVerdictFaultOf place fault answer → Tells told (λ c. (bytes ≡ front c) × (more ≡ goes_on c)) → Reads more bytes (Err fault)
+    → IsVerdictFaultOf place fault answer → Tells told (λ c. (bytes ≡ front c) × (more ≡ goes_on c)) → ReadsVerdicts more bytes (Err fault)
     → IsNoVerdicts place told before now answer
 no_verdicts place told before now more bytes (verdict_fault.Bad bad) answer is had reads =
     subst (λ a. IsNoVerdicts place told before now a) (sym is)
-    (refl, λ c e. inl (subst (λ b. Reads (goes_on c) b (Err (verdict_fault.Bad bad))) (had c e).0 (subst (λ m. Reads m bytes (Err (verdict_fault.Bad bad))) (had c e).1 reads)))
+    (refl, λ c e. inl (subst (λ b. ReadsVerdicts (goes_on c) b (Err (verdict_fault.Bad bad))) (had c e).0 (subst (λ m. ReadsVerdicts m bytes (Err (verdict_fault.Bad bad))) (had c e).1 reads)))
 no_verdicts place told before now more bytes verdict_fault.Large answer is had reads =
     subst (λ a. IsNoVerdicts place told before now a) (sym is)
-    (refl, λ c e. inr (subst (λ b. Reads (goes_on c) b (Err verdict_fault.Large)) (had c e).0 (subst (λ m. Reads m bytes (Err verdict_fault.Large)) (had c e).1 reads), refl, refl))
+    (refl, λ c e. inr (subst (λ b. ReadsVerdicts (goes_on c) b (Err verdict_fault.Large)) (had c e).0 (subst (λ m. ReadsVerdicts m bytes (Err verdict_fault.Large)) (had c e).1 reads), refl, refl))
 no_verdicts place told before now more bytes verdict_fault.Memory answer is had reads =
     subst (λ a. IsNoVerdicts place told before now a) (sym is) tt
 

@@ -14,7 +14,7 @@ use Rattle.client_files.specs.declared.fault.FileFault.{FileFault}
 use Rattle.client_files.specs.declared.fault.FileFault.TheVariants.{Bad, Memory}
 use Rattle.client_files.specs.declared.fault.StreamFault.{StreamFault}
 use Rattle.client_files.specs.declared.fault.StreamFault.TheVariants as stream_fault
-use Rattle.sentinel.specs.Files.{Reads}
+use Rattle.sentinel.specs.Files.{ReadsVerdicts}
 use Rattle.sentinel.specs.declared.file.VerdictFile.{VerdictFile}
 use Rattle.sentinel.specs.declared.file.VerdictFault.{VerdictFault}
 use Rattle.sentinel.specs.declared.file.VerdictFault.TheVariants as verdict_fault
@@ -60,13 +60,13 @@ pub record FirstNotRead (told : Text → Option (List ℕ)) (before now : Text �
 
 -- the verdicts of a file; or why it is not read: a line that is bad, or that it is too large
 abbrev pub AreVerdicts : Option (List ℕ) → VerdictFile → Type 0
-AreVerdicts told file = Tells told (λ c. Reads (goes_on c) (front c) (Ok file))
+AreVerdicts told file = Tells told (λ c. ReadsVerdicts (goes_on c) (front c) (Ok file))
 
 -- the verdict file at this place of the words has a bad line, the first one, or is too large; or its count of faults rose; or memory ran out
 abbrev pub IsNoVerdicts : ℕ → Option (List ℕ) → ℕ → ℕ → Answer → Type 0
 IsNoVerdicts place told before now (answers.BadInput file at kind) =
-    (file ≡ place) × Tells told (λ c. Reads (goes_on c) (front c) (Err (verdict_fault.Bad (record { line = at; kind = kind })))
-    ⊎ (Reads (goes_on c) (front c) (Err verdict_fault.Large) × (at ≡ 1073741824) × (kind ≡ Large)))
+    (file ≡ place) × Tells told (λ c. ReadsVerdicts (goes_on c) (front c) (Err (verdict_fault.Bad (record { line = at; kind = kind })))
+    ⊎ (ReadsVerdicts (goes_on c) (front c) (Err verdict_fault.Large) × (at ≡ 1073741824) × (kind ≡ Large)))
 IsNoVerdicts place told before now (answers.ReadFault file) = (file ≡ place) × Rose before now
 IsNoVerdicts place told before now answers.Memory = Unit {0}
 IsNoVerdicts place told before now other = ⊥

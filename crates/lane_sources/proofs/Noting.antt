@@ -8,7 +8,7 @@ use Rattle.std.proofs.lemmas.Grind.{div_ceil_times}
 use Rattle.cbdc_model.specs.Records.{Shape, Compact}
 use Rattle.cbdc_model.specs.Coins.{FullTx, compact, tx_id}
 use Rattle.base_types.specs.declared.faults.Refusal.{Refusal}
-use Rattle.sentinel.specs.FirstRefusal.{IsSound, IsFirstRefusal}
+use Rattle.sentinel.specs.FirstRefusal.{IsSoundTx, IsFirstRefusal}
 use Rattle.submissions.specs.Checks.{VerdictsOf, IsRuling, IsRuled}
 use Rattle.submissions.specs.declared.Ruled.{Ruled}
 use Rattle.submissions.specs.declared.Ruling.{Ruling}
@@ -42,7 +42,7 @@ there_at (x ∷ xs) zero inside = (x, refl)
 there_at (x ∷ xs) (suc at) inside = there_at xs at (omega (arith, inside))
 
 module _ (K : Shape) (verdicts : VerdictsOf) (file : List FullTx) (lane at sent : ℕ) (checked : List Checked) (come : HasComeTo K verdicts file lane at sent checked) (inside : at < length file) where
-  pub noted_sound : (id : List ℕ) → SubmissionAt file at (λ t. (id ≡ tx_id t) × IsSound t (verdicts (tx_id t)))
+  pub noted_sound : (id : List ℕ) → SubmissionAt file at (λ t. (id ≡ tx_id t) × IsSoundTx t (verdicts (tx_id t)))
       → HasComeTo K verdicts file lane (at + count_of_lanes K) (sent + 1) (checked ++ record { id = id; judgement = Sound lane sent } ∷ [])
   noted_sound id said = let (t, there) = there_at file at inside in let k = said t there in come_sound K verdicts file lane at sent checked t come there id k.0 k.1
 
@@ -51,7 +51,7 @@ module _ (K : Shape) (verdicts : VerdictsOf) (file : List FullTx) (lane at sent 
   noted_refused id r said = let (t, there) = there_at file at inside in let k = said t there in come_refused K verdicts file lane at sent checked t come there id r k.0 k.1
 
   -- no more go to the lane than there are
-  pub sent_fits : (id : List ℕ) → SubmissionAt file at (λ t. (id ≡ tx_id t) × IsSound t (verdicts (tx_id t))) → sent + 1 ≤ length file
+  pub sent_fits : (id : List ℕ) → SubmissionAt file at (λ t. (id ≡ tx_id t) × IsSoundTx t (verdicts (tx_id t))) → sent + 1 ≤ length file
   sent_fits id said =
       let (t, there) = there_at file at inside in
       let e : length (left_at K verdicts file lane at) ≡ suc (length (left_at K verdicts file lane (at + count_of_lanes K))) = ap (λ xs. length xs) (sound_left K verdicts file lane at sent checked t come there (said t there).1) in
@@ -71,14 +71,14 @@ pub any_err : {A E : Type 0} (r : Result A E) (P : Type 0) → P → IfErr r (λ
 any_err (Ok a) P p = tt
 any_err (Err e) P p = p
 
-pub ruled_sound : (verdicts : VerdictsOf) (t : FullTx) (r : Ruled) (own : Compact) → IsRuled verdicts t r → r.ruling ≡ ruling.Sound own → (r.id ≡ tx_id t) × IsSound t (verdicts (tx_id t)) × (own ≡ compact t)
+pub ruled_sound : (verdicts : VerdictsOf) (t : FullTx) (r : Ruled) (own : Compact) → IsRuled verdicts t r → r.ruling ≡ ruling.Sound own → (r.id ≡ tx_id t) × IsSoundTx t (verdicts (tx_id t)) × (own ≡ compact t)
 ruled_sound verdicts t r own (id, is) e = let k : IsRuling verdicts t (ruling.Sound own) = subst (λ x. IsRuling verdicts t x) e is in (id, k.0, k.1)
 
 pub ruled_refused : (verdicts : VerdictsOf) (t : FullTx) (r : Ruled) (why : Refusal) → IsRuled verdicts t r → r.ruling ≡ ruling.Refused why → (r.id ≡ tx_id t) × IsFirstRefusal t (verdicts (tx_id t)) why
 ruled_refused verdicts t r why (id, is) e = (id, subst (λ x. IsRuling verdicts t x) e is)
 
 module _ (K : Shape) (verdicts : VerdictsOf) (file : List FullTx) (lane at sent : ℕ) (checked : List Checked) (t : FullTx) (come : HasComeTo K verdicts file lane at sent checked) (there : slice_get file at ≡ Some t) where
-  pub left_some : IsSound t (verdicts (tx_id t)) → 0 < length (left_at K verdicts file lane at)
+  pub left_some : IsSoundTx t (verdicts (tx_id t)) → 0 < length (left_at K verdicts file lane at)
   left_some s = let e : length (left_at K verdicts file lane at) ≡ suc (length (left_at K verdicts file lane (at + count_of_lanes K))) = ap (λ xs. length xs) (sound_left K verdicts file lane at sent checked t come there s) in omega (arith, e)
 
   pub leaves : (r : Ruled) → IsRuled verdicts t r → LeavesBehind K verdicts file lane at r.ruling
@@ -94,7 +94,7 @@ module _ (K : Shape) (verdicts : VerdictsOf) (file : List FullTx) (lane at sent 
   ruled_left (Ok r) ruled = let (t, there) = there_at file at inside in leaves K verdicts file lane at sent checked t come there r (ruled t there)
   ruled_left (Err e) ruled = tt
 
-  pub sound_some : (came : Result Ruled AllocError) → IfErr came (λ _. SubmissionAt file at (λ t. IsSound t (verdicts (tx_id t)))) → IfErr came (λ _. 0 < length (left_at K verdicts file lane at))
+  pub sound_some : (came : Result Ruled AllocError) → IfErr came (λ _. SubmissionAt file at (λ t. IsSoundTx t (verdicts (tx_id t)))) → IfErr came (λ _. 0 < length (left_at K verdicts file lane at))
   sound_some (Ok r) sound = tt
   sound_some (Err e) sound = let (t, there) = there_at file at inside in left_some K verdicts file lane at sent checked t come there (sound t there)
 

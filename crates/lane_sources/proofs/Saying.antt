@@ -6,7 +6,7 @@ use Rattle.cbdc_model.specs.Records.{Shape}
 use Rattle.cbdc_model.specs.Coins.{FullTx, compact, tx_id}
 use Rattle.cbdc_model.specs.Waves.{sent_to}
 use Rattle.base_types.specs.declared.faults.Refusal.{Refusal}
-use Rattle.sentinel.specs.FirstRefusal.{IsSound, IsFirstRefusal}
+use Rattle.sentinel.specs.FirstRefusal.{IsSoundTx, IsFirstRefusal}
 use Rattle.submissions.specs.SoundTest.{sound_by}
 use Rattle.submissions.proofs.Telling.{is_sound_law, one_test_law}
 use Rattle.submissions.specs.Checks.{VerdictsOf, TellsSound, IsSaid}
@@ -20,7 +20,7 @@ some_same : {A : Type 0} (x y : A) → Some x ≡ Some y → x ≡ y
 some_same x y e = cc
 
 module _ (K : Shape) (verdicts : VerdictsOf) (file : List FullTx) where
-  pub is_sound : (t : FullTx) → IsSound t (verdicts (tx_id t)) → sound_by verdicts t ≡ true
+  pub is_sound : (t : FullTx) → IsSoundTx t (verdicts (tx_id t)) → sound_by verdicts t ≡ true
   is_sound t s = (is_sound_law verdicts t).1 s
 
   pub is_refused : (t : FullTx) (r : Refusal) → IsFirstRefusal t (verdicts (tx_id t)) r → sound_by verdicts t ≡ false
@@ -66,7 +66,7 @@ module _ (K : Shape) (verdicts : VerdictsOf) (file : List FullTx) where
     pub refused_left : (r : Refusal) → IsFirstRefusal t (verdicts (tx_id t)) r → left_at K verdicts file lane at ≡ left_at K verdicts file lane (at + count_of_lanes K)
     refused_left r f = subst (λ j. left_at K verdicts file lane j ≡ left_at K verdicts file lane (j + count_of_lanes K)) (sym come.at_is) (left_refused K (sound_by verdicts) file lane come.within q t here (is_refused t r f))
 
-    pub sound_left : IsSound t (verdicts (tx_id t)) → left_at K verdicts file lane at ≡ compact t ∷ left_at K verdicts file lane (at + count_of_lanes K)
+    pub sound_left : IsSoundTx t (verdicts (tx_id t)) → left_at K verdicts file lane at ≡ compact t ∷ left_at K verdicts file lane (at + count_of_lanes K)
     sound_left s = subst (λ j. left_at K verdicts file lane j ≡ compact t ∷ left_at K verdicts file lane (j + count_of_lanes K)) (sym come.at_is) (left_sound K (sound_by verdicts) file lane come.within q t here (is_sound t s))
 
     pub come_refused : (id : List ℕ) (r : Refusal) → id ≡ tx_id t → IsFirstRefusal t (verdicts (tx_id t)) r → HasComeTo K verdicts file lane (at + count_of_lanes K) sent (checked ++ record { id = id; judgement = Refused r } ∷ [])
@@ -91,7 +91,7 @@ module _ (K : Shape) (verdicts : VerdictsOf) (file : List FullTx) where
     at_lane : lane ≡ at % count_of_lanes K
     at_lane = sym (ap (λ j. j % count_of_lanes K) come.at_is ∙ mod_of (count_of_lanes K) q lane come.within)
 
-    pub come_sound : (id : List ℕ) → id ≡ tx_id t → IsSound t (verdicts (tx_id t)) → HasComeTo K verdicts file lane (at + count_of_lanes K) (sent + 1) (checked ++ record { id = id; judgement = Sound lane sent } ∷ [])
+    pub come_sound : (id : List ℕ) → id ≡ tx_id t → IsSoundTx t (verdicts (tx_id t)) → HasComeTo K verdicts file lane (at + count_of_lanes K) (sent + 1) (checked ++ record { id = id; judgement = Sound lane sent } ∷ [])
     come_sound id is s = record {
       within = come.within;
       at_is = next_at (record { id = id; judgement = Sound lane sent });

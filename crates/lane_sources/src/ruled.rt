@@ -1,7 +1,7 @@
 // What sentinels make of the submissions of a file.
 ghost use Rattle.std.specs.Prelude.{◌≡◌, ◌<◌, length, IfOk, IfErr};
 ghost use Rattle.cbdc_model.specs.Coins.{tx_id as spec_id};
-ghost use Rattle.sentinel.specs.FirstRefusal.{IsSound};
+ghost use Rattle.sentinel.specs.FirstRefusal.{IsSoundTx};
 ghost use Rattle.submissions.specs.Checks.{IsRuled};
 ghost use Rattle.lane_sources.specs.Sources.{SubmissionAt};
 
@@ -55,7 +55,7 @@ pub fn rule_at<'a, V: Verifier, F: Deals>(
 ) -> Result<RuledAt<F>, AllocError>
     requires { place < length F.file }
     ensures place { IfOk result (λ r. r.place ≡ place) }
-    ensures sound { IfErr result (λ _. SubmissionAt F.file place (λ t. IsSound t (F.verdicts (spec_id t)))) }
+    ensures sound { IfErr result (λ _. SubmissionAt F.file place (λ t. IsSoundTx t (F.verdicts (spec_id t)))) }
 {
     Ok(RuledAt {
         place,
@@ -74,7 +74,7 @@ pub(crate) fn found_or_now<'a, V: Verifier, F: Deals>(
 ) -> Result<Ruled, AllocError>
     requires { place < length F.file }
     ensures ruled { IfOk result (λ r. SubmissionAt F.file place (λ t. IsRuled F.verdicts t r)) }
-    ensures sound { IfErr result (λ _. SubmissionAt F.file place (λ t. IsSound t (F.verdicts (spec_id t)))) }
+    ensures sound { IfErr result (λ _. SubmissionAt F.file place (λ t. IsSoundTx t (F.verdicts (spec_id t)))) }
 {
     if let Some(found) = ahead {
         if found.place() == place {

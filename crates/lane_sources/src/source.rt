@@ -1,7 +1,7 @@
 // What a client file sends to a lane.
 ghost use Rattle.std.specs.Prelude.{◌≡◌, ◌+◌, ◌*◌, ◌<◌, ◌≤◌, ◌++◌, [], length, IfOk, IfErr, OnOk};
 ghost use Rattle.cbdc_model.specs.Coins.{FullTx as Full, tx_id as spec_id};
-ghost use Rattle.sentinel.specs.FirstRefusal.{IsSound, IsFirstRefusal};
+ghost use Rattle.sentinel.specs.FirstRefusal.{IsSoundTx, IsFirstRefusal};
 ghost use Rattle.submissions.specs.Checks.{IsSaid, IsRuled};
 ghost use Rattle.lane_sources.specs.Sources.{count_of_lanes, all_for_lane, left_at, LeavesBehind, SubmissionAt};
 
@@ -69,7 +69,7 @@ impl<'a, W: Wait, V: Verifier, F: Deals> LaneSource<'a, W, V, F> {
     // Keeps that the next submission is sound, and goes to the one behind it.
     fn note_sound(&mut self, id: Hash)
         requires inside { self.old.at < length F.file }
-        requires sound { SubmissionAt F.file self.old.at (λ t. (id ≡ spec_id t) × IsSound t (F.verdicts (spec_id t))) }
+        requires sound { SubmissionAt F.file self.old.at (λ t. (id ≡ spec_id t) × IsSoundTx t (F.verdicts (spec_id t))) }
         ensures lane { self.new.lane ≡ self.old.lane }
         ensures at { self.new.at ≡ self.old.at + count_of_lanes F.shape }
         ensures given { self.new.given ≡ self.old.given }

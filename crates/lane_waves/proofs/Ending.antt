@@ -21,7 +21,7 @@ use Rattle.node_lock.specs.declared.lock.Guarded.{Guarded}
 use Rattle.node_lock.specs.declared.seat.Seat.{Seat}
 use Rattle.node_lock.specs.Seats.{TableId, all_known, knows, first_of}
 use Rattle.node_lock.specs.Viewing.{viewed}
-use Rattle.node_ports.specs.Nodes.{sight_at, no_node}
+use Rattle.node_ports.specs.Nodes.{sight_at, no_sight}
 use Rattle.port_sets.specs.Seated.{opening_sight, seat_sight, Serves}
 use Rattle.port_sets.specs.Nodes.{shard_sight, log_sight}
 use Rattle.port_sets.specs.declared.coordinators.SharedLog.{SharedLog}
@@ -53,7 +53,7 @@ same_sight a b c d e f g h i j k l p q r s t u = cc
 view_is : (f v : Sight) (h : Hand) → v.header ≡ f.header → v.seen ≡ h.seen → v.flight ≡ h.left → v.faults ≡ h.faults → v.opened ≡ f.opened → v.capacity ≡ f.capacity → v ≡ viewed f h
 view_is f v h a b c d e g = same_sight v.header f.header v.seen h.seen v.flight h.left v.faults h.faults v.opened f.opened v.capacity f.capacity a b c d e g
 
-pub past_end : {N : Type 0} (sight : N → Sight) (xs : List N) (n : ℕ) → length xs ≤ n → sight_at sight xs n ≡ no_node
+pub past_end : {N : Type 0} (sight : N → Sight) (xs : List N) (n : ℕ) → length xs ≤ n → sight_at sight xs n ≡ no_sight
 past_end sight [] n le = refl
 past_end sight (x ∷ xs) zero le = absurd (omega (arith, le))
 past_end sight (x ∷ xs) (suc n) le = past_end sight xs n (omega (arith, le))

@@ -9,7 +9,7 @@ use Rattle.node_lock.specs.declared.seat.Seat.{Seat}
 use Rattle.node_lock.specs.Moving.{Same}
 use Rattle.node_lock.specs.Seats.{all_known, lanes_of}
 use Rattle.node_lock.specs.Tickets.{Done}
-use Rattle.node_ports.specs.Nodes.{no_node, sight_at}
+use Rattle.node_ports.specs.Nodes.{no_sight, sight_at}
 use Rattle.thread_laws.specs.Running.{NodeRan}
 use Rattle.lane_waves.specs.NodeRows.{IsLocked, AreLocked, IsClosed, AreClosed, AreStill}
 use Rattle.lane_waves.specs.Laws.{NodesRanLaw, NodesStillLaw, WentOn, HeldLaw}
@@ -70,7 +70,7 @@ module _ {N : Type 0} (sight : N → Sight) (goes : N → N → Type 0) where
   same_length (x ∷ ns) (m ∷ ms) k = ap suc (same_length ns ms k.1)
 
   -- past the end of both there is no node
-  pub past_end : (nodes : List N) (n : ℕ) → length nodes ≤ n → sight_at sight nodes n ≡ no_node
+  pub past_end : (nodes : List N) (n : ℕ) → length nodes ≤ n → sight_at sight nodes n ≡ no_sight
   past_end [] n le = refl
   past_end (x ∷ ns) zero le = absurd (omega (arith, le))
   past_end (x ∷ ns) (suc n) le = past_end ns n (omega (arith, le))

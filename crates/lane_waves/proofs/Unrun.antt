@@ -8,7 +8,7 @@ use Rattle.lane_driver.specs.Stops.{IsLaneSettled}
 use Rattle.ledger_runs.specs.Lanes.{LaneOf}
 use Rattle.node_lock.specs.declared.views.Hand.{Hand}
 use Rattle.node_lock.specs.Tickets.{times, total, lane_at, fresh, AllHands}
-use Rattle.node_ports.specs.Nodes.{no_node}
+use Rattle.node_ports.specs.Nodes.{no_sight}
 use Rattle.thread_laws.specs.Closing.{IsHand}
 use Rattle.thread_laws.specs.Running.{NodeRan, LaneRan, IsStillSight}
 use Rattle.thread_laws.specs.Whole.{no_memory}
@@ -73,7 +73,7 @@ still_ran first last ls apart still = record {
 -- a lane that was not run
 pub unrun : (K : Shape) (logs shards : ℕ → Sight) (log_hands shard_hands : ℕ → List Hand) (lane : ℕ) (x y : LaneOf)
     → IsLaneSettled K lane (logs (home_of K lane)) shards → IsHand (fresh (logs (home_of K lane)) lane) (log_hands (home_of K lane)) → ((s : ℕ) → s < K.shards → IsHand (fresh (shards s) lane) (shard_hands s))
-    → ((s : ℕ) → K.shards ≤ s → shards s ≡ no_node) → y.txs ≡ x.txs → HasStoppedForMemory y → LaneRan K logs shards log_hands shard_hands lane x y
+    → ((s : ℕ) → K.shards ≤ s → shards s ≡ no_sight) → y.txs ≡ x.txs → HasStoppedForMemory y → LaneRan K logs shards log_hands shard_hands lane x y
 unrun K logs shards log_hands shard_hands lane x y settled at_home at_shards past txs stopped = record {
   log = started lane (logs (home_of K lane));
   seen = λ s. started lane (shards s);

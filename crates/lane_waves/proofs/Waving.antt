@@ -17,7 +17,7 @@ use Rattle.node_lock.specs.declared.seat.Seat.{Seat}
 use Rattle.node_lock.specs.Seats.{opening_of}
 use Rattle.node_lock.specs.declared.views.Hand.{Hand}
 use Rattle.node_lock.specs.Tickets.{times, fresh}
-use Rattle.node_ports.specs.Nodes.{sight_at, no_node}
+use Rattle.node_ports.specs.Nodes.{sight_at, no_sight}
 use Rattle.port_sets.specs.Nodes.{shard_sight, log_sight}
 use Rattle.port_sets.specs.declared.coordinators.SharedLog.{SharedLog}
 use Rattle.port_sets.specs.declared.locking.SharedShard.{SharedShard}
@@ -112,7 +112,7 @@ at_shard K first lane lt = let is : 0 + lane ≡ lane = omega arith in subst (λ
 
 -- nodes that were asked nothing, and lanes that have stopped for want of memory
 pub unrun_wave : (K : Shape) (logs shards logs' shards' : ℕ → Sight) (old new : List LaneOf) → IsWithinLimits K → ((n : ℕ) → n < K.coordinators → IsStillSight (logs n) (logs' n)) → ((s : ℕ) → s < K.shards → IsStillSight (shards s) (shards' s))
-    → ((s : ℕ) → K.shards ≤ s → shards s ≡ no_node) → ((lane : ℕ) → lane < K.coordinators * K.lanes → IsLaneSettled K lane (logs (home_of K lane)) shards) → length old ≡ K.coordinators * K.lanes
+    → ((s : ℕ) → K.shards ≤ s → shards s ≡ no_sight) → ((lane : ℕ) → lane < K.coordinators * K.lanes → IsLaneSettled K lane (logs (home_of K lane)) shards) → length old ≡ K.coordinators * K.lanes
     → map (λ z. z.txs) new ≡ map (λ z. z.txs) old → All HasStoppedForMemory new → WaveRan K logs shards logs' shards' old new
 unrun_wave K logs shards logs' shards' old new limits still_logs still_shards past settled many same stopped = record {
   log_lanes = home_lanes K;

@@ -12,7 +12,7 @@ use Rattle.cbdc_model.specs.History.{minted}
 use Rattle.cbdc_model.specs.World.{first_record}
 use Rattle.cbdc_model.specs.Room.{size_of}
 use Rattle.record_log.specs.Bodies.{body_of}
-use Rattle.record_log.specs.Held.{Holds}
+use Rattle.record_log.specs.Held.{HoldsRecords}
 use Rattle.gate_journal.specs.Formatting.{IsEmptied}
 use Rattle.rack_ledgers.specs.Racked.{OfTold, IsUnchanged, AreBack}
 use Rattle.rack_ledgers.specs.Blank.{IsInUse, IsUnused}
@@ -28,7 +28,7 @@ first_record_of K mint n = first_record K (minted mint) n
 
 -- where the disk told its content, it now holds this record alone, and so does whatever a crash may leave of it
 abbrev pub HoldsFirst : {D : Type 0} → Ghosts D → Record → Option D → Option D → Type 0
-HoldsFirst device first old new = OfTold old (λ was. OfTold new (λ now. IsSome (device.content was) → Holds (device.content now) (device.images now) (9 + length (body_of first)) (first ∷ [])))
+HoldsFirst device first old new = OfTold old (λ was. OfTold new (λ now. IsSome (device.content was) → HoldsRecords (device.content now) (device.images now) (9 + length (body_of first)) (first ∷ [])))
 
 -- where the disk told its content, a crash leaves nothing but what has the property, by what it might have left before
 abbrev pub LeavesBut : {D : Type 0} → Ghosts D → ((List ℕ → Type 0) → List ℕ → Type 0) → Option D → Option D → Type 0

@@ -6,7 +6,7 @@ use Rattle.cbdc_types.specs.declared.answer.Answer.TheVariants as answers
 use Rattle.cbdc_model.specs.Records.{Compact, Record}
 use Rattle.cbdc_model.specs.History.{Minted}
 use Rattle.record_log.specs.Bodies.{body_of}
-use Rattle.record_log.specs.Held.{Holds}
+use Rattle.record_log.specs.Held.{HoldsRecords}
 use Rattle.gate_journal.specs.Formatting.{IsEmptied}
 use Rattle.rack_ledgers.specs.Places.{EachFrom, IsOpening}
 use Rattle.rack_ledgers.specs.Racked.{OfTold}
@@ -18,7 +18,7 @@ minted_by t = record { id = t.id; hashes = t.outputs }
 
 -- where a disk that was given told its content, it now holds this record alone, and so does whatever a crash may leave of it
 abbrev pub HoldsOf : {D : Type 0} → Ghosts D → Record → D → D → Type 0
-HoldsOf device first given now = IsSome (device.content given) → Holds (device.content now) (device.images now) (9 + length (body_of first)) (first ∷ [])
+HoldsOf device first given now = IsSome (device.content given) → HoldsRecords (device.content now) (device.images now) (9 + length (body_of first)) (first ∷ [])
 
 -- where a disk that was given told its content, a crash leaves nothing but what has the property, by what it might have left then
 abbrev pub LeavesOf : {D : Type 0} → Ghosts D → ((List ℕ → Type 0) → List ℕ → Type 0) → D → D → Type 0

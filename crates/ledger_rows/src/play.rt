@@ -1,6 +1,6 @@
 // One run of the program over devices in memory.
 ghost use Rattle.std.specs.Prelude.{IfOk};
-ghost use Rattle.mem_devices.specs.Racks.{AllIn};
+ghost use Rattle.mem_devices.specs.Racks.{NoneOut};
 
 use crate::disks::DiskState;
 use crate::noting::{NotingGate, NotingInbox, NotingRack};
@@ -113,7 +113,7 @@ fn device(alloc: Global, disk: &DiskState) -> Result<FaultDisk, Wrong> {
 
 /// The disks of a row, in a rack.
 pub fn rack_of(alloc: Global, disks: &[DiskState]) -> Result<NotingRack, Wrong>
-    ensures { IfOk result (λ r. AllIn r.disks) }
+    ensures { IfOk result (λ r. NoneOut r.disks) }
 {
     let mut all = Vec::new(alloc);
     for disk in disks {

@@ -13,7 +13,7 @@ use Rattle.cbdc_model.specs.Next.{Refuse, next_stamp, next_finish, next_forget, 
 use Rattle.cbdc_model.specs.Due.{Due, stamp_by}
 use Rattle.cbdc_model.specs.Sights.{Sight, Stays, Meets}
 use Rattle.cbdc_model.specs.Slots.{Idle}
-use Rattle.shard_core.specs.Stands.{Stands}
+use Rattle.shard_core.specs.Stands.{ShardStands}
 use Rattle.shard_core.specs.declared.core_state.ShardCore.{ShardCore}
 use Rattle.port_sets.specs.Giving.{NodeGives}
 use Rattle.port_sets.specs.Shards.{lock_owed, finish_owed, forget_owed, good_reply, good_stamp}
@@ -94,14 +94,14 @@ only_one (x ∷ (y ∷ all)) r one e = absurd (omega (arith, one))
 
 -- a shard of one record, which is a Genesis
 pub frozen_of : (core : ShardCore) (h header : Header) (hs : List Digest) (all rs past : List Record) → reverse all ≡ past → IsJournal h past → length all ≡ 1 → slice_get all 0 ≡ Some (Genesis header hs)
-    → core.header ≡ header → Stands core (Genesis header hs ∷ []) → rs ≡ Genesis header hs ∷ [] → IsFrozen core rs × (core.header ≡ h)
+    → core.header ≡ header → ShardStands core (Genesis header hs ∷ []) → rs ≡ Genesis header hs ∷ [] → IsFrozen core rs × (core.header ≡ h)
 frozen_of core h header hs all rs past is journal one at own stands copy =
     let begun : IsJournal h (Genesis header hs ∷ []) = subst (IsJournal h) (sym is ∙ ap reverse (only_one all (Genesis header hs) one at)) journal in
     let same : header ≡ h = begun.1.0.0 in (
       record {
         hashes = hs;
         first = copy ∙ ap (λ k. Genesis k hs ∷ []) (sym own);
-        stands = subst (λ k. Stands core (Genesis k hs ∷ [])) (sym own) stands;
+        stands = subst (λ k. ShardStands core (Genesis k hs ∷ [])) (sym own) stands;
         journal = subst (λ k. IsJournal k (Genesis k hs ∷ [])) (sym own) (subst (λ k. IsJournal k (Genesis header hs ∷ [])) (sym same) begun);
       },
       own ∙ same,

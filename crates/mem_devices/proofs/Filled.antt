@@ -4,7 +4,7 @@ use Rattle.std.specs.Prelude.{slice_get}
 use Rattle.std.proofs.lemmas.Bool.{cases_lt}
 use Rattle.std.proofs.lemmas.List.{length-append}
 use Rattle.mem_devices.specs.declared.plain_disk.PlainDisk.{PlainDisk}
-use Rattle.mem_devices.specs.Places.{disk_in, IsIn}
+use Rattle.mem_devices.specs.Places.{disk_in, HasNoDiskOut}
 
 -- each place has an empty disk, with so much room where it is a node's
 abbrev pub AreFilled : ℕ → ℕ → List (Option PlainDisk) → Type 0
@@ -38,10 +38,10 @@ one_filled nodes capacity places d are empty room n lt = elim (cases_lt n (lengt
 ]
 
 -- no disk is out, and each node's is empty
-pub all_in : (nodes capacity : ℕ) (places : List (Option PlainDisk)) → AreFilled nodes capacity places → (n : ℕ) → IsIn (slice_get places n)
+pub all_in : (nodes capacity : ℕ) (places : List (Option PlainDisk)) → AreFilled nodes capacity places → (n : ℕ) → HasNoDiskOut (slice_get places n)
 all_in nodes capacity places are n = elim (cases_lt n (length places)) [
-  | inl low ↦ subst IsIn (sym (are n low).1) tt
-  | inr high ↦ subst IsIn (sym (none_past places n high)) tt
+  | inl low ↦ subst HasNoDiskOut (sym (are n low).1) tt
+  | inr high ↦ subst HasNoDiskOut (sym (none_past places n high)) tt
 ]
 
 pub empty_at : (nodes capacity : ℕ) (places : List (Option PlainDisk)) → AreFilled nodes capacity places → (n : ℕ) → n < nodes → n < length places

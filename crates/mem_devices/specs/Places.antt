@@ -8,10 +8,10 @@ disk_in None = None
 disk_in (Some place) = place
 
 -- no disk is out of the place; behind the last place there is none
-abbrev pub IsIn : Option (Option PlainDisk) → Type 0
-IsIn None = Unit {0}
-IsIn (Some None) = ⊥
-IsIn (Some (Some d)) = Unit {0}
+abbrev pub HasNoDiskOut : Option (Option PlainDisk) → Type 0
+HasNoDiskOut None = Unit {0}
+HasNoDiskOut (Some None) = ⊥
+HasNoDiskOut (Some (Some d)) = Unit {0}
 
 -- the place's disk is out
 abbrev pub IsOut : Option (Option PlainDisk) → Type 0

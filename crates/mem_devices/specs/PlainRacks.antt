@@ -3,7 +3,7 @@ use Rattle.std.specs.Prelude.{◌≡◌, ℕ, false, List, [], length, Option, S
 use Rattle.outside.specs.declared.disk.Disk.{Ghosts}
 use Rattle.mem_devices.specs.declared.plain_disk.PlainDisk.{PlainDisk}
 use Rattle.mem_devices.specs.declared.plain_rack.PlainRack.{PlainRack}
-use Rattle.mem_devices.specs.Places.{disk_in, IsIn}
+use Rattle.mem_devices.specs.Places.{disk_in, HasNoDiskOut}
 
 -- the disk of a node, where it is in its place
 abbrev pub disk_at : PlainRack → ℕ → Option PlainDisk
@@ -23,8 +23,8 @@ plain = record {
 }
 
 -- every disk is in its place
-abbrev pub AllIn : PlainRack → Type 0
-AllIn rack = (n : ℕ) → IsIn (slice_get rack.places.items n)
+abbrev pub NoPlainDiskOut : PlainRack → Type 0
+NoPlainDiskOut rack = (n : ℕ) → HasNoDiskOut (slice_get rack.places.items n)
 
 -- the node's disk is in its place, is empty, and has so much room
 abbrev pub IsEmptyAt : PlainRack → ℕ → ℕ → Type 0

@@ -4,5 +4,5 @@ use Rattle.mem_devices.specs.declared.mem_rack.MemRack.{MemRack}
 use Rattle.mem_devices.specs.Slots.{IsNotOut}
 
 -- no disk is out, so each may be taken
-abbrev pub AllIn : {D : Type 0} → MemRack D → Type 0
-AllIn rack = (n : ℕ) → IsNotOut (slice_get rack.slots.items n)
+abbrev pub NoneOut : {D : Type 0} → MemRack D → Type 0
+NoneOut rack = (n : ℕ) → IsNotOut (slice_get rack.slots.items n)

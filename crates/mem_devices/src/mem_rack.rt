@@ -1,7 +1,7 @@
 // A rack in memory.
 ghost use Rattle.std.specs.Prelude.{◌≡◌, ◌≤◌, ℕ, slice_get, slice_set, Some, is_none, map, option_map, IfOk, OnErr};
 ghost use Rattle.mem_devices.specs.Faults.{FailsWhere};
-ghost use Rattle.mem_devices.specs.Slots.{held_in, count_in, IsNotOut, IsOutBelow};
+ghost use Rattle.mem_devices.specs.Slots.{held_in, slot_faults, IsNotOut, IsOutBelow};
 
 use base_types::NodeId;
 use outside::{Disk, Failed, Rack};
@@ -10,7 +10,7 @@ use std::mem;
 
 /// The place of a node: its disk, or the count of faults that it was taken with.
 #[derive(Drop)]
-pub enum Slot<D> {
+pub enum DiskSlot<D> {
     In(D),
     Out(u64),
 }
@@ -21,20 +21,20 @@ pub enum Slot<D> {
 /// one, where the rack has no place for the node, and nowhere else. Tested in `node_rows` (`devices.rows`).
 #[derive(Drop)]
 pub struct MemRack<D: Disk + Drop> {
-    slots: Vec<Slot<D>>,
+    slots: Vec<DiskSlot<D>>,
     misses: u64,
 }
 
 impl<D: Disk + Drop> MemRack<D> {
-    ghost use Rattle.mem_devices.specs.Racks.{AllIn};
+    ghost use Rattle.mem_devices.specs.Racks.{NoneOut};
 
     /// The disks in the order of their nodes, all in their places.
     #[tactic(auto, using(crate::proofs::Places::all_in))]
     pub fn new(alloc: Global, disks: Vec<D>) -> Result<MemRack<D>, AllocError>
-        ensures slots { IfOk result (λ r. r.slots.items ≡ map (λ d. Slot.In d) disks.items) }
-        ensures whole { IfOk result (λ r. AllIn r) }
+        ensures slots { IfOk result (λ r. r.slots.items ≡ map (λ d. DiskSlot.In d) disks.items) }
+        ensures whole { IfOk result (λ r. NoneOut r) }
     {
-        let slots = disks.into_iter().map(|d| Slot::In(d)).collect(alloc)?;
+        let slots = disks.into_iter().map(|d| DiskSlot::In(d)).collect(alloc)?;
         Ok(MemRack { slots, misses: 0 })
     }
 
@@ -43,32 +43,32 @@ impl<D: Disk + Drop> MemRack<D> {
         ensures { option_map (λ d. d.now) result ≡ held_in (slice_get self.now.slots.items node) }
     {
         match self.slots.get(node.0 as usize) {
-            Some(Slot::In(disk)) => Some(disk),
+            Some(DiskSlot::In(disk)) => Some(disk),
             _ => None,
         }
     }
 }
 
 // Takes the disk out of its place.
-fn take_out<D: Disk + Drop>(slot: &mut Slot<D>) -> D
+fn take_out<D: Disk + Drop>(slot: &mut DiskSlot<D>) -> D
     requires { IsNotOut (Some slot.old) }
-    ensures was { slot.old ≡ Slot.In result }
-    ensures now { slot.new ≡ Slot.Out (D.count result) }
+    ensures was { slot.old ≡ DiskSlot.In result }
+    ensures now { slot.new ≡ DiskSlot.Out (D.count result) }
 {
-    match mem::replace(slot, Slot::Out(0)) {
-        Slot::In(disk) => {
-            *slot = Slot::Out(disk.faults());
+    match mem::replace(slot, DiskSlot::Out(0)) {
+        DiskSlot::In(disk) => {
+            *slot = DiskSlot::Out(disk.faults());
             disk
         }
-        Slot::Out(_) => unreachable!(),
+        DiskSlot::Out(_) => unreachable!(),
     }
 }
 
 // Puts a disk into its place.
-fn put_in<D: Disk + Drop>(slot: &mut Slot<D>, disk: D)
-    ensures now { slot.new ≡ Slot.In disk }
+fn put_in<D: Disk + Drop>(slot: &mut DiskSlot<D>, disk: D)
+    ensures now { slot.new ≡ DiskSlot.In disk }
 {
-    *slot = Slot::In(disk);
+    *slot = DiskSlot::In(disk);
 }
 
 impl<D: Disk + Drop> Rack for MemRack<D> {
@@ -76,7 +76,7 @@ impl<D: Disk + Drop> Rack for MemRack<D> {
 
     ghost held = { λ r n. held_in (slice_get r.slots.items n) };
 
-    ghost count = { λ r n. count_in D.count r.misses (slice_get r.slots.items n) };
+    ghost count = { λ r n. slot_faults D.count r.misses (slice_get r.slots.items n) };
 
     ghost can_take = { λ r n. IsNotOut (slice_get r.slots.items n) };
 
@@ -84,10 +84,10 @@ impl<D: Disk + Drop> Rack for MemRack<D> {
 
     fn take(&mut self, node: NodeId) -> Result<D, Failed>
         requires { IsNotOut (slice_get self.old.slots.items node) }
-        ensures taken { IfOk result (λ d. (slice_get self.old.slots.items node ≡ Some (Slot.In d)) × (self.new.slots.items ≡ slice_set self.old.slots.items node (Slot.Out (D.count d)))) }
+        ensures taken { IfOk result (λ d. (slice_get self.old.slots.items node ≡ Some (DiskSlot.In d)) × (self.new.slots.items ≡ slice_set self.old.slots.items node (DiskSlot.Out (D.count d)))) }
         ensures out { IfOk result (λ d. (k : ℕ) → D.count d ≤ k → IsOutBelow (slice_get self.new.slots.items node) k) }
         ensures same { OnErr result (self.new.slots ≡ self.old.slots) }
-        ensures later { (n : ℕ) → count_in D.count self.old.misses (slice_get self.old.slots.items n) ≤ count_in D.count self.new.misses (slice_get self.new.slots.items n) }
+        ensures later { (n : ℕ) → slot_faults D.count self.old.misses (slice_get self.old.slots.items n) ≤ slot_faults D.count self.new.misses (slice_get self.new.slots.items n) }
 
         // It fails exactly where the rack has no place for the node.
         ensures exact { FailsWhere (is_none (slice_get self.old.slots.items node)) self.old.misses self.new.misses result }
@@ -103,7 +103,7 @@ impl<D: Disk + Drop> Rack for MemRack<D> {
 
     fn put(&mut self, node: NodeId, disk: D)
         requires { IsOutBelow (slice_get self.old.slots.items node) (D.count disk) }
-        ensures back { self.new.slots.items ≡ slice_set self.old.slots.items node (Slot.In disk) }
+        ensures back { self.new.slots.items ≡ slice_set self.old.slots.items node (DiskSlot.In disk) }
         ensures count { self.new.misses ≡ self.old.misses }
     {
         let slot = &mut self.slots[node.0 as usize];

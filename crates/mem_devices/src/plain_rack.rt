@@ -1,6 +1,6 @@
 // A rack in memory whose disks never fail.
 ghost use Rattle.std.specs.Prelude.{◌≡◌, ◌≤◌, ◌<◌, ℕ, [], true, length, slice_get, IfOk};
-ghost use Rattle.mem_devices.specs.Places.{disk_in, faults_at, IsIn, IsOut};
+ghost use Rattle.mem_devices.specs.Places.{disk_in, faults_at, HasNoDiskOut, IsOut};
 
 use crate::PlainDisk;
 use base_types::NodeId;
@@ -30,11 +30,11 @@ fn empty_disk(alloc: Global, of_node: bool, capacity: usize) -> Result<PlainDisk
 }
 
 impl PlainRack {
-    ghost use Rattle.mem_devices.specs.PlainRacks.{AllIn, IsEmptyAt};
+    ghost use Rattle.mem_devices.specs.PlainRacks.{NoPlainDiskOut, IsEmptyAt};
 
     /// An empty disk with so much room for each of so many nodes, and disks without room in the places behind them.
     pub fn new(alloc: Global, nodes: u32, capacity: usize) -> Result<PlainRack, AllocError>
-        ensures all { IfOk result AllIn }
+        ensures all { IfOk result NoPlainDiskOut }
         ensures empty { IfOk result (λ r. (n : ℕ) → n < nodes → n < 80 → IsEmptyAt r capacity n) }
     {
         let mut places = Vec::with_capacity(alloc, PLACES as usize)?;
@@ -53,7 +53,7 @@ impl Rack for PlainRack {
 
     ghost count = { λ r n. faults_at r.misses n };
 
-    ghost can_take = { λ r n. IsIn (slice_get r.places.items n) };
+    ghost can_take = { λ r n. HasNoDiskOut (slice_get r.places.items n) };
 
     ghost can_put = { λ r n k. IsOut (slice_get r.places.items n) };
 

@@ -19,9 +19,9 @@ pub on_err : {T E P Q : Type 0} (r : Result T E) → OnErr r P → (P → Q) →
 on_err (Ok a) p f = tt
 on_err (Err e) p f = f p
 
-pub either : {T E P Q R : Type 0} (r : Result T E) → OnOk r P → OnErr r Q → (P → R) → (Q → R) → R
-either (Ok a) p q f g = f p
-either (Err e) p q f g = g q
+pub by_result : {T E P Q R : Type 0} (r : Result T E) → OnOk r P → OnErr r Q → (P → R) → (Q → R) → R
+by_result (Ok a) p q f g = f p
+by_result (Err e) p q f g = g q
 
 pub matched : {T E P Q : Type 0} {L : E → Type 0} {A : T → Type 0} {B : E → Type 0} (r : Result T E) → OnOk r P → OnErr r Q → IfErr r L → (P → (a : T) → A a) → (Q → (e : E) → L e → B e) → MatchResult r A B
 matched (Ok a) p q l f g = f p a
@@ -32,12 +32,12 @@ module _ {D : Type 0} {G : Ghosts D} where
   pub pushed : (old new : RecordLog D G) (r : Record) → HasKept old new r → reverse new.records.items ≡ r ∷ reverse old.records.items
   pushed old new r kept = ap reverse kept.records ∙ reverse-append old.records.items (r ∷ [])
 
-  pub appends : (old new : RecordLog D G) (opened since : ℕ) (flight landed : Option Record) (r : Record) → HasKept old new r → since ≡ opened → landed ≡ flight
+  pub shown_appends : (old new : RecordLog D G) (opened since : ℕ) (flight landed : Option Record) (r : Record) → HasKept old new r → since ≡ opened → landed ≡ flight
       → Appends (sight (shown old opened flight)) (sight (shown new since landed)) (reverse old.records.items) r
-  appends old new opened since flight landed r kept when same =
+  shown_appends old new opened since flight landed r kept when same =
       record { node = record { header = kept.header; opened = when; capacity = kept.limit; later = kept.later }; seen = pushed old new r kept; flight = same }
 
-  pub fails : (old new : RecordLog D G) (opened since : ℕ) (flight landed : Option Record) (r : Record) → HasBroken old new → since ≡ opened → landed ≡ Some r
+  pub shown_fails : (old new : RecordLog D G) (opened since : ℕ) (flight landed : Option Record) (r : Record) → HasBroken old new → since ≡ opened → landed ≡ Some r
       → Fails (sight (shown old opened flight)) (sight (shown new since landed)) (reverse old.records.items) r
-  fails old new opened since flight landed r broken when same =
+  shown_fails old new opened since flight landed r broken when same =
       record { node = record { header = broken.header; opened = when; capacity = broken.limit; later = broken.later }; seen = ap reverse broken.records; flight = same; rose = broken.rose }

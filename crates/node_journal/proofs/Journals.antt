@@ -19,15 +19,15 @@ in_grammar h (r ∷ []) is = All-cons (IsInGrammar h) r [] is.1.0 (All-nil (IsIn
 in_grammar h (r ∷ (q ∷ past)) is = All-cons (IsInGrammar h) r (q ∷ past) is.0.0 (in_grammar h (q ∷ past) is.1)
 
 -- a journal with a record more
-pub goes_on : (h : Header) (J : List Record) (r : Record) → IsJournal h J → After h J r → IsJournal h (r ∷ J)
-goes_on h [] r is next = absurd is
-goes_on h (q ∷ past) r is next = (next, is)
+pub journal_goes_on : (h : Header) (J : List Record) (r : Record) → IsJournal h J → After h J r → IsJournal h (r ∷ J)
+journal_goes_on h [] r is next = absurd is
+journal_goes_on h (q ∷ past) r is next = (next, is)
 
 -- the first record of those that a journal may hold is one
 pub first_journal : (h : Header) (r : Record) (later : List Record) → MayHold h (r ∷ later) → IsJournal h (r ∷ [])
 first_journal h r later may = begins r may.0 (grammar_of h (r ∷ later) may 0 r (omega arith))
   where
-    begins : (r : Record) → exact.IsFirst r → IsInGrammar h r → IsJournal h (r ∷ [])
+    begins : (r : Record) → exact.IsFirstRecord r → IsInGrammar h r → IsJournal h (r ∷ [])
     begins (Genesis header hs) first grammar = (tt, (grammar, refl))
     begins (Start header) first grammar = (tt, (grammar, refl))
     begins (Lock stamp b es) first grammar = absurd first

@@ -16,16 +16,16 @@ use Rattle.node_journal.specs.Nodes.{NodeOf, HoldsJournal, OpensToSeen, IsLeftBe
 use Rattle.node_journal.specs.Shown.{shown, opened_view}
 
 -- a call that writes nothing
-pub still : {D : Type 0} (G : Ghosts D) (s : NodeOf D) → ((c : List ℕ) → IsTrue (G.tells_past s.disk) → G.images_since s.disk (G.moment s.disk) c → G.images s.disk c)
+pub leaves_as_it_was : {D : Type 0} (G : Ghosts D) (s : NodeOf D) → ((c : List ℕ) → IsTrue (G.tells_past s.disk) → G.images_since s.disk (G.moment s.disk) c → G.images s.disk c)
     → HoldsJournal G s → LeavesBetween G s s
-still G s only_now holds = started G.tells_past G.moment G.images_since G.images s.disk (IsLeftBetween s s) only_now (λ c image. inl (holds.each c image))
+leaves_as_it_was G s only_now holds = started G.tells_past G.moment G.images_since G.images s.disk (IsLeftBetween s s) only_now (λ c image. inl (holds.each c image))
 
 -- the same, seen in another way
-pub still_seen : {D : Type 0} (G : Ghosts D) (s t : NodeOf D) → t ≡ s → ((c : List ℕ) → IsTrue (G.tells_past s.disk) → G.images_since s.disk (G.moment s.disk) c → G.images s.disk c)
+pub leaves_as_seen : {D : Type 0} (G : Ghosts D) (s t : NodeOf D) → t ≡ s → ((c : List ℕ) → IsTrue (G.tells_past s.disk) → G.images_since s.disk (G.moment s.disk) c → G.images s.disk c)
     → HoldsJournal G s → LeavesBetween G s t
-still_seen {D} G s t same only_now holds =
+leaves_as_seen {D} G s t same only_now holds =
     let P : NodeOf D → Type 0 = λ x. LeavesBetween G s x in
-    subst P (sym same) (still G s only_now holds)
+    subst P (sym same) (leaves_as_it_was G s only_now holds)
 
 module _ {D : Type 0} {G : Ghosts D} where
   seen : (l : RecordLog D G) (opened : ℕ) (flight : Option Record) (c : List ℕ) → flight ≡ None → Opens (bodies_of l.records.items) c → OpensToSeen (shown l opened flight) c

@@ -6,7 +6,7 @@ use Rattle.cbdc_model.specs.Records.{Header, Record}
 use Rattle.cbdc_model.specs.After.{After, IsJournal}
 use Rattle.cbdc_model.specs.Room.{kept_room}
 use Rattle.node_journal.specs.Opening.{IsPlayed}
-use Rattle.node_journal.proofs.Journals.{goes_on, in_grammar}
+use Rattle.node_journal.proofs.Journals.{journal_goes_on, in_grammar}
 use Rattle.node_journal.proofs.Kept.{kept_small}
 
 -- what a core says of a record that may be next
@@ -25,7 +25,7 @@ module _ {C : Type 0} {header : C → Header} {stands : C → List Record → Ty
   plays h core mid new J r given is next tells same room after now = record {
     header = after ∙ same ∙ is.header;
     stands = now;
-    journal = goes_on h J r is.journal ((told h core J r given is tells).0 next);
+    journal = journal_goes_on h J r is.journal ((told h core J r given is tells).0 next);
     kind = is.kind;
   }
 

@@ -16,7 +16,7 @@ use Rattle.gate_journal.specs.Rows.{row, rows, filling}
 use Rattle.gate_journal.proofs.Once.{tail_is, row_once, end_len}
 use Rattle.record_log.specs.Bodies.{body_of}
 use Rattle.record_log.proofs.Grammar.{one_body}
-use Rattle.record_log.specs.Held.{bodies_of, OpensTo, IsOpen, HasRow, CutsOff, MayHold}
+use Rattle.record_log.specs.Held.{bodies_of, OpensTo, IsGateOpen, HasRow, CutsOff, MayHold}
 use Rattle.record_log.specs.LogReading.{IsNoLog}
 use Rattle.record_log.specs.declared.opening.NoLog.TheVariants.{Fault}
 use Rattle.record_log.proofs.LogSizes.{body_small, limits_of, grammar_of, rows_size}
@@ -53,7 +53,7 @@ rows_at before next rest tail =
     ∙ append_assoc (rows (bodies_of before)) (row (body_of next) ++ rows (bodies_of rest)) tail
     ∙ ap (λ (l : List ℕ). rows (bodies_of before) ++ l) (append_assoc (row (body_of next)) (rows (bodies_of rest)) tail)
 
-open_some : (rest : List ℕ) → IsOpen rest → 1 ≤ length rest
+open_some : (rest : List ℕ) → IsGateOpen rest → 1 ≤ length rest
 open_some [] is = absurd is
 open_some (gate ∷ rest) is = omega arith
 

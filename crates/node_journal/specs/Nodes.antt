@@ -6,7 +6,7 @@ use Rattle.cbdc_model.specs.Records.{Header, Record}
 use Rattle.cbdc_model.specs.Sights.{Sight}
 use Rattle.outside.specs.Images.{Leaves}
 use Rattle.outside.specs.declared.disk.Disk.{Ghosts}
-use Rattle.record_log.specs.Held.{Holds, OpensToEither}
+use Rattle.record_log.specs.Held.{HoldsRecords, OpensToEither}
 
 -- its header, its journal, newest first, a record that a failed call may have left on its disk or not, how often its disk has failed, how often it had
 -- when the node was opened, and behind an append that has failed since, the place of the journal's closing gate, how many bytes the disk may hold, and
@@ -29,7 +29,7 @@ sight n = record { header = n.header; seen = n.journal; flight = n.flight; fault
 -- each image of its disk is the journal, with the record in flight or without; and the disk reads as the journal until an append fails
 pub record HoldsJournal {D : Type 0} (device : Ghosts D) (n : NodeOf D) : Type 0 where
   pub each : (c : List ℕ) → device.images n.disk c → OpensToEither (reverse n.journal) n.flight c
-  pub reads : n.broken ≡ None → Holds (device.content n.disk) (device.images n.disk) n.gate (reverse n.journal)
+  pub reads : n.broken ≡ None → HoldsRecords (device.content n.disk) (device.images n.disk) n.gate (reverse n.journal)
 
 -- these bytes open to the journal that is seen, with what is in flight or without
 abbrev pub OpensToSeen : {D : Type 0} → NodeOf D → List ℕ → Type 0

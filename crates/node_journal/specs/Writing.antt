@@ -5,7 +5,7 @@ use Rattle.outside.specs.Counts.{Rose}
 use Rattle.outside.specs.declared.disk.Disk.{Ghosts}
 use Rattle.gate_journal.specs.Shown.{disk_of, gate_of, broken_of}
 use Rattle.record_log.specs.Bodies.{body_of}
-use Rattle.record_log.specs.Logs.{HasRoom}
+use Rattle.record_log.specs.Logs.{HasLogRoom}
 use Rattle.record_log.specs.declared.log.RecordLog.{RecordLog}
 
 -- the record was written, and is kept behind the others
@@ -16,7 +16,7 @@ pub record HasKept {D : Type 0} {G : Ghosts D} (old new : RecordLog D G) (r : Re
   pub broken : broken_of new.journal ≡ None
   pub limit : G.limit (disk_of new.journal) ≡ G.limit (disk_of old.journal)
   pub later : G.count (disk_of old.journal) ≤ G.count (disk_of new.journal)
-  pub room : (count bytes : ℕ) → HasRoom old (count + 1) bytes → HasRoom new count bytes
+  pub room : (count bytes : ℕ) → HasLogRoom old (count + 1) bytes → HasLogRoom new count bytes
 
 -- the disk failed at it
 pub record HasBroken {D : Type 0} {G : Ghosts D} (old new : RecordLog D G) : Type 0 where

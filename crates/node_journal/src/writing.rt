@@ -2,7 +2,7 @@
 ghost use Rattle.std.specs.Prelude.{◌≡◌, ◌+◌, ◌≤◌, ℕ, None, Some, length, OnOk, OnErr, IfErr};
 ghost use Rattle.gate_journal.specs.Shown.{disk_of, gate_of, broken_of};
 ghost use Rattle.record_log.specs.Bodies.{body_of};
-ghost use Rattle.record_log.specs.Logs.{HasRoom};
+ghost use Rattle.record_log.specs.Logs.{HasLogRoom};
 ghost use Rattle.node_journal.specs.Nodes.{HoldsJournal, LeavesBetween};
 ghost use Rattle.node_journal.specs.Shown.{shown};
 ghost use Rattle.node_journal.specs.Writing.{HasKept, HasBroken};
@@ -22,7 +22,7 @@ pub fn write_next<C: Core, D: Disk>(
     next: Record,
 ) -> Result<(), NodeFault>
     requires admitted { C.admits core.old next }
-    requires memory { HasRoom log.old 1 (length (body_of next)) }
+    requires memory { HasLogRoom log.old 1 (length (body_of next)) }
     requires whole { broken_of log.old.journal ≡ None }
     requires landed { flight.old ≡ None }
     requires room { gate_of log.old.journal + 1 + (9 + length (body_of next)) ≤ D.limit (disk_of log.old.journal) }

@@ -74,8 +74,8 @@ module _ (old new : Sight) (lane stamp : ℕ) where
     pub prepared_phase : (slot new.seen lane).phase ≡ InPrepare
     prepared_phase = ap (λ J. (slot J lane).phase) seen ∙ ap (λ s. s.phase) (own_slot lane number InPrepare (slot J lane))
 
-    pub prepared_txs : txs_of new.seen (open_batch new.seen lane) ≡ txs
-    prepared_txs = ap (λ J. txs_of J (open_batch J lane)) seen ∙ (ap (λ s. txs_of (Prepare stamp B txs ∷ J) (named lane s)) (own_slot lane number InPrepare (slot J lane)) ∙ own_txs stamp B txs J)
+    pub prepared_txs_are : txs_of new.seen (open_batch new.seen lane) ≡ txs
+    prepared_txs_are = ap (λ J. txs_of J (open_batch J lane)) seen ∙ (ap (λ s. txs_of (Prepare stamp B txs ∷ J) (named lane s)) (own_slot lane number InPrepare (slot J lane)) ∙ own_txs stamp B txs J)
 
     pub prepared_rest : KeepsRest old new lane
     prepared_rest = rest old new lane (Prepare stamp B txs) seen (λ l ne. other_slot lane number InPrepare (slot J l) l ne) (λ b ne. other_txs stamp B b txs J ne)

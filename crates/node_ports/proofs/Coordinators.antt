@@ -19,10 +19,10 @@ use Rattle.lane_driver.proofs.Causing.{commit_caused}
 use Rattle.coord_core.specs.Decided.{AreRepliesTo}
 use Rattle.coord_log.specs.Logs.{commit_due}
 use Rattle.node_ports.specs.Nodes.{KeepsRest}
-use Rattle.node_ports.proofs.Owed.{same_node, Wrote, wrote, wrote_room}
+use Rattle.node_ports.proofs.Owed.{meets_same_node, HasWrittenOwed, ok_was_written, wrote_room}
 use Rattle.node_ports.proofs.Rises.{rises}
-use Rattle.node_ports.proofs.Stamps.{newest, found_below, below_newest}
-use Rattle.node_ports.proofs.Appended.{prepared_phase, prepared_txs, prepared_rest, committed_phase, committed_outcomes, committed_rest, discarded_phase, discarded_rest, done_phase, done_rest}
+use Rattle.node_ports.proofs.Stamps.{newest_after, found_below, below_newest}
+use Rattle.node_ports.proofs.Appended.{prepared_phase, prepared_txs_are, prepared_rest, committed_phase, committed_outcomes, committed_rest, discarded_phase, discarded_rest, done_phase, done_rest}
 
 -- ---- any call: nothing came between it and the one before
 
@@ -55,7 +55,7 @@ told_alone lane m due broken old new result meets journal since_opened since who
   found = old.seen;
   broken = broken;
   finds = record { more = []; is = refl; between = tt };
-  since = broken_on old.opened old.faults new.faults broken (same_node m (due broken old.seen) old new old.seen result meets).later since;
+  since = broken_on old.opened old.faults new.faults broken (meets_same_node m (due broken old.seen) old new old.seen result meets).later since;
   whole = whole;
   unbroken = λ alone. unbroken;
   since_opened = since_opened;
@@ -65,10 +65,10 @@ told_alone lane m due broken old new result meets journal since_opened since who
 }
 
 pub later_of : {A : Type 0} (m : Bool) (due : Due A) (old new : Sight) (result : Result A NodeFault) → Meets m due old new old.seen result → old.faults ≤ new.faults
-later_of m due old new result meets = (same_node m due old new old.seen result meets).later
+later_of m due old new result meets = (meets_same_node m due old new old.seen result meets).later
 
-pub header_of : {A : Type 0} (m : Bool) (due : Due A) (old new : Sight) (result : Result A NodeFault) → Meets m due old new old.seen result → new.header ≡ old.header
-header_of m due old new result meets = (same_node m due old new old.seen result meets).header
+pub header_stays : {A : Type 0} (m : Bool) (due : Due A) (old new : Sight) (result : Result A NodeFault) → Meets m due old new old.seen result → new.header ≡ old.header
+header_stays m due old new result meets = (meets_same_node m due old new old.seen result meets).header
 
 -- ---- answers
 
@@ -103,27 +103,27 @@ module _ (lane : ℕ) (txs : List Compact) (broken : Option ℕ) (old new : Sigh
   abbrev fresh : Record
   fresh = prepare_record old.seen lane txs
 
-  prepare_wrote : (a : Batch × ℕ) → result ≡ Ok a → Wrote a (new_batch old.seen lane, first_stamp) fresh first_stamp last_early new old.seen
+  prepare_wrote : (a : Batch × ℕ) → result ≡ Ok a → HasWrittenOwed a (new_batch old.seen lane, first_stamp) fresh first_stamp last_early new old.seen
   prepare_wrote a e =
       wrote_room true broken last_early first_stamp (used_of old.seen) (need_of old.header.shape old.seen fresh) old.capacity (new_batch old.seen lane, first_stamp) fresh old new old.seen a
       (subst (λ r. Meets true (prepare_due old.header.shape old.capacity lane txs broken old.seen) old new old.seen r) e meets)
 
   named_batch : (J : List Record) → new.seen ≡ fresh ∷ J → IsJournal new.header new.seen → new.header ≡ old.header → first_stamp ≤ last_early → IsPreparedBatch old.header.shape lane (new_batch old.seen lane, first_stamp)
   named_batch J seen journal header within =
-      let after = newest new.header fresh J (subst (λ x. IsJournal new.header x) seen journal) in
+      let after = newest_after new.header fresh J (subst (λ x. IsJournal new.header x) seen journal) in
       record { lane_is = refl; batch = subst (λ h. (lane < h.shape.coordinators * h.shape.lanes) × (1 ≤ suc (slot old.seen lane).number) × (suc (slot old.seen lane).number ≤ 2 ^ 62)) header after.0.1; stamp = omega arith }
 
   pub prepare_named : IsJournal new.header new.seen → IfOk result (IsPreparedBatch old.header.shape lane)
   prepare_named journal = on_ok result (IsPreparedBatch old.header.shape lane) (λ a e.
       (let w = prepare_wrote a e in
       subst (λ a. IsPreparedBatch old.header.shape lane a) (sym w.is)
-      (named_batch old.seen w.seen journal (header_of true (prepare_due old.header.shape old.capacity lane txs broken old.seen) old new result meets) w.within)))
+      (named_batch old.seen w.seen journal (header_stays true (prepare_due old.header.shape old.capacity lane txs broken old.seen) old new result meets) w.within)))
 
   pub prepare_phase : OnOk result ((slot new.seen lane).phase ≡ InPrepare)
   prepare_phase = on_ok result (λ a. (slot new.seen lane).phase ≡ InPrepare) (λ a e. prepared_phase old new lane first_stamp txs (suc (slot old.seen lane).number) (prepare_wrote a e).seen)
 
   pub prepare_txs : OnOk result (txs_of new.seen (open_batch new.seen lane) ≡ txs)
-  prepare_txs = on_ok result (λ a. txs_of new.seen (open_batch new.seen lane) ≡ txs) (λ a e. prepared_txs old new lane first_stamp txs (suc (slot old.seen lane).number) (prepare_wrote a e).seen)
+  prepare_txs = on_ok result (λ a. txs_of new.seen (open_batch new.seen lane) ≡ txs) (λ a e. prepared_txs_are old new lane first_stamp txs (suc (slot old.seen lane).number) (prepare_wrote a e).seen)
 
   pub prepare_rest : KeepsRest old new lane
   prepare_rest = on_either result (KeepsRest old new lane) (λ a e. prepared_rest old new lane first_stamp txs (suc (slot old.seen lane).number) (prepare_wrote a e).seen)
@@ -168,8 +168,8 @@ module _ (lane cause : ℕ) (broken : Option ℕ) (old new : Sight) (result : Re
   stamp = next_stamp old.seen cause
 
   module _ (meets : Meets false (discard_due lane cause broken old.seen) old new old.seen result) where
-    discard_wrote : (t : ℕ) → result ≡ Ok t → Wrote t stamp (discard_record lane cause old.seen) stamp last_late new old.seen
-    discard_wrote t e = wrote false broken last_late stamp stamp (discard_record lane cause old.seen) old new old.seen t (subst (λ r. Meets false (discard_due lane cause broken old.seen) old new old.seen r) e meets)
+    discard_wrote : (t : ℕ) → result ≡ Ok t → HasWrittenOwed t stamp (discard_record lane cause old.seen) stamp last_late new old.seen
+    discard_wrote t e = ok_was_written false broken last_late stamp stamp (discard_record lane cause old.seen) old new old.seen t (subst (λ r. Meets false (discard_due lane cause broken old.seen) old new old.seen r) e meets)
 
     pub discard_stamp : IfOk result IsStamp
     discard_stamp = on_ok result IsStamp (λ t e. small t stamp (discard_wrote t e).is (discard_wrote t e).within)
@@ -182,8 +182,8 @@ module _ (lane cause : ℕ) (broken : Option ℕ) (old new : Sight) (result : Re
         (fault_rest lane false (discard_due lane cause broken old.seen) old new result meets)
 
   module _ (meets : Meets false (done_due lane cause broken old.seen) old new old.seen result) where
-    done_wrote : (t : ℕ) → result ≡ Ok t → Wrote t stamp (done_record lane cause old.seen) stamp last_late new old.seen
-    done_wrote t e = wrote false broken last_late stamp stamp (done_record lane cause old.seen) old new old.seen t (subst (λ r. Meets false (done_due lane cause broken old.seen) old new old.seen r) e meets)
+    done_wrote : (t : ℕ) → result ≡ Ok t → HasWrittenOwed t stamp (done_record lane cause old.seen) stamp last_late new old.seen
+    done_wrote t e = ok_was_written false broken last_late stamp stamp (done_record lane cause old.seen) old new old.seen t (subst (λ r. Meets false (done_due lane cause broken old.seen) old new old.seen r) e meets)
 
     pub done_stamp : IfOk result IsStamp
     done_stamp = on_ok result IsStamp (λ t e. small t stamp (done_wrote t e).is (done_wrote t e).within)

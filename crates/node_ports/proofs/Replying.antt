@@ -17,7 +17,7 @@ use Rattle.cbdc_model.specs.Sights.{Sight, Told}
 use Rattle.lane_laws.proofs.Dues.{lock_wrote, lock_kept, lock_new, lock_stored, stamp_wrote, stamp_kept, finish_new, finish_stored, forget_new, forget_stored}
 use Rattle.lane_laws.proofs.Tellings.{Wrote, Stood, told_ok}
 use Rattle.lane_driver.specs.Told.{IsStamp}
-use Rattle.node_ports.proofs.Stamps.{newest, entries_reply, last_within, found_within, locks_reply}
+use Rattle.node_ports.proofs.Stamps.{newest_after, entries_reply, last_within, found_within, locks_reply}
 
 small : (t stamp : ℕ) → t ≡ stamp → stamp ≤ 2 ^ 62 + 2 ^ 20 → IsStamp t
 small t stamp e le = omega arith
@@ -46,7 +46,7 @@ module _ (c : LockCall) (K : Shape) (capacity : ℕ) (old new : Sight) (journal 
       let j : IsJournal new.header (lock_record w.found c ∷ w.found) = subst (λ r. IsJournal new.header (r ∷ w.found)) wrote.3 (subst (λ x. IsJournal new.header x) w.seen journal) in
       subst (λ a. IsGood new.header a) (sym (wrote.2 ∙ ap replied_of is.1)) (
         small (next_stamp w.found c.cause) (next_stamp w.found c.cause) refl (last_within new.header (lock_record w.found c ∷ w.found) j),
-        entries_reply new.header (lock_record w.found c) (newest new.header (lock_record w.found c) w.found j).0,
+        entries_reply new.header (lock_record w.found c) (newest_after new.header (lock_record w.found c) w.found j).0,
       )
 
 pub lock_replies : (c : LockCall) (old new : Sight) (result : Result Replied NodeFault) → Told true c.batch.lane true (lock_due old.header.shape old.capacity c) old new result

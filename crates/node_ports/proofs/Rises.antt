@@ -8,31 +8,31 @@ use Rattle.cbdc_model.specs.Grammar.{IsReply}
 use Rattle.lane_driver.specs.Calls.{IsRising, AllAbove}
 use Rattle.lane_driver.specs.Told.{AreShards}
 use Rattle.coord_core.specs.Hashes.{NamesBatch, AllNameBatches}
-use Rattle.coord_core.specs.Decided.{RisesBelow, AllEarlier}
+use Rattle.coord_core.specs.Decided.{ShardsRise, StampsBelow}
 
 -- the first is not below
-abbrev pub Begins : ℕ → List ShardReplies → Type 0
-Begins low [] = Unit {0}
-Begins low (r ∷ rs) = low < suc r.shard
+abbrev pub BeginsFrom : ℕ → List ShardReplies → Type 0
+BeginsFrom low [] = Unit {0}
+BeginsFrom low (r ∷ rs) = low < suc r.shard
 
-pub begins_after : (n : ℕ) (rs : List ShardReplies) → AllAbove (λ r. r.shard) n rs → Begins (suc n) rs
+pub begins_after : (n : ℕ) (rs : List ShardReplies) → AllAbove (λ r. r.shard) n rs → BeginsFrom (suc n) rs
 begins_after n [] above = tt
 begins_after n (r ∷ rs) above = omega (arith, above.0)
 
-pub rises_below : (low limit : ℕ) (rs : List ShardReplies) → Begins low rs → IsRising (λ r. r.shard) rs → All (λ r. r.shard < limit) rs → RisesBelow low limit rs
+pub rises_below : (low limit : ℕ) (rs : List ShardReplies) → BeginsFrom low rs → IsRising (λ r. r.shard) rs → All (λ r. r.shard < limit) rs → ShardsRise low limit rs
 rises_below low limit [] begins rising below = tt
 rises_below low limit (r ∷ rs) begins rising below =
     (begins, All-head (λ r. r.shard < limit) r rs below, rises_below (suc r.shard) limit rs (begins_after r.shard rs rising.0) rising.1 (All-tail (λ r. r.shard < limit) r rs below))
 
-pub begins_low : (rs : List ShardReplies) → Begins 0 rs
+pub begins_low : (rs : List ShardReplies) → BeginsFrom 0 rs
 begins_low [] = tt
 begins_low (r ∷ rs) = omega arith
 
-pub all_earlier : (limit : ℕ) (rs : List ShardReplies) → All (λ r. r.stamp < limit) rs → AllEarlier limit rs
+pub all_earlier : (limit : ℕ) (rs : List ShardReplies) → All (λ r. r.stamp < limit) rs → StampsBelow limit rs
 all_earlier limit [] all = tt
 all_earlier limit (r ∷ rs) all = (All-head (λ r. r.stamp < limit) r rs all, all_earlier limit rs (All-tail (λ r. r.stamp < limit) r rs all))
 
-pub rises : (shards : ℕ) (rs : List ShardReplies) → AreShards (λ r. r.shard) shards rs → RisesBelow 0 shards rs
+pub rises : (shards : ℕ) (rs : List ShardReplies) → AreShards (λ r. r.shard) shards rs → ShardsRise 0 shards rs
 rises shards rs are = rises_below 0 shards rs (begins_low rs) are.0 are.1
 
 names_one : (K : Shape) (r : Reply) → IsReply K r → NamesBatch K r

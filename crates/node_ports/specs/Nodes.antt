@@ -10,8 +10,8 @@ use Rattle.lane_driver.specs.Told.{KeepsOtherLanes}
 use Rattle.node_journal.specs.Nodes.{NodeOf, HoldsJournal}
 
 -- a node that isn't there: its ledger has no lanes
-abbrev pub no_node : Sight
-no_node = record {
+abbrev pub no_sight : Sight
+no_sight = record {
   header = record { node = 0; shape = record { shards = 0; coordinators = 0; lanes = 0; batch = 0 }; genesis = [] };
   seen = [];
   flight = None;
@@ -22,7 +22,7 @@ no_node = record {
 
 -- what is seen of the node at a place
 abbrev pub sight_at : {N : Type 0} → (N → Sight) → List N → ℕ → Sight
-sight_at sight [] n = no_node
+sight_at sight [] n = no_sight
 sight_at sight (x ∷ xs) zero = sight x
 sight_at sight (x ∷ xs) (suc n) = sight_at sight xs n
 

@@ -1,9 +1,9 @@
 // Calls at coordinators and shards on their disks.
 ghost use Rattle.std.specs.Prelude.{◌↔◌, ◌≤◌, ◌^◌, IsTrue, All};
-ghost use Rattle.coord_core.specs.Decided.{RisesBelow, AllEarlier};
+ghost use Rattle.coord_core.specs.Decided.{ShardsRise, StampsBelow};
 ghost use Rattle.coord_core.specs.Hashes.{NamesBatch, AllNameBatches};
-ghost use Rattle.coord_core.specs.Lanes.{IsOwn};
-ghost use Rattle.coord_log.specs.Logs.{IsShort};
+ghost use Rattle.coord_core.specs.Lanes.{IsOwnLane};
+ghost use Rattle.coord_log.specs.Logs.{HasShortLists};
 
 use crate::state::Node;
 use cbdc_types::{
@@ -87,20 +87,20 @@ fn call_shard(known: &Known, shard: &mut ShardNode<FaultDisk>, words: &[&str], t
 
 // Whether the lane is one of this coordinator.
 fn is_own(header: &Header, lane: LaneId) -> bool
-    ensures { IsTrue result → IsOwn header.now lane }
+    ensures { IsTrue result → IsOwnLane header.now lane }
 {
     let shape = header.shape;
     lane.0 / shape.lanes() == header.node.0
 }
 
 fn is_short(tx: &CompactTx) -> bool
-    ensures { IsTrue result ↔ IsShort tx.now }
+    ensures { IsTrue result ↔ HasShortLists tx.now }
 {
     tx.inputs.len() <= 255 && tx.outputs.len() <= 255
 }
 
 fn are_short(txs: &[CompactTx]) -> bool
-    ensures { IsTrue result ↔ All IsShort txs.now }
+    ensures { IsTrue result ↔ All HasShortLists txs.now }
 {
     txs.iter().all(|tx| is_short(tx))
 }
@@ -181,8 +181,8 @@ fn all_name(shape: &Shape, replies: &[Reply]) -> bool
 
 /// Whether a batch of this shape may be decided by these replies, of one shard alone.
 pub fn may_decide(shape: &Shape, replies: &[ShardReplies]) -> bool
-    ensures rising { IsTrue result → RisesBelow 0 shape.now.shards replies.now }
-    ensures earlier { IsTrue result → AllEarlier (2 ^ 63) replies.now }
+    ensures rising { IsTrue result → ShardsRise 0 shape.now.shards replies.now }
+    ensures earlier { IsTrue result → StampsBelow (2 ^ 63) replies.now }
     ensures named { IsTrue result → AllNameBatches shape.now replies.now }
 {
     if replies.len() != 1 {

@@ -1,5 +1,5 @@
 // A rack, a sink, an inbox and gates in memory.
-ghost use Rattle.mem_devices.specs.Racks.{AllIn};
+ghost use Rattle.mem_devices.specs.Racks.{NoneOut};
 
 use crate::pieces::bytes_of;
 use cbdc_types::NodeId;
@@ -49,7 +49,7 @@ fn tell_places(told: &mut Told, rack: &MemRack<PlainDisk>, last: usize) {
 
 // Takes a node's disk out and puts it back.
 fn take_out(rack: &mut MemRack<PlainDisk>, node: NodeId, last: usize, told: &mut Told)
-    requires all { AllIn rack.old }
+    requires all { NoneOut rack.old }
 {
     match rack.take(node) {
         Ok(disk) => {

@@ -2,7 +2,7 @@
 use crate::state::Tables;
 use cbdc_types::{Answered, LaneId, List, Record, Reply, Stamp};
 use row_records::{Known, Told, part, record, rest};
-use shard_core::{Slot, Slots, answered};
+use shard_core::{LaneSlot, Slots, answered};
 
 /// `slots LANES`: idle ones.
 pub fn make_slots(tables: &mut Tables, words: &[&str], told: &mut Told) {
@@ -12,14 +12,14 @@ pub fn make_slots(tables: &mut Tables, words: &[&str], told: &mut Told) {
 }
 
 // A slot: `idle NUMBER STAMP`, `locked NUMBER STAMP NAME@PLACE..`, all of them Held, or `finished NUMBER STAMP STAMP NAME@PLACE..`, all of them Held and committed.
-fn slot(known: &Known, words: &[&str], told: &mut Told) -> Option<Slot> {
+fn slot(known: &Known, words: &[&str], told: &mut Told) -> Option<LaneSlot> {
     let alloc = told.alloc;
     let kind = told.word_at(words, 0);
     let number = told.number_at(words, 1);
     let stamp = Stamp(told.number_at(words, 2));
     if kind == "idle" {
         told.at_most(words, 3);
-        return Some(Slot::Idle(number, stamp));
+        return Some(LaneSlot::Idle(number, stamp));
     }
     let is_locked = kind == "locked";
     let entries = rest(words, if is_locked { 3 } else { 4 });
@@ -27,12 +27,12 @@ fn slot(known: &Known, words: &[&str], told: &mut Told) -> Option<Slot> {
     let own = part(known, &shape, shape.coordinators(), entries, told);
     let held = told.made(vec![in alloc; Reply::Held; own.len()])?;
     if is_locked {
-        return Some(Slot::Locked(number, own, List::from_vec(held), stamp));
+        return Some(LaneSlot::Locked(number, own, List::from_vec(held), stamp));
     }
     told.expect(words, 0, "finished");
     let later = Stamp(told.number_at(words, 3));
     let given = told.made(vec![in alloc; true; own.len()])?;
-    Some(Slot::Finished(
+    Some(LaneSlot::Finished(
         number,
         own,
         List::from_vec(held),
@@ -50,7 +50,7 @@ fn tell_same(told: &mut Told, is_same: bool) {
 }
 
 // Puts a slot in a lane, or looks at what stands there, or takes it out.
-fn at_slot(slots: &mut Slots, action: &str, lane: LaneId, own: Slot, told: &mut Told) {
+fn at_slot(slots: &mut Slots, action: &str, lane: LaneId, own: LaneSlot, told: &mut Told) {
     if lane.0 as usize >= slots.len() {
         told.refuse("no such lane");
         return;

@@ -49,13 +49,13 @@ nothing (r ∷ more) old e = absurd (no_cons r (more ++ old) e)
     no_cons : (r : Record) (J : List Record) → [] ≡ r ∷ J → ⊥
     no_cons r J e = cc
 
-pub chosen : (all : List (List Record)) (M : ℕ → List Record) → ((n : ℕ) → IsEnd (M n) (journals_in all n)) → IsChoice all M
-chosen [] M ends = record { world = []; among = inl refl; is = λ n. nothing (ends n).0 (M n) (past n ∙ (ends n).1) ∙ past n }
+pub is_some_choice : (all : List (List Record)) (M : ℕ → List Record) → ((n : ℕ) → IsEnd (M n) (journals_in all n)) → IsChoice all M
+is_some_choice [] M ends = record { world = []; among = inl refl; is = λ n. nothing (ends n).0 (M n) (past n ∙ (ends n).1) ∙ past n }
   where
     past : (n : ℕ) → [] ≡ journals_in [] n
     past n = grind (arith, common_steps)
-chosen (J ∷ Js) M ends =
-    let rest : IsChoice Js (λ n. M (suc n)) = chosen Js (λ n. M (suc n)) (λ n. ends (suc n)) in
+is_some_choice (J ∷ Js) M ends =
+    let rest : IsChoice Js (λ n. M (suc n)) = is_some_choice Js (λ n. M (suc n)) (λ n. ends (suc n)) in
     record {
       world = M 0 ∷ rest.world;
       among = both_among (M 0) rest.world (ends_of J) (choices Js) (end_among (ends 0).0 (M 0) J (ends 0).1) rest.among;

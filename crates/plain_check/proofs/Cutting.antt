@@ -6,7 +6,7 @@ use Rattle.std.proofs.lemmas.List.{take_min}
 use Rattle.std.specs.Prelude.{IsTrue}
 use Rattle.cbdc_model.specs.Records.{Shape, Compact, Record}
 use Rattle.cbdc_model.specs.Waves.{IsCut, prepared}
-use Rattle.plain_check.specs.Adding.{IsPrepared, AddsPieces}
+use Rattle.plain_check.specs.Adding.{PreparesInPieces, AddsPieces}
 
 taken_none : {A : Type 0} (n : ℕ) (none : List A) → none ≡ [] → length (take n none) ≡ 0
 taken_none n none e = grind (arith, common_steps, e)
@@ -27,7 +27,7 @@ cut_once n xs (a ∷ ps) (b ∷ qs) p q =
 
 -- a lane prepared what it got where its Prepares are the pieces behind the older ones
 pub prepared_by : (K : Shape) (lane n : ℕ) (sent : List Compact) (old new : List Record) (pieces found wanted : List (List Compact)) (told : Bool) → n ≡ K.batch → IsCut n sent pieces
-    → found ≡ prepared lane new → wanted ≡ reverse pieces ++ prepared lane old → (IsTrue told ↔ (found ≡ wanted)) → IsTrue told ↔ IsPrepared K lane sent old new
+    → found ≡ prepared lane new → wanted ≡ reverse pieces ++ prepared lane old → (IsTrue told ↔ (found ≡ wanted)) → IsTrue told ↔ PreparesInPieces K lane sent old new
 prepared_by K lane n sent old new pieces found wanted told size cut f w h =
     let own : IsCut K.batch sent pieces = subst (λ k. IsCut k sent pieces) size cut in (
       λ t. (pieces, own, sym f ∙ h.0 t ∙ w),
@@ -36,9 +36,9 @@ prepared_by K lane n sent old new pieces found wanted told size cut f w h =
 
 -- the same of lists that are the same
 pub prepared_alike : (K : Shape) (lane : ℕ) (sent sent' : List Compact) (old old' new new' : List Record) → sent ≡ sent' → old ≡ old' → new ≡ new'
-    → IsPrepared K lane sent old new → IsPrepared K lane sent' old' new'
+    → PreparesInPieces K lane sent old new → PreparesInPieces K lane sent' old' new'
 prepared_alike K lane sent sent' old old' new new' s o n h =
-    subst (λ l. IsPrepared K lane sent' old' l) n (subst (λ l. IsPrepared K lane sent' l new) o (subst (λ l. IsPrepared K lane l old new) s h))
+    subst (λ l. PreparesInPieces K lane sent' old' l) n (subst (λ l. PreparesInPieces K lane sent' l new) o (subst (λ l. PreparesInPieces K lane l old new) s h))
 
 -- one piece after another
 pub no_pieces : (n : ℕ) (txs : List Compact) (old : List (List Compact)) → txs ≡ [] → AddsPieces n txs old old

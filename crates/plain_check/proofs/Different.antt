@@ -26,8 +26,8 @@ last_set (x ∷ xs) = elim (has xs x) as (λ b. has xs x ≡ b → IsSet (if b t
 ] refl
 
 -- of the unspent hashes, the different ones are counted
-pub counted : (K : Shape) (J : ℕ → List Record) (xs : List Digest) (n : ℕ) → ((x : Digest) → (has xs x ≡ true) ↔ IsUnspent K J x) → n ≡ length (last_ones xs) → IsUnspentCount K J n
-counted K J xs n all e = record {
+pub different_counted : (K : Shape) (J : ℕ → List Record) (xs : List Digest) (n : ℕ) → ((x : Digest) → (has xs x ≡ true) ↔ IsUnspent K J x) → n ≡ length (last_ones xs) → IsUnspentCount K J n
+different_counted K J xs n all e = record {
   hashes = last_ones xs;
   once = last_set xs;
   all = λ x. (λ h. (all x).0 (sym (last_has xs x) ∙ h), λ u. last_has xs x ∙ (all x).1 u);

@@ -5,7 +5,7 @@ use Rattle.cbdc_model.specs.Records.{Digest, same_digest, Shape, Answered, Recor
 use Rattle.cbdc_model.specs.Status.{Status, status, has, made_outputs, returned_inputs, finished_status, Unspent, Locked, Absent}
 use Rattle.cbdc_model.specs.Ranges.{shard_of, shard_node, first_byte}
 use Rattle.cbdc_model.specs.World.{IsUnspent}
-use Rattle.plain_check.specs.Named.{entry_hashes, named, named_below, is_unspent, is_unspent_at, unspent_among}
+use Rattle.plain_check.specs.Named.{entry_hashes, named_hashes, named_below, is_unspent_status, is_unspent_at, unspent_among}
 use Rattle.plain_check.proofs.Digests.{has_append}
 use Rattle.same_records.proofs.Alikeness.{same_digest_is}
 
@@ -24,22 +24,22 @@ finished_in : (es : List Answered) (ds : List Bool) (x : Digest) (before : Statu
     → (before ≡ Unspent → has rest x ≡ true) → has (entry_hashes es ++ rest) x ≡ true
 finished_in es ds x before rest h g = grind (arith, common_steps, has_append (entry_hashes es) rest x, made_in es ds x, returned_in es ds x)
 
-pub unspent_named : (past : List Record) (x : Digest) → status past x ≡ Unspent → has (named past) x ≡ true
+pub unspent_named : (past : List Record) (x : Digest) → status past x ≡ Unspent → has (named_hashes past) x ≡ true
 unspent_named [] x h = cc
-unspent_named (Genesis header hs ∷ past) x h = grind (arith, common_steps, has_append hs (named past) x, unspent_named past x)
+unspent_named (Genesis header hs ∷ past) x h = grind (arith, common_steps, has_append hs (named_hashes past) x, unspent_named past x)
 unspent_named (Lock stamp b es ∷ past) x h = grind (arith, common_steps, unspent_named past x)
-unspent_named (Finish stamp b ds ∷ past) x h = finished_in (lock_of past b) ds x (status past x) (named past) h (unspent_named past x)
+unspent_named (Finish stamp b ds ∷ past) x h = finished_in (lock_of past b) ds x (status past x) (named_hashes past) h (unspent_named past x)
 unspent_named (other ∷ past) x h = unspent_named past x h
 
-named_there : (K : Shape) (J : ℕ → List Record) (x : Digest) (s n : ℕ) → s ≡ n → has (named (J (shard_node K s))) x ≡ true → has (named_below K J (suc n)) x ≡ true
+named_there : (K : Shape) (J : ℕ → List Record) (x : Digest) (s n : ℕ) → s ≡ n → has (named_hashes (J (shard_node K s))) x ≡ true → has (named_below K J (suc n)) x ≡ true
 named_there K J x s n e h =
-    let g : has (named (J (shard_node K n))) x ≡ true = subst (λ m. has (named (J (shard_node K m))) x ≡ true) e h in
-    grind (arith, common_steps, has_append (named (J (shard_node K n))) (named_below K J n) x)
+    let g : has (named_hashes (J (shard_node K n))) x ≡ true = subst (λ m. has (named_hashes (J (shard_node K m))) x ≡ true) e h in
+    grind (arith, common_steps, has_append (named_hashes (J (shard_node K n))) (named_below K J n) x)
 
 named_later : (K : Shape) (J : ℕ → List Record) (x : Digest) (n : ℕ) → has (named_below K J n) x ≡ true → has (named_below K J (suc n)) x ≡ true
-named_later K J x n h = grind (arith, common_steps, has_append (named (J (shard_node K n))) (named_below K J n) x)
+named_later K J x n h = grind (arith, common_steps, has_append (named_hashes (J (shard_node K n))) (named_below K J n) x)
 
-named_at : (K : Shape) (J : ℕ → List Record) (x : Digest) (s n : ℕ) → s < n → has (named (J (shard_node K s))) x ≡ true → has (named_below K J n) x ≡ true
+named_at : (K : Shape) (J : ℕ → List Record) (x : Digest) (s n : ℕ) → s < n → has (named_hashes (J (shard_node K s))) x ≡ true → has (named_below K J n) x ≡ true
 named_at K J x s zero l h = absurd (omega arith)
 named_at K J x s (suc n) l h = grind (arith, named_there K J x s n, named_later K J x n, named_at K J x s n)
 
@@ -57,7 +57,7 @@ shard_of-lt shards x h = below_shards (slice_index x 0 % 256) shards (mod-lt (sl
 is_named : (K : Shape) (J : ℕ → List Record) (x : Digest) → 0 < K.shards → IsUnspent K J x → has (named_below K J K.shards) x ≡ true
 is_named K J x some h = named_at K J x (shard_of K.shards x) K.shards (shard_of-lt K.shards x some) (unspent_named (J (shard_node K (shard_of K.shards x))) x h)
 
-test_is : (s : Status) → is_unspent s ≡ true → s ≡ Unspent
+test_is : (s : Status) → is_unspent_status s ≡ true → s ≡ Unspent
 test_is Unspent h = refl
 test_is (Locked b) h = cc
 test_is Absent h = cc
@@ -66,7 +66,7 @@ at_is : (K : Shape) (J : ℕ → List Record) (x : Digest) → is_unspent_at K J
 at_is K J x h = test_is (status (J (shard_node K (shard_of K.shards x))) x) h
 
 is_at : (K : Shape) (J : ℕ → List Record) (x : Digest) → IsUnspent K J x → is_unspent_at K J x ≡ true
-is_at K J x u = ap is_unspent u
+is_at K J x u = ap is_unspent_status u
 
 among_in : (K : Shape) (J : ℕ → List Record) (xs : List Digest) (x : Digest) → has xs x ≡ true → IsUnspent K J x → has (unspent_among K J xs) x ≡ true
 among_in K J [] x h u = cc
@@ -90,7 +90,7 @@ among_is K J (y ∷ xs) x h = elim (is_unspent_at K J y && not (has xs y)) as (�
   | false ↦ λ e g. among_is K J xs x g
 ] refl h
 
-pub named_step : (K : Shape) (J : ℕ → List Record) (n : ℕ) → 0 < n → named_below K J n ≡ named (J (K.coordinators + (n - 1))) ++ named_below K J (n - 1)
+pub named_step : (K : Shape) (J : ℕ → List Record) (n : ℕ) → 0 < n → named_below K J n ≡ named_hashes (J (K.coordinators + (n - 1))) ++ named_below K J (n - 1)
 named_step K J zero h = absurd (omega arith)
 named_step K J (suc n) h = let e : suc n - 1 ≡ n = omega arith in rw e refl
 

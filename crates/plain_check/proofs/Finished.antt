@@ -10,14 +10,14 @@ use Rattle.cbdc_model.specs.Outcomes.{won_at, decisions}
 use Rattle.cbdc_model.specs.World.{count_of, IsAlike, Alike}
 use Rattle.plain_check.specs.Journals.{journals_in}
 use Rattle.same_records.proofs.Alikeness.{same_batch_is}
-use Rattle.plain_check.specs.Alikes.{IsFinished, HasNone, IsAlikeAt, PreparedAlike}
+use Rattle.plain_check.specs.Alikes.{IsFinishedAt, HasNone, IsAlikeAt, PreparedAlike}
 
 no_lie : IsTrue false → ⊥
 no_lie t = search rules
 
 -- the decisions of a part, transaction by transaction
-abbrev pub Decides : ℕ → ℕ → List Compact → List Outcome → List Bool → Bool → Type 0
-Decides shards s txs outcomes ds told = (all : List Outcome) (place : ℕ) → outcomes ≡ drop place all → IsTrue told ↔ (ds ≡ decisions all (part shards s place txs))
+abbrev pub TellsDecisions : ℕ → ℕ → List Compact → List Outcome → List Bool → Bool → Type 0
+TellsDecisions shards s txs outcomes ds told = (all : List Outcome) (place : ℕ) → outcomes ≡ drop place all → IsTrue told ↔ (ds ≡ decisions all (part shards s place txs))
 
 drop_next : {A : Type 0} (all : List A) (place : ℕ) → drop 1 (drop place all) ≡ drop (suc place) all
 drop_next [] zero = refl
@@ -39,18 +39,18 @@ here : (shards s k : ℕ) (t : Compact) (ts : List Compact) → (is_empty (on_sh
     → part shards s k (t ∷ ts) ≡ entry_of shards s k t ∷ part shards s (suc k) ts
 here shards s k t ts e = rw e refl
 
-pub decides_none : (shards s : ℕ) (txs : List Compact) (outcomes : List Outcome) (ds : List Bool) (told : Bool) → txs ≡ [] → (IsTrue told ↔ (ds ≡ [])) → Decides shards s txs outcomes ds told
+pub decides_none : (shards s : ℕ) (txs : List Compact) (outcomes : List Outcome) (ds : List Bool) (told : Bool) → txs ≡ [] → (IsTrue told ↔ (ds ≡ [])) → TellsDecisions shards s txs outcomes ds told
 decides_none shards s txs outcomes ds told e h all place is = subst (λ l. IsTrue told ↔ (ds ≡ decisions all (part shards s place l))) (sym e) h
 
 pub decides_elsewhere : (shards s : ℕ) (txs : List Compact) (t : Compact) (ts : List Compact) (outcomes back : List Outcome) (ds : List Bool) (told : Bool)
     → txs ≡ t ∷ ts → is_empty (on_shard shards s t.inputs) ≡ true → is_empty (on_shard shards s t.outputs) ≡ true → back ≡ drop 1 outcomes
-    → Decides shards s ts back ds told → Decides shards s txs outcomes ds told
+    → TellsDecisions shards s ts back ds told → TellsDecisions shards s txs outcomes ds told
 decides_elsewhere shards s txs t ts outcomes back ds told list e f b rest all place is =
     subst (λ l. IsTrue told ↔ (ds ≡ decisions all (part shards s place l))) (sym list) (subst (λ es. IsTrue told ↔ (ds ≡ decisions all es)) (sym (elsewhere shards s place t ts e f)) (rest all (suc place) (b ∙ ap (drop 1) is ∙ drop_next all place)))
 
 pub decides_here : (shards s : ℕ) (txs : List Compact) (t : Compact) (ts : List Compact) (outcomes back : List Outcome) (all_ds : List Bool) (d : Bool) (ds : List Bool) (told : Bool)
     → txs ≡ t ∷ ts → all_ds ≡ d ∷ ds → (is_empty (on_shard shards s t.inputs) && is_empty (on_shard shards s t.outputs)) ≡ false → back ≡ drop 1 outcomes → d ≡ won_at outcomes 0
-    → Decides shards s ts back ds told → Decides shards s txs outcomes all_ds told
+    → TellsDecisions shards s ts back ds told → TellsDecisions shards s txs outcomes all_ds told
 decides_here shards s txs t ts outcomes back all_ds d ds told list list' e b same rest all place is =
     let first : d ≡ won_at all place = same ∙ ap (λ l. won_at l 0) is ∙ won_next all place in
     let later : IsTrue told ↔ (ds ≡ decisions all (part shards s (suc place) ts)) = rest all (suc place) (b ∙ ap (drop 1) is ∙ drop_next all place) in
@@ -66,7 +66,7 @@ decides_here shards s txs t ts outcomes back all_ds d ds told list list' e b sam
 
 pub decides_not : (shards s : ℕ) (txs : List Compact) (t : Compact) (ts : List Compact) (outcomes : List Outcome) (ds : List Bool)
     → txs ≡ t ∷ ts → (is_empty (on_shard shards s t.inputs) && is_empty (on_shard shards s t.outputs)) ≡ false → ((d : Bool) (rest : List Bool) → ds ≡ d ∷ rest → d ≡ won_at outcomes 0 → ⊥)
-    → Decides shards s txs outcomes ds false
+    → TellsDecisions shards s txs outcomes ds false
 decides_not shards s txs t ts outcomes ds list e differ all place is =
     subst (λ l. IsTrue false ↔ (ds ≡ decisions all (part shards s place l))) (sym list) (subst (λ es. IsTrue false ↔ (ds ≡ decisions all es)) (sym (here shards s place t ts e)) (
       λ lie. absurd (no_lie lie),
@@ -76,7 +76,7 @@ decides_not shards s txs t ts outcomes ds list e differ all place is =
 -- what is finished at a shard
 pub finished_by : (K : Shape) (J : ℕ → List Record) (b : Batch) (s : ℕ) (told : Bool) (own home : List Record) (shards : ℕ) (txs : List Compact) (outcomes : List Outcome) (ds : List Bool)
     → own ≡ J (shard_node K s) → home ≡ J (home_of K b.lane) → shards ≡ K.shards → txs ≡ txs_of home b → outcomes ≡ outcomes_of home b → ds ≡ decisions_in (record_of 3 own b)
-    → count_of 2 own b ≡ 1 → count_of 3 own b ≡ 1 → (IsTrue told ↔ (ds ≡ decisions outcomes (part shards s 0 txs))) → IsTrue told ↔ IsFinished K J b s
+    → count_of 2 own b ≡ 1 → count_of 3 own b ≡ 1 → (IsTrue told ↔ (ds ≡ decisions outcomes (part shards s 0 txs))) → IsTrue told ↔ IsFinishedAt K J b s
 finished_by K J b s told own home shards txs outcomes ds o h n t u d one two same =
     let txs_is : txs ≡ txs_of (J (home_of K b.lane)) b = t ∙ ap (λ l. txs_of l b) h in
     let outcomes_is : outcomes ≡ outcomes_of (J (home_of K b.lane)) b = u ∙ ap (λ l. outcomes_of l b) h in
@@ -92,8 +92,8 @@ finished_by K J b s told own home shards txs outcomes ds o h n t u d one two sam
     )
 
 -- what holds below a number, by what holds of the one before it
-pub each_below : (P : ℕ → Type 0) (n : ℕ) (told : Bool) → 0 < n → P (n - 1) → (IsTrue told ↔ ((s : ℕ) → s < n - 1 → P s)) → IsTrue told ↔ ((s : ℕ) → s < n → P s)
-each_below P n told some last below = (
+pub one_more_below : (P : ℕ → Type 0) (n : ℕ) (told : Bool) → 0 < n → P (n - 1) → (IsTrue told ↔ ((s : ℕ) → s < n - 1 → P s)) → IsTrue told ↔ ((s : ℕ) → s < n → P s)
+one_more_below P n told some last below = (
   λ y s lt. elim (cases_lt s (n - 1)) [
     | inl less ↦ below.0 y s less
     | inr le ↦ subst P (same s lt le) last

@@ -22,6 +22,6 @@ pub kept_rows : (K : Shape) (mint : List Output) (submissions : List FullTx) (J 
 kept_rows K mint submissions J kept =
     subst (IsKept K mint submissions) (made_later K (minted mint) J kept.later kept.history (no_others K mint submissions J kept)) kept.kept
 
-pub kept_by : (K : Shape) (mint : List Output) (submissions : List FullTx) (J : ℕ → List Record) (later : List Row) → IsHistory K (minted mint) J later
+pub kept_by_history : (K : Shape) (mint : List Output) (submissions : List FullTx) (J : ℕ → List Record) (later : List Row) → IsHistory K (minted mint) J later
     → IsKept K mint submissions later → KeptJournals K mint submissions J
-kept_by K mint submissions J later history kept = record { later = later; history = history; kept = kept }
+kept_by_history K mint submissions J later history kept = record { later = later; history = history; kept = kept }

@@ -7,19 +7,19 @@ use Rattle.std.specs.Cmp.Lexicographic.{nat_list_cmp_total}
 use Rattle.std.specs.FinMap.Entries.{find, where_key, find-where_key}
 use Rattle.cbdc_model.specs.Book.{Book, key, value}
 use Rattle.cbdc_model.specs.Coins.{Coin, Output}
-use Rattle.plain_check.specs.Coins.{entry_of, book_of}
+use Rattle.plain_check.specs.Coins.{coin_entry, book_of}
 use Rattle.ledger_laws.proofs.Books.{key_cmp, same_key, other_key, keys, get-insert_same, get-insert_other, get-remove_same, get-remove_other, entries_value, value-insert}
 
-pub get_is : (coins : List Coin) (k : List ℕ) → book.get (book_of coins) k ≡ find key_cmp k (map entry_of coins)
-get_is coins k = book.get-from_entries nat_list_cmp_total (map entry_of coins) k
+pub get_is : (coins : List Coin) (k : List ℕ) → book.get (book_of coins) k ≡ find key_cmp k (map coin_entry coins)
+get_is coins k = book.get-from_entries nat_list_cmp_total (map coin_entry coins) k
 
-entries_without : (k : List ℕ) (coins : List Coin) → map entry_of (filter (λ c. not (eq_by_cmp key_cmp k (key c.point))) coins)
-    ≡ where_key key_cmp (λ x. not (eq_by_cmp key_cmp k x)) (map entry_of coins)
+entries_without : (k : List ℕ) (coins : List Coin) → map coin_entry (filter (λ c. not (eq_by_cmp key_cmp k (key c.point))) coins)
+    ≡ where_key key_cmp (λ x. not (eq_by_cmp key_cmp k x)) (map coin_entry coins)
 entries_without k [] = refl
-entries_without k (c ∷ coins) = elim (eq_by_cmp key_cmp k (key c.point)) as (λ b. map entry_of (cond (not b) (c ∷ filter (λ d. not (eq_by_cmp key_cmp k (key d.point))) coins) (filter (λ d. not (eq_by_cmp key_cmp k (key d.point))) coins))
-    ≡ cond (not b) (entry_of c ∷ where_key key_cmp (λ x. not (eq_by_cmp key_cmp k x)) (map entry_of coins)) (where_key key_cmp (λ x. not (eq_by_cmp key_cmp k x)) (map entry_of coins))) [
+entries_without k (c ∷ coins) = elim (eq_by_cmp key_cmp k (key c.point)) as (λ b. map coin_entry (cond (not b) (c ∷ filter (λ d. not (eq_by_cmp key_cmp k (key d.point))) coins) (filter (λ d. not (eq_by_cmp key_cmp k (key d.point))) coins))
+    ≡ cond (not b) (coin_entry c ∷ where_key key_cmp (λ x. not (eq_by_cmp key_cmp k x)) (map coin_entry coins)) (where_key key_cmp (λ x. not (eq_by_cmp key_cmp k x)) (map coin_entry coins))) [
       | true ↦ entries_without k coins
-      | false ↦ ap (λ es. entry_of c ∷ es) (entries_without k coins)
+      | false ↦ ap (λ es. coin_entry c ∷ es) (entries_without k coins)
     ]
 
 turned : {A : Type 0} (b : Bool) (x y : A) → cond (not b) x y ≡ cond b y x
@@ -33,9 +33,9 @@ book_without k coins = book.same_map nat_list_cmp_total (book.slice_cmp-IsAntisy
     at : (q : List ℕ) → book.get (book_of (filter (λ c. not (eq_by_cmp key_cmp k (key c.point))) coins)) q ≡ book.get (book.remove (book_of coins) k) q
     at q =
         get_is _ q ∙ ap (find key_cmp q) (entries_without k coins)
-        ∙ find-where_key key_cmp (λ x. not (eq_by_cmp key_cmp k x)) q (λ x t. ap (λ y. not (eq_by_cmp key_cmp k y)) (sym (book.slice_cmp-IsAntisymmetric book.nat_cmp-IsAntisymmetric q x t))) (map entry_of coins)
+        ∙ find-where_key key_cmp (λ x. not (eq_by_cmp key_cmp k x)) q (λ x t. ap (λ y. not (eq_by_cmp key_cmp k y)) (sym (book.slice_cmp-IsAntisymmetric book.nat_cmp-IsAntisymmetric q x t))) (map coin_entry coins)
         ∙ turned (eq_by_cmp key_cmp k q) _ _
-        ∙ ap (λ b. cond b None (find key_cmp q (map entry_of coins))) ((eq_by_cmp_equiv nat_list_cmp_total).symm k q)
+        ∙ ap (λ b. cond b None (find key_cmp q (map coin_entry coins))) ((eq_by_cmp_equiv nat_list_cmp_total).symm k q)
         ∙ ap (cond (eq_by_cmp key_cmp q k) None) (sym (get_is coins q))
         ∙ sym (book.get-remove nat_list_cmp_total (book_of coins) k q)
 

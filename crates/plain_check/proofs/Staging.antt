@@ -14,12 +14,12 @@ use Rattle.plain_check.specs.declared.stages.Stage.TheVariants.{Resume, File}
 use Rattle.plain_check.specs.Choices.{choices}
 use Rattle.submissions.specs.Checks.{VerdictsOf, TellsSound}
 use Rattle.plain_check.specs.Stages.{sent_in, StageRuns, RunsBy, IsFileStage, AreFileStages, AddsStages}
-use Rattle.plain_check.specs.Adding.{MayAdd, IsPrepared}
-use Rattle.plain_check.proofs.Choosing.{IsChoice, chosen, IsAt, place_among}
+use Rattle.plain_check.specs.Adding.{MayAdd, PreparesInPieces}
+use Rattle.plain_check.proofs.Choosing.{IsChoice, is_some_choice, IsAt, place_among}
 
 -- a file's run is what its records, its Prepares and its lanes at the end say
 pub file_run_by : (K : Shape) (sent : ℕ → List Compact) (I J : ℕ → List Record) (n : ℕ) (told : Bool) → n ≡ K.coordinators * K.lanes → Adds (MayAdd false K I J) I J → AreIdle K J
-    → (IsTrue told ↔ ((lane : ℕ) → lane < n → IsPrepared K lane (sent lane) (I (home_of K lane)) (J (home_of K lane)))) → IsTrue told ↔ IsFileRun K sent I J
+    → (IsTrue told ↔ ((lane : ℕ) → lane < n → PreparesInPieces K lane (sent lane) (I (home_of K lane)) (J (home_of K lane)))) → IsTrue told ↔ IsFileRun K sent I J
 file_run_by K sent I J n told size adds idle h = (
   λ t. record { adds = adds; cut = λ lane lt. h.0 t lane (subst (λ k. lane < k) (sym size) lt); idle = idle },
   λ run. h.1 (λ lane lt. run.cut lane (subst (λ k. lane < k) size lt)),
@@ -94,7 +94,7 @@ pub record Through (K : Shape) (s : Stage) (stages : List Stage) (I : ℕ → Li
 
 pub through : (K : Shape) (s : Stage) (stages : List Stage) (I : ℕ → List Record) (all : List (List Record)) → RunsBy K (s ∷ stages) I (journals_in all) → Through K s stages I all
 through K s stages I all runs =
-    let choice : IsChoice all runs.0 = chosen all runs.0 (runs_grow K stages runs.0 (journals_in all) runs.2) in
+    let choice : IsChoice all runs.0 = is_some_choice all runs.0 (runs_grow K stages runs.0 (journals_in all) runs.2) in
     let here : IsAt (choices all) choice.world = place_among (choices all) choice.world choice.among in
     let same : runs.0 ≡ journals_in (slice_index_or (choices all) here.place []) = (λ i n. choice.is n i) ∙ ap journals_in (sym here.is) in
     record {

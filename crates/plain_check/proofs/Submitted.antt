@@ -44,9 +44,9 @@ beside R (x ∷ xs) [] k y all h = absurd all
 beside R (x ∷ xs) (z ∷ ys) zero y all h = (x, refl, subst (λ v. R x v) (some_is z y h) all.0)
 beside R (x ∷ xs) (z ∷ ys) (suc k) y all h = beside R xs ys k y all.1 h
 
-pub told_by : (K : Shape) (verdicts : VerdictsOf) (E X : ℕ → List Record) (earlier : List (List FullTx)) (file : List FullTx) (cs : List Checked) (rs : List Report)
+pub file_told : (K : Shape) (verdicts : VerdictsOf) (E X : ℕ → List Record) (earlier : List (List FullTx)) (file : List FullTx) (cs : List Checked) (rs : List Report)
     → AreChecked K verdicts file cs → AllFit K verdicts E X earlier cs rs → AreTold K verdicts E X earlier file rs
-told_by K verdicts E X earlier file cs rs checked fit = λ sound tells. record {
+file_told K verdicts E X earlier file cs rs checked fit = λ sound tells. record {
   count = AllZip-long (Fits K verdicts E X earlier) cs rs fit ∙ checked.count;
   each = λ place t r here there.
       let (c, at, fits) = beside (Fits K verdicts E X earlier) cs rs place r fit there in
@@ -64,14 +64,14 @@ pushed_at (x ∷ all) r s (suc k) h = elim (pushed_at all r s k h) [
 ]
 
 -- what came of the submissions of those files whose reports are there
-abbrev pub EachTold : Shape → VerdictsOf → (ℕ → List Record) → (ℕ → List Record) → List (List FullTx) → List (List Report) → Type 0
-EachTold K verdicts E X files all =
+abbrev pub EachFileTold : Shape → VerdictsOf → (ℕ → List Record) → (ℕ → List Record) → List (List FullTx) → List (List Report) → Type 0
+EachFileTold K verdicts E X files all =
     (k : ℕ) (file : List FullTx) (rs : List Report) → slice_get files k ≡ Some file → slice_get all k ≡ Some rs → AreTold K verdicts E X (take k files) file rs
 
-pub told_more : (K : Shape) (verdicts : VerdictsOf) (E X : ℕ → List Record) (files : List (List FullTx)) (all : List (List Report)) (at : ℕ) (own : List FullTx) (rs : List Report)
+pub one_file_more : (K : Shape) (verdicts : VerdictsOf) (E X : ℕ → List Record) (files : List (List FullTx)) (all : List (List Report)) (at : ℕ) (own : List FullTx) (rs : List Report)
     → length all ≡ at → slice_get files at ≡ Some own → AreTold K verdicts E X (take at files) own rs
-    → EachTold K verdicts E X files all → EachTold K verdicts E X files (all ++ rs ∷ [])
-told_more K verdicts E X files all at own rs len here told before = λ k file reports got there. elim (pushed_at all rs reports k there) [
+    → EachFileTold K verdicts E X files all → EachFileTold K verdicts E X files (all ++ rs ∷ [])
+one_file_more K verdicts E X files all at own rs len here told before = λ k file reports got there. elim (pushed_at all rs reports k there) [
   | inl a ↦ before k file reports got a
   | inr e ↦
       let k_is : at ≡ k = sym (e.0 ∙ len) in
@@ -80,9 +80,9 @@ told_more K verdicts E X files all at own rs len here told before = λ k file re
       (subst (λ f. AreTold K verdicts E X (take k files) f rs) own_is (subst (λ m. AreTold K verdicts E X (take m files) own rs) k_is told))
 ]
 
-pub all_told : (K : Shape) (verdicts : VerdictsOf) (E X : ℕ → List Record) (files : List (List FullTx)) (all : List (List Report)) (n : ℕ)
-    → length all ≡ n → n ≡ length files → EachTold K verdicts E X files all → AreAllTold K verdicts E X files all
-all_told K verdicts E X files all n len end told = λ sound tells. record {
+pub all_files_told : (K : Shape) (verdicts : VerdictsOf) (E X : ℕ → List Record) (files : List (List FullTx)) (all : List (List Report)) (n : ℕ)
+    → length all ≡ n → n ≡ length files → EachFileTold K verdicts E X files all → AreAllTold K verdicts E X files all
+all_files_told K verdicts E X files all n len end told = λ sound tells. record {
   count = len ∙ end;
   each = λ k file rs here there. told k file rs here there sound tells;
 }
@@ -107,4 +107,4 @@ module _ {E : Type 0} where
 pub if_told : (K : Shape) (verdicts : VerdictsOf) (E X : ℕ → List Record) (earlier : List (List FullTx)) (file : List FullTx) (cs : List Checked) (o : Option (List Report))
     → AreChecked K verdicts file cs → IfSome o (AllFit K verdicts E X earlier cs) → IfSome o (AreTold K verdicts E X earlier file)
 if_told K verdicts E X earlier file cs None checked fit = tt
-if_told K verdicts E X earlier file cs (Some rs) checked fit = told_by K verdicts E X earlier file cs rs checked fit
+if_told K verdicts E X earlier file cs (Some rs) checked fit = file_told K verdicts E X earlier file cs rs checked fit

@@ -9,7 +9,7 @@ use Rattle.cbdc_model.specs.History.{Minted}
 use Rattle.cbdc_model.specs.World.{Node, World, no_node, journals, ShardCall, Lock_call, Finish_call, Forget_call, appends, record_for, Event, Step, Run}
 use Rattle.cbdc_model.specs.Next.{Plan, Kept, Append, Refuse}
 use Rattle.plain_check.specs.Journals.{journals_in}
-use Rattle.plain_check.specs.Events.{cause_of, event_in, mint_of, InClock}
+use Rattle.plain_check.specs.Events.{cause_of, event_in, mint_by, InClock}
 use Rattle.plain_check.specs.declared.events.Event.{Event as OneEvent}
 
 -- the journals of nodes, as a list of them
@@ -52,9 +52,9 @@ run_on K m u v w (d ∷ es) e run step = (run.0, run.1, run_on K m run.0 v w es 
 
 -- a loop's turn: the events so far and this one
 pub run_more : (K L : Shape) (i j : Digest) (hashes : List Digest) → K ≡ L → i ≡ j → (u v w : World) (events : List OneEvent) (k : ℕ) (e : OneEvent) → k < length events → e ≡ get_or events k e
-    → Run L (mint_of j hashes) u (map event_in (take k events)) v → Step K (mint_of i hashes) v (event_in e) w → Run L (mint_of j hashes) u (map event_in (take (k + 1) events)) w
+    → Run L (mint_by j hashes) u (map event_in (take k events)) v → Step K (mint_by i hashes) v (event_in e) w → Run L (mint_by j hashes) u (map event_in (take (k + 1) events)) w
 run_more K L i j hashes shape genesis u v w events k e lt is run step =
-    let step' : Step L (mint_of j hashes) v (event_in e) w = subst (λ K. Step K (mint_of j hashes) v (event_in e) w) shape (subst (λ i. Step K (mint_of i hashes) v (event_in e) w) genesis step) in
-    let step'' : Step L (mint_of j hashes) v (event_in (get_or events k e)) w = subst (λ d. Step L (mint_of j hashes) v (event_in d) w) is step' in
-    subst (λ es. Run L (mint_of j hashes) u es w) (sym (map_more event_in events k e lt))
-    (run_on L (mint_of j hashes) u v w (map event_in (take k events)) (event_in (get_or events k e)) run step'')
+    let step' : Step L (mint_by j hashes) v (event_in e) w = subst (λ K. Step K (mint_by j hashes) v (event_in e) w) shape (subst (λ i. Step K (mint_by i hashes) v (event_in e) w) genesis step) in
+    let step'' : Step L (mint_by j hashes) v (event_in (get_or events k e)) w = subst (λ d. Step L (mint_by j hashes) v (event_in d) w) is step' in
+    subst (λ es. Run L (mint_by j hashes) u es w) (sym (map_more event_in events k e lt))
+    (run_on L (mint_by j hashes) u v w (map event_in (take k events)) (event_in (get_or events k e)) run step'')

@@ -6,7 +6,7 @@ use Rattle.cbdc_model.specs.Outcomes.{decisions}
 use Rattle.cbdc_model.specs.World.{count_of, IsAlike}
 
 -- a concerned shard has one Lock and one Finish of the batch, with the Commit's decisions
-pub record IsFinished (K : Shape) (J : ℕ → List Record) (b : Batch) (s : ℕ) : Type 0 where
+pub record IsFinishedAt (K : Shape) (J : ℕ → List Record) (b : Batch) (s : ℕ) : Type 0 where
   pub one_lock : count_of 2 (J (shard_node K s)) b ≡ 1
   pub one_finish : count_of 3 (J (shard_node K s)) b ≡ 1
   pub same_decisions : decisions_in (record_of 3 (J (shard_node K s)) b)
@@ -20,7 +20,7 @@ pub record HasNone (past : List Record) (b : Batch) : Type 0 where
 
 -- the shard is finished where the batch concerns it, and has no record of it elsewhere
 pub record IsAlikeAt (K : Shape) (J : ℕ → List Record) (b : Batch) (s : ℕ) : Type 0 where
-  pub finished : Concerned K (txs_of (J (home_of K b.lane)) b) s → IsFinished K J b s
+  pub finished : Concerned K (txs_of (J (home_of K b.lane)) b) s → IsFinishedAt K J b s
   pub none : s < K.shards → is_no_part (part K.shards s 0 (txs_of (J (home_of K b.lane)) b)) ≡ true → HasNone (J (shard_node K s)) b
 
 -- the batches that these records prepare at their own coordinator are finished alike

@@ -5,9 +5,9 @@ use Rattle.cbdc_model.specs.Coins.{Coin, Output}
 use Rattle.cbdc_model.specs.Book.{Book, key}
 
 -- a transaction's entry at shard s, k being its place
-abbrev pub entry_of : Coin → List ℕ × Output
-entry_of c = (key c.point, c.output)
+abbrev pub coin_entry : Coin → List ℕ × Output
+coin_entry c = (key c.point, c.output)
 
 -- the book that a list of coins is
 abbrev pub book_of : List Coin → Book
-book_of coins = book.from_entries (map entry_of coins)
+book_of coins = book.from_entries (map coin_entry coins)

@@ -23,8 +23,8 @@ event_in (Reopen n) = model.Reopen n
 event_in (Repeat n call) = model.Repeat n (call_in call)
 
 -- a mint by its id and the hashes of its coins
-abbrev pub mint_of : Digest → List Digest → Minted
-mint_of id hashes = record { id = id; hashes = hashes }
+abbrev pub mint_by : Digest → List Digest → Minted
+mint_by id hashes = record { id = id; hashes = hashes }
 
 -- the stamp of a call's cause
 abbrev pub cause_of : model.ShardCall → ℕ
@@ -37,7 +37,7 @@ abbrev pub InClock : ℕ → ℕ → Type 0
 InClock last cause = (last < 2 ^ 63) × (cause < 2 ^ 63)
 
 -- a call at a node is of its batch, its cause stands, and the node answers with a record that may stand in its journal
-abbrev pub IsAnswered : Shape → Digest → model.World → ℕ → model.ShardCall → Record → Type 0
-IsAnswered K id w n call r =
+abbrev pub IsCallAnswered : Shape → Digest → model.World → ℕ → model.ShardCall → Record → Type 0
+IsCallAnswered K id w n call r =
     model.IsConcerned K (model.journals w) n (model.batch_of call) × model.CauseStands K (model.journals w) n call
     × (model.record_for (model.journals w n) call ≡ Some r) × IsInGrammar (header_of K id n) r

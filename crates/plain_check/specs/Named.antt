@@ -10,32 +10,32 @@ entry_hashes [] = []
 entry_hashes (a ∷ es) = a.entry.inputs ++ (a.entry.outputs ++ entry_hashes es)
 
 -- those that a journal's Genesis and Finishes name
-abbrev pub named : List Record → List Digest
-named [] = []
-named (Genesis header hs ∷ past) = hs ++ named past
-named (Lock stamp b es ∷ past) = named past
-named (Finish stamp b ds ∷ past) = entry_hashes (lock_of past b) ++ named past
-named (Forget stamp b ∷ past) = named past
-named (Start header ∷ past) = named past
-named (Prepare stamp b txs ∷ past) = named past
-named (Commit stamp b os ∷ past) = named past
-named (Discard stamp b ∷ past) = named past
-named (Done stamp b ∷ past) = named past
+abbrev pub named_hashes : List Record → List Digest
+named_hashes [] = []
+named_hashes (Genesis header hs ∷ past) = hs ++ named_hashes past
+named_hashes (Lock stamp b es ∷ past) = named_hashes past
+named_hashes (Finish stamp b ds ∷ past) = entry_hashes (lock_of past b) ++ named_hashes past
+named_hashes (Forget stamp b ∷ past) = named_hashes past
+named_hashes (Start header ∷ past) = named_hashes past
+named_hashes (Prepare stamp b txs ∷ past) = named_hashes past
+named_hashes (Commit stamp b os ∷ past) = named_hashes past
+named_hashes (Discard stamp b ∷ past) = named_hashes past
+named_hashes (Done stamp b ∷ past) = named_hashes past
 
 -- those of the shards below n
 abbrev pub named_below : Shape → (ℕ → List Record) → ℕ → List Digest
 named_below K J zero = []
-named_below K J (suc n) = named (J (shard_node K n)) ++ named_below K J n
+named_below K J (suc n) = named_hashes (J (shard_node K n)) ++ named_below K J n
 
 -- whether a status is Unspent
-abbrev pub is_unspent : Status → Bool
-is_unspent Unspent = true
-is_unspent (Locked b) = false
-is_unspent Absent = false
+abbrev pub is_unspent_status : Status → Bool
+is_unspent_status Unspent = true
+is_unspent_status (Locked b) = false
+is_unspent_status Absent = false
 
 -- whether a hash is, at its shard
 abbrev pub is_unspent_at : Shape → (ℕ → List Record) → Digest → Bool
-is_unspent_at K J x = is_unspent (status (J (shard_node K (shard_of K.shards x))) x)
+is_unspent_at K J x = is_unspent_status (status (J (shard_node K (shard_of K.shards x))) x)
 
 -- the unspent ones of these hashes, each once
 abbrev pub unspent_among : Shape → (ℕ → List Record) → List Digest → List Digest

@@ -7,16 +7,16 @@ use Rattle.plain_check.specs.declared.plans.LockPlan.TheVariants.{Kept as LockKe
 use Rattle.plain_check.specs.declared.plans.StampPlan.{StampPlan}
 use Rattle.plain_check.specs.declared.plans.StampPlan.TheVariants.{Kept as StampKept, Append as StampAppend, Refuse as StampRefuse}
 
-abbrev pub replies_at : Replied → RepliesAt
-replies_at r = record { given = r.replies; at = r.stamp }
+abbrev pub plain_replies : Replied → RepliesAt
+plain_replies r = record { given = r.replies; at = r.stamp }
 
--- `lock_plan`, `stamp_plan`: plans of the program as those of the definitions
-abbrev pub lock_plan : LockPlan → Plan RepliesAt
-lock_plan (LockKept r) = Kept (replies_at r)
-lock_plan (LockAppend r) = Append (replies_at r)
-lock_plan (LockRefuse why) = Refuse why
+-- `locking_plan`, `plain_plan`: plans of the program as those of the definitions
+abbrev pub locking_plan : LockPlan → Plan RepliesAt
+locking_plan (LockKept r) = Kept (plain_replies r)
+locking_plan (LockAppend r) = Append (plain_replies r)
+locking_plan (LockRefuse why) = Refuse why
 
-abbrev pub stamp_plan : StampPlan → Plan ℕ
-stamp_plan (StampKept stamp) = Kept stamp
-stamp_plan (StampAppend stamp) = Append stamp
-stamp_plan (StampRefuse why) = Refuse why
+abbrev pub plain_plan : StampPlan → Plan ℕ
+plain_plan (StampKept stamp) = Kept stamp
+plain_plan (StampAppend stamp) = Append stamp
+plain_plan (StampRefuse why) = Refuse why

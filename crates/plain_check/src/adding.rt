@@ -7,7 +7,7 @@ ghost use Rattle.cbdc_model.specs.Slots.{slot, Idle};
 ghost use Rattle.cbdc_model.specs.World.{AreIdle};
 ghost use Rattle.cbdc_model.specs.Waves.{Adds};
 ghost use Rattle.plain_check.specs.Journals.{journals_in};
-ghost use Rattle.plain_check.specs.Adding.{MayAdd, IsNew, Grows};
+ghost use Rattle.plain_check.specs.Adding.{MayAdd, IsAdded, GrowsByNew};
 
 use crate::{home_journal, is_idle, journal_at, record_of, slot_of};
 use cbdc_types::{BatchId, LaneId, List, Record, Shape};
@@ -65,7 +65,7 @@ fn is_new(
     new: &[List<Record>],
     r: &Record,
 ) -> bool
-    ensures { IsTrue result ↔ IsNew (MayAdd resumes shape.now (journals_in old.now) (journals_in new.now)) r.now }
+    ensures { IsTrue result ↔ IsAdded (MayAdd resumes shape.now (journals_in old.now) (journals_in new.now)) r.now }
 {
     match batch_of(r) {
         Some(batch) => may_add(resumes, shape, old, new, &batch),
@@ -81,7 +81,7 @@ fn are_new(
     new: &[List<Record>],
     rs: &[Record],
 ) -> bool
-    ensures { IsTrue result ↔ AllByRecursion (IsNew (MayAdd resumes shape.now (journals_in old.now) (journals_in new.now))) rs.now }
+    ensures { IsTrue result ↔ AllByRecursion (IsAdded (MayAdd resumes shape.now (journals_in old.now) (journals_in new.now))) rs.now }
 {
     match rs.split_first() {
         None => true,
@@ -102,7 +102,7 @@ pub fn journal_of<'a>(journals: &'a [List<Record>], node: usize) -> &'a [Record]
 }
 
 /// Whether a node's journal has grown by records that the stage may write.
-#[tactic(auto, using(crate::proofs::Growing::cut_at, crate::proofs::Growing::grows_by, crate::proofs::Growing::grows_not, crate::proofs::Growing::grows_short))]
+#[tactic(auto, using(crate::proofs::Growing::is_cut_at, crate::proofs::Growing::grows_by, crate::proofs::Growing::grows_not, crate::proofs::Growing::grows_short))]
 pub fn has_grown(
     resumes: bool,
     shape: &Shape,
@@ -110,7 +110,7 @@ pub fn has_grown(
     new: &[List<Record>],
     node: usize,
 ) -> bool
-    ensures { IsTrue result ↔ Grows (MayAdd resumes shape.now (journals_in old.now) (journals_in new.now)) (journals_in old.now node) (journals_in new.now node) }
+    ensures { IsTrue result ↔ GrowsByNew (MayAdd resumes shape.now (journals_in old.now) (journals_in new.now)) (journals_in old.now node) (journals_in new.now node) }
 {
     let before = journal_of(old, node);
     let after = journal_of(new, node);
@@ -129,7 +129,7 @@ fn have_grown_below(
     new: &[List<Record>],
     n: usize,
 ) -> bool
-    ensures { IsTrue result ↔ ((k : ℕ) → k < n → Grows (MayAdd resumes shape.now (journals_in old.now) (journals_in new.now)) (journals_in old.now k) (journals_in new.now k)) }
+    ensures { IsTrue result ↔ ((k : ℕ) → k < n → GrowsByNew (MayAdd resumes shape.now (journals_in old.now) (journals_in new.now)) (journals_in old.now k) (journals_in new.now k)) }
 {
     if n == 0 {
         return true;

@@ -5,7 +5,7 @@ ghost use Rattle.cbdc_model.specs.Ranges.{part};
 ghost use Rattle.cbdc_model.specs.Outcomes.{decisions};
 ghost use Rattle.cbdc_model.specs.World.{count_of, IsAlike, Alike};
 ghost use Rattle.plain_check.specs.Journals.{journals_in};
-ghost use Rattle.plain_check.specs.Alikes.{IsFinished, HasNone, IsAlikeAt, PreparedAlike};
+ghost use Rattle.plain_check.specs.Alikes.{IsFinishedAt, HasNone, IsAlikeAt, PreparedAlike};
 
 use crate::{
     finished_decisions, home_journal, is_of, journal_at, kind_of, outcomes_of, txs_of, won_at,
@@ -78,7 +78,7 @@ fn has_one_each(past: &[Record], batch: &BatchId) -> bool
 // Whether a shard has one Lock and one Finish of a batch, with the Commit's decisions.
 fn is_finished(journals: &[List<Record>], shape: &Shape, batch: &BatchId, shard: u32) -> bool
     requires { shard < shape.now.shards }
-    ensures { IsTrue result ↔ IsFinished shape.now (journals_in journals.now) batch.now shard }
+    ensures { IsTrue result ↔ IsFinishedAt shape.now (journals_in journals.now) batch.now shard }
 {
     let home = home_journal(journals, shape, batch);
     let own = journal_at(journals, shape.coordinators() + shard);

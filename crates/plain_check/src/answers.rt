@@ -2,7 +2,7 @@
 ghost use Rattle.std.specs.Prelude.{◌≡◌, ◌<◌, ◌^◌, ◌↔◌, IsTrue, IfOk, MatchOption};
 ghost use Rattle.cbdc_model.specs.Records.{last_stamp, Record as AnyRecord};
 ghost use Rattle.cbdc_model.specs.World.{record_for, journals, batch_of, Lock_call, Finish_call, Forget_call};
-ghost use Rattle.plain_check.specs.Events.{call_in, cause_of, InClock, IsAnswered};
+ghost use Rattle.plain_check.specs.Events.{call_in, cause_of, InClock, IsCallAnswered};
 
 use crate::event_causes::{has_cause, header_at, is_concerned_at};
 use crate::events::ShardCall;
@@ -126,8 +126,8 @@ pub fn written(
     call: &ShardCall,
 ) -> Result<Option<Record>, AllocError>
     ensures { IfOk result (λ o. MatchOption o
-        ((r : AnyRecord) → IsAnswered shape.now genesis.now nodes.now node (call_in call.now) r → ⊥)
-        (λ r. IsAnswered shape.now genesis.now nodes.now node (call_in call.now) r)) }
+        ((r : AnyRecord) → IsCallAnswered shape.now genesis.now nodes.now node (call_in call.now) r → ⊥)
+        (λ r. IsCallAnswered shape.now genesis.now nodes.now node (call_in call.now) r)) }
 {
     let batch = batch_in(call);
     if !is_concerned_at(nodes, shape, node, &batch) {

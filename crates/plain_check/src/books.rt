@@ -6,7 +6,7 @@ ghost use Rattle.std.specs.Cmp.Lexicographic.{slice_cmp};
 ghost use Rattle.std.specs.FinMap.Entries.{find};
 ghost use Rattle.cbdc_model.specs.Book.{key, take_out, take_all, put_all, spend, fold_txs, value, genesis_book};
 ghost use Rattle.cbdc_model.specs.Coins.{made_coins, tx_coins, genesis_tx};
-ghost use Rattle.plain_check.specs.Coins.{entry_of, book_of};
+ghost use Rattle.plain_check.specs.Coins.{coin_entry, book_of};
 
 use cbdc_types::{FullTx, Hash, Input, List, OutPoint, Output};
 use compact_tx::{genesis_tx, tx_id};
@@ -15,7 +15,7 @@ use std::alloc::{AllocError, Global};
 
 // The output of the first of these coins with the outpoint.
 fn first_output(coins: &[Input], p: &OutPoint) -> Option<Output>
-    ensures { result ≡ find (slice_cmp nat_cmp) (key p.now) (map entry_of coins.now) }
+    ensures { result ≡ find (slice_cmp nat_cmp) (key p.now) (map coin_entry coins.now) }
 {
     match coins.split_first() {
         None => None,

@@ -4,7 +4,7 @@ ghost use Rattle.cbdc_model.specs.Records.{journal};
 ghost use Rattle.cbdc_model.specs.After.{After};
 ghost use Rattle.cbdc_model.specs.History.{starts, geneses, first_rows, header_of, IsSteady, TxsPass, IsKept};
 ghost use Rattle.cbdc_model.specs.Clean.{IsProperCompact};
-ghost use Rattle.plain_check.specs.Minting.{minted_by};
+ghost use Rattle.plain_check.specs.Minting.{compact_mint};
 
 use crate::proper::passes;
 use crate::{Row, is_after, is_caused_at, journal_of};
@@ -54,7 +54,7 @@ fn header_of(shape: &Shape, genesis: &Hash, node: NodeId) -> Header
 
 // Puts the first rows of the coordinators below n behind those so far.
 fn add_starts(shape: &Shape, mint: &CompactTx, n: u32, out: &mut Vec<Row>) -> Result<(), AllocError>
-    ensures { OnOk result (out.new.items ≡ out.old.items ++ starts shape.now (minted_by mint.now) n) }
+    ensures { OnOk result (out.new.items ≡ out.old.items ++ starts shape.now (compact_mint mint.now) n) }
 {
     if n == 0 {
         return Ok(());
@@ -77,7 +77,7 @@ fn add_geneses(
     out: &mut Vec<Row>,
 ) -> Result<(), AllocError>
     requires { n ≤ shape.now.shards }
-    ensures { OnOk result (out.new.items ≡ out.old.items ++ geneses shape.now (minted_by mint.now) n) }
+    ensures { OnOk result (out.new.items ≡ out.old.items ++ geneses shape.now (compact_mint mint.now) n) }
 {
     if n == 0 {
         return Ok(());
@@ -94,7 +94,7 @@ fn add_geneses(
 
 /// The first rows of a ledger, by its mint as a compact transaction, the newest first.
 pub fn first_rows(alloc: Global, shape: &Shape, mint: &CompactTx) -> Result<List<Row>, AllocError>
-    ensures { IfOk result (λ l. l ≡ first_rows shape.now (minted_by mint.now)) }
+    ensures { IfOk result (λ l. l ≡ first_rows shape.now (compact_mint mint.now)) }
 {
     let mut out = Vec::new(alloc);
     add_geneses(alloc, shape, mint, shape.shards(), &mut out)?;
@@ -131,8 +131,8 @@ fn is_steady(
     first: &[Row],
     later: &[Row],
 ) -> Result<bool, AllocError>
-    requires { first.now ≡ first_rows shape.now (minted_by mint.now) }
-    ensures { IfOk result (λ yes. IsTrue yes ↔ IsSteady shape.now (minted_by mint.now) (IsProperCompact submissions.now) later.now) }
+    requires { first.now ≡ first_rows shape.now (compact_mint mint.now) }
+    ensures { IfOk result (λ yes. IsTrue yes ↔ IsSteady shape.now (compact_mint mint.now) (IsProperCompact submissions.now) later.now) }
 {
     let Some((row, rest)) = later.split_first() else {
         return Ok(true);

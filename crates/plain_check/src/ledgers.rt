@@ -6,7 +6,7 @@ ghost use Rattle.cbdc_model.specs.World.{IsHistory, KeptJournals};
 ghost use Rattle.plain_check.specs.Journals.{journals_in};
 ghost use Rattle.plain_check.specs.Histories.{AreOnNodes, IsWholeHistory};
 ghost use Rattle.plain_check.specs.Merging.{put_row, put_records, behind_first, later_below};
-ghost use Rattle.plain_check.specs.Minting.{minted_by};
+ghost use Rattle.plain_check.specs.Minting.{compact_mint};
 
 use crate::kept::{add_rows, copy_of_row, first_rows, is_kept, rows_on};
 use crate::{Row, copy_of_record, goes_above, is_ordered, journal_at, journal_of};
@@ -93,7 +93,7 @@ pub fn is_history(
     journals: &[List<Record>],
     later: &[Row],
 ) -> Result<bool, AllocError>
-    ensures { IfOk result (λ yes. IsTrue yes ↔ IsHistory shape.now (minted_by mint.now) (journals_in journals.now) later.now) }
+    ensures { IfOk result (λ yes. IsTrue yes ↔ IsHistory shape.now (compact_mint mint.now) (journals_in journals.now) later.now) }
 {
     if !is_ordered(later) {
         return Ok(false);
@@ -188,8 +188,8 @@ fn later_of(
     mint: &CompactTx,
     journals: &[List<Record>],
 ) -> Result<Option<List<Row>>, AllocError>
-    ensures is { IfOk result (λ o. IfSome o (λ later. IsHistory shape.now (minted_by mint.now) (journals_in journals.now) later)) }
-    ensures found { IfOk result (λ o. (later : Items ModelRow) → IsHistory shape.now (minted_by mint.now) (journals_in journals.now) later
+    ensures is { IfOk result (λ o. IfSome o (λ later. IsHistory shape.now (compact_mint mint.now) (journals_in journals.now) later)) }
+    ensures found { IfOk result (λ o. (later : Items ModelRow) → IsHistory shape.now (compact_mint mint.now) (journals_in journals.now) later
         → AreOnNodes shape.now (journals_in journals.now) → o ≡ Some later) }
 {
     let later = later_below(alloc, journals, shape.node_count())?;
@@ -224,7 +224,7 @@ pub fn history_of(
 
 /// Whether journals, of which the newest record is the first, have a kept history: their records by stamp and node, each
 /// behind those of its journal and caused by those before it, and Prepares with forms of proper submissions alone.
-#[tactic(auto, using(crate::proofs::Keeping::kept_history, crate::proofs::Keeping::kept_rows, crate::proofs::Keeping::kept_by))]
+#[tactic(auto, using(crate::proofs::Keeping::kept_history, crate::proofs::Keeping::kept_rows, crate::proofs::Keeping::kept_by_history))]
 pub fn is_kept_ledger(
     alloc: Global,
     shape: &Shape,

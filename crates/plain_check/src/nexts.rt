@@ -3,7 +3,7 @@ ghost use Rattle.std.specs.Prelude.{◌≡◌, ◌<◌, ◌^◌, IfOk};
 ghost use Rattle.cbdc_model.specs.Records.{last_stamp, record_of, decisions_in, stamp_in};
 ghost use Rattle.cbdc_model.specs.Next.{next_stamp, next_lock, next_finish, next_forget, lock_again, finish_again, finish_now, finish_in, forget_in, is_idle};
 ghost use Rattle.plain_check.specs.Slots.{phase_in};
-ghost use Rattle.plain_check.specs.Plans.{lock_plan, stamp_plan};
+ghost use Rattle.plain_check.specs.Plans.{locking_plan, plain_plan};
 
 use crate::comparing::{misfit, other_decisions, other_part};
 use crate::copying::replies_in;
@@ -64,7 +64,7 @@ fn lock_again(
     past: &[Record],
     batch: &BatchId,
 ) -> Result<LockPlan, AllocError>
-    ensures { IfOk result (λ p. lock_plan p ≡ lock_again other past.now batch.now) }
+    ensures { IfOk result (λ p. locking_plan p ≡ lock_again other past.now batch.now) }
 {
     if let Some(at) = other {
         return Ok(LockPlan::Refuse(Refused::OtherPart { at }));
@@ -80,7 +80,7 @@ fn lock_again(
 pub fn next_lock(alloc: Global, past: &[Record], call: &LockCall) -> Result<LockPlan, AllocError>
     requires last { last_stamp past.now < 2 ^ 63 }
     requires cause { call.now.cause < 2 ^ 63 }
-    ensures { IfOk result (λ p. lock_plan p ≡ next_lock past.now call.now.batch call.now.part call.now.cause) }
+    ensures { IfOk result (λ p. locking_plan p ≡ next_lock past.now call.now.batch call.now.part call.now.cause) }
 {
     let slot = slot_of(past, call.batch.lane);
     let number = call.batch.number;
@@ -108,7 +108,7 @@ pub fn next_lock(alloc: Global, past: &[Record], call: &LockCall) -> Result<Lock
 
 // What a Finish is answered where the batch is finished here.
 fn finish_again(other: Option<u64>, past: &[Record], batch: &BatchId) -> StampPlan
-    ensures { stamp_plan result ≡ finish_again other past.now batch.now }
+    ensures { plain_plan result ≡ finish_again other past.now batch.now }
 {
     match other {
         Some(at) => StampPlan::Refuse(Refused::OtherOutcome { at }),
@@ -120,7 +120,7 @@ fn finish_again(other: Option<u64>, past: &[Record], batch: &BatchId) -> StampPl
 fn finish_now(other: Option<u64>, past: &[Record], call: &FinishCall) -> StampPlan
     requires last { last_stamp past.now < 2 ^ 63 }
     requires cause { call.now.cause < 2 ^ 63 }
-    ensures { stamp_plan result ≡ finish_now other past.now call.now.batch.lane call.now.cause }
+    ensures { plain_plan result ≡ finish_now other past.now call.now.batch.lane call.now.cause }
 {
     if let Some(at) = other {
         return StampPlan::Refuse(Refused::OtherOutcome { at });
@@ -136,7 +136,7 @@ fn finish_now(other: Option<u64>, past: &[Record], call: &FinishCall) -> StampPl
 fn finish_in(phase: Phase, past: &[Record], call: &FinishCall) -> StampPlan
     requires last { last_stamp past.now < 2 ^ 63 }
     requires cause { call.now.cause < 2 ^ 63 }
-    ensures { stamp_plan result ≡ finish_in (phase_in phase) past.now call.now.batch call.now.decisions call.now.cause }
+    ensures { plain_plan result ≡ finish_in (phase_in phase) past.now call.now.batch call.now.decisions call.now.cause }
 {
     match phase {
         Phase::InFinish => {
@@ -164,7 +164,7 @@ fn finish_in(phase: Phase, past: &[Record], call: &FinishCall) -> StampPlan
 pub fn next_finish(past: &[Record], call: &FinishCall) -> StampPlan
     requires last { last_stamp past.now < 2 ^ 63 }
     requires cause { call.now.cause < 2 ^ 63 }
-    ensures { stamp_plan result ≡ next_finish past.now call.now.batch call.now.decisions call.now.cause }
+    ensures { plain_plan result ≡ next_finish past.now call.now.batch call.now.decisions call.now.cause }
 {
     let slot = slot_of(past, call.batch.lane);
     let number = call.batch.number;
@@ -181,7 +181,7 @@ pub fn next_finish(past: &[Record], call: &FinishCall) -> StampPlan
 fn forget_in(phase: Phase, past: &[Record], call: &ForgetCall) -> StampPlan
     requires last { last_stamp past.now < 2 ^ 63 }
     requires cause { call.now.cause < 2 ^ 63 }
-    ensures { stamp_plan result ≡ forget_in (phase_in phase) past.now call.now.batch call.now.cause }
+    ensures { plain_plan result ≡ forget_in (phase_in phase) past.now call.now.batch call.now.cause }
 {
     let kept = slot_stamp(past, call.batch.lane);
     match phase {
@@ -205,7 +205,7 @@ fn forget_in(phase: Phase, past: &[Record], call: &ForgetCall) -> StampPlan
 pub fn next_forget(past: &[Record], call: &ForgetCall) -> StampPlan
     requires last { last_stamp past.now < 2 ^ 63 }
     requires cause { call.now.cause < 2 ^ 63 }
-    ensures { stamp_plan result ≡ next_forget past.now call.now.batch call.now.cause }
+    ensures { plain_plan result ≡ next_forget past.now call.now.batch call.now.cause }
 {
     let slot = slot_of(past, call.batch.lane);
     let number = call.batch.number;

@@ -1,7 +1,7 @@
 // What a lane prepared.
 ghost use Rattle.std.specs.Prelude.{◌≡◌, ◌↔◌, ◌++◌, ◌<◌, IsTrue, IfOk, OnOk};
 ghost use Rattle.cbdc_model.specs.Waves.{IsCut, prepared};
-ghost use Rattle.plain_check.specs.Adding.{IsPrepared, AddsPieces};
+ghost use Rattle.plain_check.specs.Adding.{PreparesInPieces, AddsPieces};
 
 use crate::copy_of_txs;
 use cbdc_types::{CompactTx, LaneId, List, Record, Shape};
@@ -97,7 +97,7 @@ pub fn is_prepared(
     old: &[Record],
     new: &[Record],
 ) -> Result<bool, AllocError>
-    ensures { IfOk result (λ yes. IsTrue yes ↔ IsPrepared shape.now lane sent.now old.now new.now) }
+    ensures { IfOk result (λ yes. IsTrue yes ↔ PreparesInPieces shape.now lane sent.now old.now new.now) }
 {
     let mut wanted = pieces_of(alloc, shape.batch() as usize, sent)?.into_vec();
     wanted.reverse();

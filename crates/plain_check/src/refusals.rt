@@ -1,6 +1,6 @@
 // Why a transaction is refused.
 ghost use Rattle.std.specs.Prelude.{MatchOption};
-ghost use Rattle.sentinel.specs.FirstRefusal.{IsFirstRefusal, IsSound};
+ghost use Rattle.sentinel.specs.FirstRefusal.{IsFirstRefusal, IsSoundTx};
 ghost use Rattle.plain_check.specs.Verdicts.{verdicts_in};
 
 use cbdc_types::{FullTx, Hash, List, Refusal};
@@ -27,7 +27,7 @@ impl Verifier for Listed {
 
 /// The first reason that applies to a transaction with these verdicts on its witnesses, by place. None where it is sound.
 pub fn first_refusal_of(t: &FullTx, verdicts: &Listed) -> Option<Refusal>
-    ensures { MatchOption result (IsSound t.now (verdicts_in verdicts.now.verdicts)) (λ r. IsFirstRefusal t.now (verdicts_in verdicts.now.verdicts) r) }
+    ensures { MatchOption result (IsSoundTx t.now (verdicts_in verdicts.now.verdicts)) (λ r. IsFirstRefusal t.now (verdicts_in verdicts.now.verdicts) r) }
 {
     check(t, &Hash([0; 32]), verdicts).err()
 }

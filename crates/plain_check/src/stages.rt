@@ -3,7 +3,7 @@ ghost use Rattle.std.specs.Prelude.{◌≡◌, ◌↔◌, ◌*◌, ◌<◌, ◌�
 ghost use Rattle.cbdc_model.specs.Ranges.{home_of};
 ghost use Rattle.cbdc_model.specs.Waves.{IsResumed, IsFileRun};
 ghost use Rattle.plain_check.specs.Journals.{journals_in};
-ghost use Rattle.plain_check.specs.Adding.{IsPrepared};
+ghost use Rattle.plain_check.specs.Adding.{PreparesInPieces};
 ghost use Rattle.plain_check.specs.Choices.{choices};
 ghost use Rattle.plain_check.specs.Stages.{sent_in, StageRuns, RunsBy};
 
@@ -50,7 +50,7 @@ fn are_prepared_below(
     new: &[List<Record>],
     n: u32,
 ) -> Result<bool, AllocError>
-    ensures { IfOk result (λ yes. IsTrue yes ↔ ((lane : ℕ) → lane < n → IsPrepared shape.now lane (sent_in lists.now lane)
+    ensures { IfOk result (λ yes. IsTrue yes ↔ ((lane : ℕ) → lane < n → PreparesInPieces shape.now lane (sent_in lists.now lane)
         (journals_in old.now (home_of shape.now lane)) (journals_in new.now (home_of shape.now lane)))) }
 {
     if n == 0 {

@@ -2,7 +2,7 @@
 ghost use Rattle.std.specs.Prelude.{◌≡◌, List as Items, OnOk, OnErr};
 ghost use Rattle.cbdc_model.specs.Records.{Digest};
 ghost use Rattle.cbdc_model.specs.World.{Step, Begin, End, Crash, Reopen, Repeat};
-ghost use Rattle.plain_check.specs.Events.{call_in, event_in, mint_of};
+ghost use Rattle.plain_check.specs.Events.{call_in, event_in, mint_by};
 
 use crate::answers::written;
 use crate::event_causes::may_begin;
@@ -21,7 +21,7 @@ fn begin(
     node: NodeId,
     r: &Record,
 ) -> Result<(), AllocError>
-    ensures ok { (hashes : Items Digest) → OnOk result (Step shape.now (mint_of genesis.now hashes) nodes.old (Begin node r.now) nodes.new) }
+    ensures ok { (hashes : Items Digest) → OnOk result (Step shape.now (mint_by genesis.now hashes) nodes.old (Begin node r.now) nodes.new) }
     ensures err { OnErr result (nodes.new ≡ nodes.old) }
 {
     if !is_quiet(nodes, node) {
@@ -43,7 +43,7 @@ fn end(
     genesis: &Hash,
     node: NodeId,
 ) -> Result<(), AllocError>
-    ensures ok { (hashes : Items Digest) → OnOk result (Step shape.now (mint_of genesis.now hashes) nodes.old (End node) nodes.new) }
+    ensures ok { (hashes : Items Digest) → OnOk result (Step shape.now (mint_by genesis.now hashes) nodes.old (End node) nodes.new) }
     ensures err { OnErr result (nodes.new ≡ nodes.old) }
 {
     if !is_up(nodes, node) || !is_writing(nodes, node) {
@@ -61,7 +61,7 @@ fn crash(
     node: NodeId,
     kept: bool,
 ) -> Result<(), AllocError>
-    ensures ok { (hashes : Items Digest) → OnOk result (Step shape.now (mint_of genesis.now hashes) nodes.old (Crash node kept) nodes.new) }
+    ensures ok { (hashes : Items Digest) → OnOk result (Step shape.now (mint_by genesis.now hashes) nodes.old (Crash node kept) nodes.new) }
     ensures err { OnErr result (nodes.new ≡ nodes.old) }
 {
     if !is_up(nodes, node) {
@@ -76,7 +76,7 @@ fn crash(
 
 // The node is opened again.
 fn reopen(nodes: &mut [Node], shape: &Shape, genesis: &Hash, node: NodeId)
-    ensures { (hashes : Items Digest) → Step shape.now (mint_of genesis.now hashes) nodes.old (Reopen node) nodes.new }
+    ensures { (hashes : Items Digest) → Step shape.now (mint_by genesis.now hashes) nodes.old (Reopen node) nodes.new }
 {
     if is_down(nodes, node) {
         set_up(nodes, node, None);
@@ -92,7 +92,7 @@ fn repeat(
     node: NodeId,
     call: &ShardCall,
 ) -> Result<(), AllocError>
-    ensures ok { (hashes : Items Digest) → OnOk result (Step shape.now (mint_of genesis.now hashes) nodes.old (Repeat node (call_in call.now)) nodes.new) }
+    ensures ok { (hashes : Items Digest) → OnOk result (Step shape.now (mint_by genesis.now hashes) nodes.old (Repeat node (call_in call.now)) nodes.new) }
     ensures err { OnErr result (nodes.new ≡ nodes.old) }
 {
     if is_quiet(nodes, node) {
@@ -112,7 +112,7 @@ pub fn happen(
     genesis: &Hash,
     event: &Event,
 ) -> Result<(), AllocError>
-    ensures ok { (hashes : Items Digest) → OnOk result (Step shape.now (mint_of genesis.now hashes) nodes.old (event_in event.now) nodes.new) }
+    ensures ok { (hashes : Items Digest) → OnOk result (Step shape.now (mint_by genesis.now hashes) nodes.old (event_in event.now) nodes.new) }
     ensures err { OnErr result (nodes.new ≡ nodes.old) }
 {
     match event {

@@ -5,7 +5,7 @@ ghost use Rattle.cbdc_model.specs.Records.{Digest, same_digest};
 ghost use Rattle.cbdc_model.specs.Status.{has};
 ghost use Rattle.cbdc_model.specs.World.{IsUnspent};
 ghost use Rattle.plain_check.specs.Journals.{journals_in};
-ghost use Rattle.plain_check.specs.Named.{entry_hashes, named, named_below, is_unspent_at, unspent_among};
+ghost use Rattle.plain_check.specs.Named.{entry_hashes, named_hashes, named_below, is_unspent_at, unspent_among};
 
 use crate::outcomes::journal_at;
 use crate::records::{has, lock_of};
@@ -47,7 +47,7 @@ fn add_entries(es: &[Answered], out: &mut Vec<Hash>) -> Result<(), AllocError>
 
 // Puts the hashes that a journal's Genesis and Finishes name behind those so far.
 fn add_named(past: &[Record], out: &mut Vec<Hash>) -> Result<(), AllocError>
-    ensures { OnOk result (out.new.items ≡ out.old.items ++ named past.now) }
+    ensures { OnOk result (out.new.items ≡ out.old.items ++ named_hashes past.now) }
 {
     let Some((r, rest)) = past.split_first() else {
         return Ok(());

@@ -2,7 +2,7 @@
 ghost use Rattle.std.specs.Prelude.{◌≡◌, ℕ, List as Items, map, take, OnOk, OnErr, IfOk};
 ghost use Rattle.cbdc_model.specs.Records.{Digest};
 ghost use Rattle.cbdc_model.specs.World.{init, first_record, first_node, Step, Run};
-ghost use Rattle.plain_check.specs.Events.{event_in, mint_of};
+ghost use Rattle.plain_check.specs.Events.{event_in, mint_by};
 
 use crate::Node;
 use crate::event_causes::header_at;
@@ -28,7 +28,7 @@ fn first_of(
     hashes: &[Hash],
     node: NodeId,
 ) -> Result<Record, AllocError>
-    ensures { IfOk result (λ r. r ≡ first_record shape.now (mint_of genesis.now hashes.now) node) }
+    ensures { IfOk result (λ r. r ≡ first_record shape.now (mint_by genesis.now hashes.now) node) }
 {
     let header = header_at(shape, genesis, node);
     if node.0 < shape.coordinators() {
@@ -48,7 +48,7 @@ fn node_of(
     hashes: &[Hash],
     node: NodeId,
 ) -> Result<Node, AllocError>
-    ensures { IfOk result (λ n. n ≡ first_node shape.now (mint_of genesis.now hashes.now) node) }
+    ensures { IfOk result (λ n. n ≡ first_node shape.now (mint_by genesis.now hashes.now) node) }
 {
     let mut journal = List::new(alloc);
     journal.push(first_of(alloc, shape, genesis, hashes, node)?)?;
@@ -67,7 +67,7 @@ impl World {
         genesis: &Hash,
         hashes: &[Hash],
     ) -> Result<World, AllocError>
-        ensures nodes { IfOk result (λ w. w.nodes.items ≡ init shape.now (mint_of genesis.now hashes.now)) }
+        ensures nodes { IfOk result (λ w. w.nodes.items ≡ init shape.now (mint_by genesis.now hashes.now)) }
         ensures mint { IfOk result (λ w. (w.shape ≡ shape.now) × (w.genesis ≡ genesis.now)) }
     {
         let mut nodes = Vec::new(alloc);
@@ -83,7 +83,7 @@ impl World {
 
     /// The world after an event. An event that isn't allowed leaves it as it is, and so does running out of memory.
     pub fn step(&mut self, alloc: Global, event: &Event) -> Result<(), AllocError>
-        ensures ok { (hashes : Items Digest) → OnOk result (Step self.old.shape (mint_of self.old.genesis hashes) self.old.nodes.items (event_in event.now) self.new.nodes.items) }
+        ensures ok { (hashes : Items Digest) → OnOk result (Step self.old.shape (mint_by self.old.genesis hashes) self.old.nodes.items (event_in event.now) self.new.nodes.items) }
         ensures err { OnErr result (self.new.nodes.items ≡ self.old.nodes.items) }
         ensures mint { (self.new.shape ≡ self.old.shape) × (self.new.genesis ≡ self.old.genesis) }
     {
@@ -94,8 +94,8 @@ impl World {
 
     /// The world after events in turn. Where memory runs out it is the world after the first of them.
     pub fn run(&mut self, alloc: Global, events: &[Event]) -> Result<(), AllocError>
-        ensures ok { (hashes : Items Digest) → OnOk result (Run self.old.shape (mint_of self.old.genesis hashes) self.old.nodes.items (map event_in events.now) self.new.nodes.items) }
-        ensures err { (hashes : Items Digest) → OnErr result ((n : ℕ) × Run self.old.shape (mint_of self.old.genesis hashes) self.old.nodes.items (map event_in (take n events.now)) self.new.nodes.items) }
+        ensures ok { (hashes : Items Digest) → OnOk result (Run self.old.shape (mint_by self.old.genesis hashes) self.old.nodes.items (map event_in events.now) self.new.nodes.items) }
+        ensures err { (hashes : Items Digest) → OnErr result ((n : ℕ) × Run self.old.shape (mint_by self.old.genesis hashes) self.old.nodes.items (map event_in (take n events.now)) self.new.nodes.items) }
         ensures mint { (self.new.shape ≡ self.old.shape) × (self.new.genesis ≡ self.old.genesis) }
     {
         for event in events {

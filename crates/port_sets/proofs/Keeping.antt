@@ -4,7 +4,7 @@ use Rattle.std.specs.Prelude.{if◌then◌else◌}
 use Rattle.cbdc_model.specs.Sights.{Sight}
 use Rattle.lane_driver.specs.Told.{IsStillNode, KeepNodes}
 use Rattle.lane_driver.proofs.Fitting.{nodes_same}
-use Rattle.node_ports.specs.Nodes.{no_node}
+use Rattle.node_ports.specs.Nodes.{no_sight}
 use Rattle.node_lock.specs.declared.views.Hand.{Hand}
 use Rattle.node_lock.specs.Tickets.{Called}
 use Rattle.node_lock.specs.Viewing.{viewed}
@@ -20,12 +20,12 @@ still_seen first s t h g called old new o n =
 pub seen_elsewhere : (at : ℕ) (old new : Sight) (n : ℕ) → n ≢ at → seen_at at new n ≡ seen_at at old n
 seen_elsewhere at old new n ne = go (n == at) refl
   where
-    go : (b : Bool) → (n == at) ≡ b → (if b then new else no_node) ≡ (if b then old else no_node)
+    go : (b : Bool) → (n == at) ≡ b → (if b then new else no_sight) ≡ (if b then old else no_sight)
     go true e = absurd (ne (grind (arith, e)))
     go false e = refl
 
 pub still_nodes : (at : ℕ) (old new : Sight) → IsStillNode old new → KeepNodes (seen_at at old) (seen_at at new)
-still_nodes at old new still n = elim (n == at) as (λ b. IsStillNode (if b then old else no_node) (if b then new else no_node)) [
+still_nodes at old new still n = elim (n == at) as (λ b. IsStillNode (if b then old else no_sight) (if b then new else no_sight)) [
   | true ↦ still
-  | false ↦ nodes_same (λ m. no_node) n
+  | false ↦ nodes_same (λ m. no_sight) n
 ]

@@ -3,14 +3,14 @@ use Rattle.std.proofs.Common.{◌≡◌, ℕ, Bool, true, false, ◌==◌, refl,
 use Rattle.std.specs.Prelude.{if◌then◌else◌}
 use Rattle.cbdc_model.specs.Slots.{Phase, slot, Idle, InLock, InPrepare, InCommit, InDiscard}
 use Rattle.cbdc_model.specs.Sights.{Sight}
-use Rattle.node_ports.specs.Nodes.{no_node}
+use Rattle.node_ports.specs.Nodes.{no_sight}
 use Rattle.port_sets.specs.Seated.{seen_at, seat_phase}
 
 same_number : (n : ℕ) → (n == n) ≡ true
 same_number n = grind arith
 
 pub seen_here : (at : ℕ) (s : Sight) → seen_at at s at ≡ s
-seen_here at s = ap (λ t. if t then s else no_node) (same_number at)
+seen_here at s = ap (λ t. if t then s else no_sight) (same_number at)
 
 -- a coordinator is asked for the seat's lane alone
 pub mine_of : (mine : ℕ) (s : Sight) (lane : ℕ) (p : Phase) → (InLock ≡ p → ⊥) → seat_phase mine s lane ≡ p → mine ≡ lane

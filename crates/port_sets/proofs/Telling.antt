@@ -12,7 +12,7 @@ use Rattle.lane_laws.specs.Answers.{EachTold, Others}
 use Rattle.lane_driver.specs.Told.{IsStillNode, KeepNodes}
 use Rattle.lane_driver.specs.Keeping.{KeepsShard, KeepsShards}
 use Rattle.lane_driver.proofs.Fitting.{nodes_same}
-use Rattle.node_ports.specs.Nodes.{no_node, sight_at}
+use Rattle.node_ports.specs.Nodes.{no_sight, sight_at}
 use Rattle.port_sets.specs.Phase.{IsCallTaken, IsMade, IsPhaseMade, Answered}
 use Rattle.port_sets.proofs.Halves.{read}
 
@@ -97,7 +97,7 @@ only Q H xs all = All-weaker (λ x. Q x × H) Q (λ x h. h.0) xs all
 -- ---- what is seen
 
 seen_of : {P : Type 0} → (P → Sight) → Option P → Sight
-seen_of sight None = no_node
+seen_of sight None = no_sight
 seen_of sight (Some p) = sight p
 
 module _ {P : Type 0} (sight : P → Sight) where
@@ -130,7 +130,7 @@ module _ {X : Type 0} (R : X → X → Type 0) where
   all_kept Q f (x ∷ xs) (y ∷ ys) z h = All-cons Q y ys (f x y z.0 (All-head Q x xs h)) (all_kept Q f xs ys z.1 (All-tail Q x xs h))
 
   sights_kept : (sight : X → Sight) → ((x y : X) → R x y → IsStillNode (sight x) (sight y)) → (xs ys : List X) → AllZip R xs ys → KeepNodes (sight_at sight xs) (sight_at sight ys)
-  sights_kept sight f [] [] z n = nodes_same (λ k. no_node) n
+  sights_kept sight f [] [] z n = nodes_same (λ k. no_sight) n
   sights_kept sight f [] (y ∷ ys) z n = absurd z
   sights_kept sight f (x ∷ xs) [] z n = absurd z
   sights_kept sight f (x ∷ xs) (y ∷ ys) z zero = f x y z.0

@@ -4,7 +4,7 @@ use Rattle.std.specs.List.{filter}
 use Rattle.cbdc_model.specs.Records.{Digest, Shape, Batch, Outcome, Record, is_won, Won, Lacks, Blocked}
 use Rattle.cbdc_model.specs.Coins.{FullTx, tx_id}
 use Rattle.cbdc_model.specs.Waves.{sent_to}
-use Rattle.sentinel.specs.FirstRefusal.{IsSound, IsFirstRefusal}
+use Rattle.sentinel.specs.FirstRefusal.{IsSoundTx, IsFirstRefusal}
 use Rattle.submissions.specs.Checks.{VerdictsOf, TellsSound}
 use Rattle.line_text.specs.Lines.{Text, confirmed_line, rejected_line, refused_line, summary_text}
 use Rattle.printed_lines.specs.declared.report.Report.{Report}
@@ -30,7 +30,7 @@ turn K sound earlier file place = sent_before K sound earlier (lane_at K place) 
 abbrev pub IsReport : Shape → VerdictsOf → (FullTx → Bool) → (ℕ → List Record) → (ℕ → List Record) → List (List FullTx) → List FullTx → ℕ → FullTx → Report → Type 0
 IsReport K verdicts sound E X earlier file place t (Refused why) = IsFirstRefusal t (verdicts (tx_id t)) why
 IsReport K verdicts sound E X earlier file place t (Decided batch outcome) =
-    IsSound t (verdicts (tx_id t)) × (decided_at K E X (lane_at K place) (turn K sound earlier file place) ≡ Some (batch, outcome))
+    IsSoundTx t (verdicts (tx_id t)) × (decided_at K E X (lane_at K place) (turn K sound earlier file place) ≡ Some (batch, outcome))
 
 -- the line of a decided submission: Held confirms it
 abbrev pub decided_line : ℕ → ℕ → Digest → Batch → Outcome → Text

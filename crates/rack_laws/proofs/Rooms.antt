@@ -7,21 +7,21 @@ use Rattle.cbdc_model.specs.After.{After}
 use Rattle.cbdc_model.specs.Room.{size_of, lane_room, kept_room, need_of}
 use Rattle.cbdc_model.specs.Due.{used_of}
 use Rattle.coord_log.proofs.Places.{commit_size}
-use Rattle.shard_node.proofs.Lanes.{same_lane, other_lane, IsSameLane, same_room, past_lock, past_finish, past_forget, locked_room, finished_room, forgotten_room, room_locked, room_finished, room_idle}
+use Rattle.shard_node.proofs.Lanes.{same_lane, other_lane, SaysSameOfLane, same_room, past_lock, past_finish, past_forget, locked_room, finished_room, forgotten_room, room_locked, room_finished, room_idle}
 use Rattle.shard_node.proofs.Rooms.{kept_moves}
 use Rattle.shard_node.proofs.Follows.{fits_length}
 
 -- of other lanes a coordinator's record says nothing
-past_prepare : (J : List Record) (stamp : ℕ) (b : Batch) (txs : List Compact) (lane : ℕ) → b.lane ≢ lane → IsSameLane J (Prepare stamp b txs ∷ J) lane
+past_prepare : (J : List Record) (stamp : ℕ) (b : Batch) (txs : List Compact) (lane : ℕ) → b.lane ≢ lane → SaysSameOfLane J (Prepare stamp b txs ∷ J) lane
 past_prepare J stamp b txs lane apart = let e = other_lane b.lane lane apart in record { slots = rw e refl; locks = λ n. refl; txs = λ n. rw e refl }
 
-past_commit : (J : List Record) (stamp : ℕ) (b : Batch) (os : List Outcome) (lane : ℕ) → b.lane ≢ lane → IsSameLane J (Commit stamp b os ∷ J) lane
+past_commit : (J : List Record) (stamp : ℕ) (b : Batch) (os : List Outcome) (lane : ℕ) → b.lane ≢ lane → SaysSameOfLane J (Commit stamp b os ∷ J) lane
 past_commit J stamp b os lane apart = let e = other_lane b.lane lane apart in record { slots = rw e refl; locks = λ n. refl; txs = λ n. refl }
 
-past_discard : (J : List Record) (stamp : ℕ) (b : Batch) (lane : ℕ) → b.lane ≢ lane → IsSameLane J (Discard stamp b ∷ J) lane
+past_discard : (J : List Record) (stamp : ℕ) (b : Batch) (lane : ℕ) → b.lane ≢ lane → SaysSameOfLane J (Discard stamp b ∷ J) lane
 past_discard J stamp b lane apart = let e = other_lane b.lane lane apart in record { slots = rw e refl; locks = λ n. refl; txs = λ n. refl }
 
-past_done : (J : List Record) (stamp : ℕ) (b : Batch) (lane : ℕ) → b.lane ≢ lane → IsSameLane J (Done stamp b ∷ J) lane
+past_done : (J : List Record) (stamp : ℕ) (b : Batch) (lane : ℕ) → b.lane ≢ lane → SaysSameOfLane J (Done stamp b ∷ J) lane
 past_done J stamp b lane apart = let e = other_lane b.lane lane apart in record { slots = rw e refl; locks = λ n. refl; txs = λ n. refl }
 
 -- what is kept for its own lane behind it
@@ -47,7 +47,7 @@ room_committed J lane phase = rw phase refl
 room_discarded : (J : List Record) (lane : ℕ) → (slot J lane).phase ≡ InDiscard → lane_room J lane ≡ 34
 room_discarded J lane phase = rw phase refl
 
-moved : (h : Header) (J N : List Record) (lane : ℕ) → ((l : ℕ) → lane ≢ l → IsSameLane J N l) → lane < h.shape.coordinators * h.shape.lanes
+moved : (h : Header) (J N : List Record) (lane : ℕ) → ((l : ℕ) → lane ≢ l → SaysSameOfLane J N l) → lane < h.shape.coordinators * h.shape.lanes
     → kept_room h.shape N + lane_room J lane ≡ kept_room h.shape J + lane_room N lane
 moved h J N lane others inside = kept_moves J N lane (h.shape.coordinators * h.shape.lanes) (λ l apart. same_room J N l (others l apart)) inside
 

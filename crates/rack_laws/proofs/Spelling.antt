@@ -4,7 +4,7 @@ use Rattle.std.specs.List.{AllByRecursion}
 use Rattle.std.proofs.lemmas.Fmt.{decimal_injective, decimal_by_steps}
 use Rattle.hex.specs.Hex.{encode_lower, encode_with, lower_digits, decode_sized}
 use Rattle.hex.proofs.HexLemmas.{decode_sized-encode_lower}
-use Rattle.sentinel.specs.Lines.{Line, IsLine, IsOpen, spelled, word}
+use Rattle.sentinel.specs.Lines.{Line, IsLine, HasNoLineEnd, spelled, word}
 
 -- bytes without one byte
 abbrev Free : ℕ → List ℕ → Type 0
@@ -50,7 +50,7 @@ word_free true = search rules
 word_free false = search rules
 
 -- a line has no line feed
-pub line_free : (l : Line) → IsLine l → IsOpen (spelled l)
+pub line_free : (l : Line) → IsLine l → HasNoLineEnd (spelled l)
 line_free l is =
     let small : l.index < 2 ^ 64 = omega (arith, is.place) in
     free_both 10 (encode_lower l.tx ++ 32 ∷ decimal l.index) (32 ∷ word l.good)

@@ -10,8 +10,8 @@ use Rattle.cbdc_types.specs.declared.answer.Answer.TheVariants as answers
 use Rattle.clap.specs.Words.{Text}
 use Rattle.input_files.specs.Contents.{front, goes_on, AreVerdicts, IsNoVerdicts}
 use Rattle.rack_laws.specs.Files.{HoldsVerdicts}
-use Rattle.sentinel.specs.Files.{Reads, IsWrong, told, verdict_by}
-use Rattle.sentinel.specs.Lines.{Line, IsLine, AreLines, Begins, said, spelled, text}
+use Rattle.sentinel.specs.Files.{ReadsVerdicts, IsLineWrong, file_verdict, verdict_by}
+use Rattle.sentinel.specs.Lines.{Line, IsLine, AreLines, BeginsWithLines, said, spelled, text}
 use Rattle.sentinel.specs.declared.file.VerdictFile.{VerdictFile}
 use Rattle.sentinel.specs.declared.file.VerdictFault.TheVariants as fault
 use Rattle.sentinel.specs.declared.file.BadLine.{BadLine}
@@ -67,7 +67,7 @@ go_on (k ∷ ks) (m ∷ ms) rest one other same =
     let later = go_on ks ms rest one.1 other.1 first.1 in
     record { behind = later.behind; parts = ap (λ (l : Line). l ∷ ks) line ∙ ap (λ (ls : List Line). m ∷ ls) later.parts; rest_is = later.rest_is }
 
-begins_on : (bytes : List ℕ) (ks ms : List Line) (rest : List ℕ) → Begins bytes ks [] → Begins bytes ms rest → GoOn (reverse ks) (reverse ms) rest
+begins_on : (bytes : List ℕ) (ks ms : List Line) (rest : List ℕ) → BeginsWithLines bytes ks [] → BeginsWithLines bytes ms rest → GoOn (reverse ks) (reverse ms) rest
 begins_on bytes ks ms rest whole part =
     go_on (reverse ks) (reverse ms) rest (each_of ks whole.sound) (each_of ms part.sound)
     (sym (text_forward ks) ∙ ends (text ks) ∙ sym whole.whole ∙ part.whole ∙ ap (λ (t : List ℕ). t ++ rest) (text_forward ms))
@@ -94,7 +94,7 @@ not_said ks ms l more are parts =
 
 module _ (more : Bool) (bytes : List ℕ) where
   -- two readings tell the same verdicts
-  pub told_once : (file other : VerdictFile) → Reads more bytes (Ok file) → Reads more bytes (Ok other) → told file ≡ told other
+  pub told_once : (file other : VerdictFile) → ReadsVerdicts more bytes (Ok file) → ReadsVerdicts more bytes (Ok other) → file_verdict file ≡ file_verdict other
   told_once file other one two =
       let (ks, whole, says) = one.1 in
       let (ms, part, tells) = two.1 in
@@ -116,7 +116,7 @@ module _ (more : Bool) (bytes : List ℕ) where
           none (x ∷ s) t is = cc
 
   -- what is read has no wrong line
-  pub read_not_wrong : (file : VerdictFile) (bad : BadLine) → Reads more bytes (Ok file) → Reads more bytes (Err (fault.Bad bad)) → ⊥
+  pub read_not_wrong : (file : VerdictFile) (bad : BadLine) → ReadsVerdicts more bytes (Ok file) → ReadsVerdicts more bytes (Err (fault.Bad bad)) → ⊥
   read_not_wrong file bad one two =
       let (ks, whole, says) = one.1 in
       let (ms, rest, part, number, wrong) = two in
@@ -135,7 +135,7 @@ module _ (more : Bool) (bytes : List ℕ) where
       nowhere [] t is = cc
       nowhere (x ∷ s) t is = cc
 
-      go : (ks ms : List Line) (rest : List ℕ) → AreLines ks → (behind : List Line) → Each behind → reverse ks ≡ reverse ms ++ behind → rest ≡ forward behind → (kind : InputKind) → IsWrong more ms rest kind → ⊥
+      go : (ks ms : List Line) (rest : List ℕ) → AreLines ks → (behind : List Line) → Each behind → reverse ks ≡ reverse ms ++ behind → rest ≡ forward behind → (kind : InputKind) → IsLineWrong more ms rest kind → ⊥
       go ks ms rest are [] each parts at Form wrong = wrong.0 at
       go ks ms rest are (l ∷ behind) each parts at Form wrong = wrong.2 l (forward behind) each.0 at
       go ks ms rest are [] each parts at Repeated wrong = nowhere (spelled wrong.0) wrong.1 (sym at ∙ wrong.3)
@@ -146,13 +146,13 @@ module _ (more : Bool) (bytes : List ℕ) where
       go ks ms rest are behind each parts at _ wrong = wrong
 
   -- nor is it too large
-  pub read_not_large : (file : VerdictFile) → Reads more bytes (Ok file) → Reads more bytes (Err fault.Large) → ⊥
+  pub read_not_large : (file : VerdictFile) → ReadsVerdicts more bytes (Ok file) → ReadsVerdicts more bytes (Err fault.Large) → ⊥
   read_not_large file one two = true≢false (sym two.0 ∙ one.0)
 
 -- ---- a verdict file that is told
 
 module _ (files : Text → Option (List ℕ)) (before now : Text → ℕ) (name : Text) (known : VerdictFile) (holds : HoldsVerdicts files before now name known) where
-  pub verdicts_once : (read : VerdictFile) → AreVerdicts (files name) read → told read ≡ told known
+  pub verdicts_once : (read : VerdictFile) → AreVerdicts (files name) read → file_verdict read ≡ file_verdict known
   verdicts_once read are = told_once (goes_on holds.bytes) (front holds.bytes) read known (are holds.bytes holds.told) holds.reads
 
   pub verdicts_none : (place : ℕ) (answer : Answer) → IsNoVerdicts place (files name) (before name) (now name) answer → answer ≡ answers.Memory

@@ -3,7 +3,7 @@ use Rattle.std.specs.Prelude.{◌≡◌, ℕ, ◌+◌, List, [], ◌∷◌, leng
 use Rattle.outside.specs.Counts.{Rose}
 use Rattle.cbdc_types.specs.declared.tx.FullTx.{FullTx}
 use Rattle.client_files.specs.declared.fault.BadFile.{BadFile}
-use Rattle.sentinel.specs.Files.{Reads}
+use Rattle.sentinel.specs.Files.{ReadsVerdicts}
 use Rattle.sentinel.specs.declared.file.VerdictFile.{VerdictFile}
 use Rattle.clap.specs.Words.{Text}
 use Rattle.input_files.specs.Contents.{front, goes_on, txs_of_file}
@@ -26,5 +26,5 @@ HoldClients files before now count (name ∷ names) (txs ∷ more) = HoldsFile f
 pub record HoldsVerdicts (files : Text → Option (List ℕ)) (before now : Text → ℕ) (name : Text) (known : VerdictFile) : Type 0 where
   pub bytes : List ℕ
   pub told : files name ≡ Some bytes
-  pub reads : Reads (goes_on bytes) (front bytes) (Ok known)
+  pub reads : ReadsVerdicts (goes_on bytes) (front bytes) (Ok known)
   pub steady : Rose (before name) (now name) → ⊥

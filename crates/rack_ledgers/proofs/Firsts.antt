@@ -2,7 +2,7 @@
 use Rattle.std.proofs.Common.{◌≡◌, inl, inr, ⊎_elim, ℕ, Bool, Option, List, [], ◌∷◌, sym, subst}
 use Rattle.gate_journal.specs.Rows.{IsShut, Opens, OpensWithOrWithout}
 use Rattle.gate_journal.specs.Formatting.{IsEmptied}
-use Rattle.gate_journal.specs.Stands.{StandsFor}
+use Rattle.gate_journal.specs.Stands.{HoldsRows}
 use Rattle.outside.specs.Images.{Leaves}
 use Rattle.outside.proofs.Moments.{goes_further, weakened}
 use Rattle.outside.specs.declared.disk.Disk.{Ghosts}
@@ -11,11 +11,11 @@ use Rattle.rack_ledgers.specs.First.{IsFirstStored}
 module _ {D : Type 0} (tells : D → Bool) (moment : D → ℕ) (since : D → ℕ → List ℕ → Type 0) (device : Ghosts D) where
   -- an append behind a call that changes nothing of the disk
   pub appended : (old mid new : D) (gate : ℕ) (body : List ℕ) → mid ≡ old → gate ≡ 0
-      → (StandsFor (device.content mid) (device.images mid) gate [] → Leaves tells moment since device.images mid new (OpensWithOrWithout [] body))
-      → StandsFor (device.content old) (device.images old) 0 [] → Leaves tells moment since device.images old new (OpensWithOrWithout [] body)
+      → (HoldsRows (device.content mid) (device.images mid) gate [] → Leaves tells moment since device.images mid new (OpensWithOrWithout [] body))
+      → HoldsRows (device.content old) (device.images old) 0 [] → Leaves tells moment since device.images old new (OpensWithOrWithout [] body)
   appended old mid new gate body same at leaves stands =
-      let here : StandsFor (device.content old) (device.images old) gate [] = subst (λ (n : ℕ). StandsFor (device.content old) (device.images old) n []) (sym at) stands in
-      subst (λ (d : D). Leaves tells moment since device.images d new (OpensWithOrWithout [] body)) same (leaves (subst (λ (d : D). StandsFor (device.content d) (device.images d) gate []) (sym same) here))
+      let here : HoldsRows (device.content old) (device.images old) gate [] = subst (λ (n : ℕ). HoldsRows (device.content old) (device.images old) n []) (sym at) stands in
+      subst (λ (d : D). Leaves tells moment since device.images d new (OpensWithOrWithout [] body)) same (leaves (subst (λ (d : D). HoldsRows (device.content d) (device.images d) gate []) (sym same) here))
 
 -- a journal of no body has no first row
 none_stored : (before : List ℕ → Type 0) (body bytes : List ℕ) → OpensWithOrWithout [] body bytes → IsFirstStored before body bytes

@@ -6,10 +6,10 @@ use Rattle.cbdc_model.specs.Records.{Header, Record, Genesis, Lock, Finish, Forg
 use Rattle.cbdc_model.specs.Grammar.{IsInGrammar}
 use Rattle.cbdc_model.specs.After.{After, IsFirst, IsJournal}
 use Rattle.record_log.specs.Bodies.{body_of}
-use Rattle.record_log.specs.Exact.{IsFirst as BeginsJournal}
+use Rattle.record_log.specs.Exact.{IsFirstRecord as BeginsJournal}
 use Rattle.gate_journal.specs.Rows.{filling, row, rows, IsShut}
 use Rattle.gate_journal.proofs.Once.{tail_is, row_once, shut_is_no_row}
-use Rattle.record_log.specs.Held.{bodies_of, OpensTo, CutsOff, IsOpen, HasRow}
+use Rattle.record_log.specs.Held.{bodies_of, OpensTo, CutsOff, IsGateOpen, HasRow}
 use Rattle.record_log.proofs.LogSizes.{body_small}
 use Rattle.rack_ledgers.proofs.Once.{same_record, first_header}
 
@@ -47,7 +47,7 @@ follows h (r ∷ later) begins = begins.1
 
 -- what ends rows behind this journal: a closed gate, or an open one with no whole row of a next record
 abbrev pub Ends : Header → List Record → List ℕ → Type 0
-Ends h past rest = IsShut rest ⊎ (IsOpen rest × (HasRow (After h past) rest → ⊥))
+Ends h past rest = IsShut rest ⊎ (IsGateOpen rest × (HasRow (After h past) rest → ⊥))
 
 ends_some : (h : Header) (past : List Record) (rest : List ℕ) → Ends h past rest → 1 ≤ length rest
 ends_some h past [] ends = ⊎_elim (λ shut. absurd shut) (λ opened. absurd opened.0) ends
@@ -138,7 +138,7 @@ whole_fronts h J bytes limits journal opens = record { limits = limits; journal 
 pub damaged_fronts : (h : Header) (J : List Record) (at : ℕ) (bytes : List ℕ) → IsWithinLimits h.shape → IsJournal h J → (cut : CutsOff (After h J) (reverse J) at bytes) → Fronts h J cut.rest bytes
 damaged_fronts h J at bytes limits journal cut = record { limits = limits; journal = journal; parts = cut.parts; ends = inr (cut.opened, cut.none) }
 
-shut_or_open : (rest : List ℕ) → IsShut rest → IsOpen rest → ⊥
+shut_or_open : (rest : List ℕ) → IsShut rest → IsGateOpen rest → ⊥
 shut_or_open [] shut opened = shut
 shut_or_open (gate ∷ rest) shut opened = shut opened
 

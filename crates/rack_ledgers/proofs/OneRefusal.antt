@@ -7,7 +7,7 @@ use Rattle.cbdc_model.specs.Grammar.{IsInGrammar}
 use Rattle.cbdc_model.specs.Room.{kept_room}
 use Rattle.cbdc_model.specs.Due.{used_of}
 use Rattle.record_log.specs.Bodies.{body_of}
-use Rattle.record_log.specs.Exact.{IsFirst as BeginsJournal}
+use Rattle.record_log.specs.Exact.{IsFirstRecord as BeginsJournal}
 use Rattle.gate_journal.specs.Rows.{filling, row, rows}
 use Rattle.gate_journal.proofs.Once.{tail_is, row_once}
 use Rattle.record_log.specs.Held.{bodies_of, HasRow}

@@ -10,7 +10,7 @@ use Rattle.cbdc_model.specs.Due.{used_of}
 use Rattle.outside.specs.Counts.{Rose}
 use Rattle.record_log.specs.Held.{HasRow}
 use Rattle.record_log.specs.Bodies.{body_of}
-use Rattle.record_log.specs.Exact.{IsFirst}
+use Rattle.record_log.specs.Exact.{IsFirstRecord}
 use Rattle.gate_journal.specs.Rows.{filling}
 use Rattle.gate_journal.proofs.Once.{tail_is, row_once}
 use Rattle.record_log.proofs.LogSizes.{first_small}
@@ -64,7 +64,7 @@ module _ (Is : Header → Type 0) (node : ℕ) (ledger : Option Header) (limit :
   other_node kept J is fits differs = (refl, refl, record { journal = J; is = of_any Mine kept J bytes is; fits = fits; differs = differs })
 
 -- a first record is of one kind
-pub start_first : (r : Record) → IsStart r → IsFirst r
+pub start_first : (r : Record) → IsStart r → IsFirstRecord r
 start_first (Start h) is = is
 start_first (Genesis h hs) is = absurd is
 start_first (Lock stamp b es) is = absurd is
@@ -75,7 +75,7 @@ start_first (Commit stamp b os) is = absurd is
 start_first (Discard stamp b) is = absurd is
 start_first (Done stamp b) is = absurd is
 
-pub genesis_first : (r : Record) → IsGenesis r → IsFirst r
+pub genesis_first : (r : Record) → IsGenesis r → IsFirstRecord r
 genesis_first (Genesis h hs) is = is
 genesis_first (Start h) is = absurd is
 genesis_first (Lock stamp b es) is = absurd is

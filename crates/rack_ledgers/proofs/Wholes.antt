@@ -4,21 +4,21 @@ use Rattle.std.proofs.lemmas.List.Elements.{All-nil, All-cons, All-head, All-tai
 use Rattle.cbdc_model.specs.Records.{Header, Record, Genesis, Lock, Finish, Forget, Start, Prepare, Commit, Discard, Done}
 use Rattle.cbdc_model.specs.Grammar.{IsInGrammar}
 use Rattle.record_log.specs.Bodies.{body_of}
-use Rattle.record_log.specs.Exact.{IsFirst}
+use Rattle.record_log.specs.Exact.{IsFirstRecord}
 use Rattle.record_log.proofs.Grammar.{is_read_first, same_read}
 use Rattle.gate_journal.specs.Rows.{filling, row, rows, IsShut}
 use Rattle.gate_journal.proofs.Once.{tail_is, row_once, shut_is_no_row}
-use Rattle.record_log.specs.Held.{bodies_of, HasRow, HasNoRecord, CutsOff, OpensTo, MayHold, IsOpen}
+use Rattle.record_log.specs.Held.{bodies_of, HasRow, HasNoRecord, CutsOff, OpensTo, MayHold, IsGateOpen}
 use Rattle.record_log.proofs.LogSizes.{first_small}
 use Rattle.rack_ledgers.specs.Blank.{HasFirst, HasSecond, AreWholeRecords}
 
 -- a body is that of one first record at most
-pub one_first : (q r : Record) → IsFirst q → IsFirst r → body_of q ≡ body_of r → q ≡ r
+pub one_first : (q r : Record) → IsFirstRecord q → IsFirstRecord r → body_of q ≡ body_of r → q ≡ r
 one_first q r q_is r_is same =
     (same_read (body_of r) q r [] (is_read_first (body_of r) q (sym same, q_is)) (is_read_first (body_of r) r (refl, r_is))).0
 
 -- which has its own header
-own_header : (g h : Header) (r : Record) → IsFirst r → IsInGrammar g r → IsInGrammar h r → g ≡ h
+own_header : (g h : Header) (r : Record) → IsFirstRecord r → IsInGrammar g r → IsInGrammar h r → g ≡ h
 own_header g h (Genesis header hs) is one other = sym one.0 ∙ other.0
 own_header g h (Start header) is one other = sym one.0 ∙ other.0
 own_header g h (Lock stamp b es) is one other = absurd is
@@ -105,7 +105,7 @@ shut_len : (rest : List ℕ) → IsShut rest → 1 ≤ length rest
 shut_len [] shut = absurd shut
 shut_len (x ∷ rest) shut = omega arith
 
-open_len : (rest : List ℕ) → IsOpen rest → 1 ≤ length rest
+open_len : (rest : List ℕ) → IsGateOpen rest → 1 ≤ length rest
 open_len [] is = absurd is
 open_len (x ∷ rest) is = omega arith
 

@@ -5,13 +5,13 @@ use Rattle.cbdc_types.specs.declared.answer.Answer.TheVariants as answers
 use Rattle.cbdc_model.specs.Records.{Header, Record}
 use Rattle.cbdc_model.specs.Grammar.{IsInGrammar}
 use Rattle.record_log.specs.Bodies.{body_of}
-use Rattle.record_log.specs.Exact.{IsFirst}
+use Rattle.record_log.specs.Exact.{IsFirstRecord}
 use Rattle.gate_journal.specs.Rows.{row}
 use Rattle.record_log.specs.Held.{HasRow, MayHold}
 
 -- a whole first record
 abbrev pub HasFirst : List ℕ → Type 0
-HasFirst bytes = HasRow IsFirst bytes
+HasFirst bytes = HasRow IsFirstRecord bytes
 
 -- a whole first record, and behind it a second one that its header allows
 pub record HasSecond (bytes : List ℕ) : Type 0 where

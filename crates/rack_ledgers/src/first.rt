@@ -4,10 +4,10 @@ ghost use Rattle.outside.specs.Counts.{Rose};
 ghost use Rattle.outside.specs.Images.{Tells, Leaves};
 ghost use Rattle.gate_journal.specs.Rows.{OpensWithOrWithout};
 ghost use Rattle.gate_journal.specs.Formatting.{IsEmptied};
-ghost use Rattle.gate_journal.specs.Stands.{StandsFor};
+ghost use Rattle.gate_journal.specs.Stands.{HoldsRows};
 ghost use Rattle.gate_journal.specs.Shown.{disk_of, gate_of, broken_of};
 ghost use Rattle.record_log.specs.Bodies.{body_of as spelled};
-ghost use Rattle.record_log.specs.Held.{Holds};
+ghost use Rattle.record_log.specs.Held.{HoldsRecords};
 ghost use Rattle.rack_ledgers.specs.Places.{IsOpening};
 ghost use Rattle.rack_ledgers.specs.First.{IsBegun, IsUnwritten, IsUnstored, IsFirstStored, first_need};
 
@@ -37,13 +37,13 @@ fn append_body<D: Disk>(node: NodeId, journal: &mut Journal<D>, body: &[u8]) -> 
     requires whole { broken_of journal.old ≡ None }
     requires empty { gate_of journal.old ≡ 0 }
     requires room { 10 + length body.now ≤ D.limit (disk_of journal.old) }
-    ensures written { StandsFor (D.content (disk_of journal.old)) (D.images (disk_of journal.old)) 0 []
-        → OnOk result (StandsFor (D.content (disk_of journal.new)) (D.images (disk_of journal.new)) (9 + length body.now) (body.now ∷ [])) }
+    ensures written { HoldsRows (D.content (disk_of journal.old)) (D.images (disk_of journal.old)) 0 []
+        → OnOk result (HoldsRows (D.content (disk_of journal.new)) (D.images (disk_of journal.new)) (9 + length body.now) (body.now ∷ [])) }
     ensures fault { IfErr result (IsUnstored node (D.count (disk_of journal.old)) (D.count (disk_of journal.new))) }
     ensures untouched { IfErr result (λ e. e ≢ Answer.DiskFault node → disk_of journal.new ≡ disk_of journal.old) }
     ensures later { D.count (disk_of journal.old) ≤ D.count (disk_of journal.new) }
     ensures limit { D.limit (disk_of journal.new) ≡ D.limit (disk_of journal.old) }
-    ensures leaves { StandsFor (D.content (disk_of journal.old)) (D.images (disk_of journal.old)) 0 []
+    ensures leaves { HoldsRows (D.content (disk_of journal.old)) (D.images (disk_of journal.old)) 0 []
         → Leaves D.tells_past D.moment D.images_since D.images (disk_of journal.old) (disk_of journal.new) (OpensWithOrWithout [] body.now) }
 {
     if body.len() > 1 << 40 {
@@ -65,13 +65,13 @@ fn append_first<D: Disk>(node: NodeId, journal: Journal<D>, body: &[u8]) -> Wrot
     requires whole { broken_of journal ≡ None }
     requires empty { gate_of journal ≡ 0 }
     requires room { 10 + length body.now ≤ D.limit (disk_of journal) }
-    ensures written { StandsFor (D.content (disk_of journal)) (D.images (disk_of journal)) 0 []
-        → OnOk result.result (StandsFor (D.content result.disk) (D.images result.disk) (9 + length body.now) (body.now ∷ [])) }
+    ensures written { HoldsRows (D.content (disk_of journal)) (D.images (disk_of journal)) 0 []
+        → OnOk result.result (HoldsRows (D.content result.disk) (D.images result.disk) (9 + length body.now) (body.now ∷ [])) }
     ensures fault { IfErr result.result (IsUnstored node (D.count (disk_of journal)) (D.count result.disk)) }
     ensures untouched { IfErr result.result (λ e. e ≢ Answer.DiskFault node → result.disk ≡ disk_of journal) }
     ensures later { D.count (disk_of journal) ≤ D.count result.disk }
     ensures limit { D.limit result.disk ≡ D.limit (disk_of journal) }
-    ensures leaves { StandsFor (D.content (disk_of journal)) (D.images (disk_of journal)) 0 []
+    ensures leaves { HoldsRows (D.content (disk_of journal)) (D.images (disk_of journal)) 0 []
         → Leaves D.tells_past D.moment D.images_since D.images (disk_of journal) result.disk (OpensWithOrWithout [] body.now) }
 {
     let mut journal = journal;
@@ -85,7 +85,7 @@ fn append_first<D: Disk>(node: NodeId, journal: Journal<D>, body: &[u8]) -> Wrot
 // Makes a disk that has room for a body a journal of that body alone.
 fn write_body<D: Disk>(alloc: Global, node: NodeId, disk: D, body: &[u8]) -> Wrote<D>
     requires { 10 + length body.now ≤ D.limit disk }
-    ensures written { Tells (D.content disk) (λ _. OnOk result.result (StandsFor (D.content result.disk) (D.images result.disk) (9 + length body.now) (body.now ∷ []))) }
+    ensures written { Tells (D.content disk) (λ _. OnOk result.result (HoldsRows (D.content result.disk) (D.images result.disk) (9 + length body.now) (body.now ∷ []))) }
     ensures fault { IfErr result.result (IsUnstored node (D.count disk) (D.count result.disk)) }
     ensures later { D.count disk ≤ D.count result.disk }
     ensures limit { D.limit result.disk ≡ D.limit disk }
@@ -109,7 +109,7 @@ fn write_body<D: Disk>(alloc: Global, node: NodeId, disk: D, body: &[u8]) -> Wro
 /// Makes a disk a journal and writes its first record. It is full where the record and the gates around it have no room.
 pub fn write_first<D: Disk>(alloc: Global, disk: D, first: &Record, header: &Header) -> Wrote<D>
     // The disk holds this record alone, and so does whatever a crash may leave of it.
-    ensures written { OnOk result.result (Tells (D.content disk) (λ _. Holds (D.content result.disk) (D.images result.disk) (9 + length (spelled first.now)) (first.now ∷ []))) }
+    ensures written { OnOk result.result (Tells (D.content disk) (λ _. HoldsRecords (D.content result.disk) (D.images result.disk) (9 + length (spelled first.now)) (first.now ∷ []))) }
     ensures room { OnOk result.result (first_need first.now ≤ D.limit disk) }
 
     // Which refusal it is.

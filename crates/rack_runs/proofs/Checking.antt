@@ -15,7 +15,7 @@ use Rattle.rack_runs.proofs.Behind.{log_journal as log_seen, shard_journal as sh
 use Rattle.rack_ledgers.specs.Caused.{listed_journals as lent_journals, AreCaused}
 use Rattle.rack_ledgers.proofs.CausedTold.{log_journal as log_told, shard_journal as shard_told, no_journal as none_told}
 use Rattle.file_runs.specs.Ledgers.{node_journals, HaveCheckedJournals}
-use Rattle.audit.specs.Journals.{AreJournals}
+use Rattle.audit.specs.Journals.{AreLedgerJournals}
 use Rattle.audit.proofs.Begun.{begun, caused_lists}
 use Rattle.ledger_laws.proofs.Ledger.{steady_lists}
 use Rattle.run_laws.specs.Checked.{CheckedJournals}
@@ -24,10 +24,10 @@ use Rattle.run_laws.proofs.Checked.{Any, to_checked}
 -- ---- checked journals
 
 -- of caused rows of a ledger's journals
-checked_rows : (K : Shape) (genesis : Digest) → 0 < K.shards → (past : List Row) → AllCaused K past → AreJournals K genesis (λ n. journal n past) → (m : Minted) × CheckedJournals K m (λ n. journal n past)
+checked_rows : (K : Shape) (genesis : Digest) → 0 < K.shards → (past : List Row) → AllCaused K past → AreLedgerJournals K genesis (λ n. journal n past) → (m : Minted) × CheckedJournals K m (λ n. journal n past)
 checked_rows K genesis some past caused are =
     let b = begun K genesis (λ n. journal n past) some are in
-    (b.0, to_checked K b.0 (λ n. journal n past) some (steady_lists K b.0 Any (λ n. journal n past) (caused_lists K b.0 past (subst (λ g. AreJournals K g (λ n. journal n past)) (sym b.1) are) b.2 caused)))
+    (b.0, to_checked K b.0 (λ n. journal n past) some (steady_lists K b.0 Any (λ n. journal n past) (caused_lists K b.0 past (subst (λ g. AreLedgerJournals K g (λ n. journal n past)) (sym b.1) are) b.2 caused)))
 
 -- ---- opened nodes
 

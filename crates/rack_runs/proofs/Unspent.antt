@@ -13,8 +13,8 @@ use Rattle.ledger_laws.proofs.Counts.{same_digest_is}
 use Rattle.ledger_laws.proofs.Lookups.{not_true, shard_of-lt}
 use Rattle.ledger_laws.proofs.Moves.{test_step}
 use Rattle.shard_table.specs.Members.{IsSet}
-use Rattle.shard_core.specs.Agrees.{is_unspent}
-use Rattle.shard_core.specs.Counts.{Counts}
+use Rattle.shard_core.specs.Agrees.{says_unspent}
+use Rattle.shard_core.specs.Counts.{CountsUnspent}
 use Rattle.shard_core.proofs.Claims.{has_append}
 use Rattle.std.proofs.lemmas.Slice.Eq.{bytes_eq-Decides}
 use Rattle.std.proofs.Common.{map, take, get_or}
@@ -157,7 +157,7 @@ set_both (x ∷ xs) ys a b apart =
     or_right : (p q : Bool) → q ≡ true → (p || q) ≡ true
     or_right p q e = grind (arith, e)
 
-tells_unspent : (s : Status) → is_unspent s ≡ true → s ≡ Unspent
+tells_unspent : (s : Status) → says_unspent s ≡ true → s ≡ Unspent
 tells_unspent Unspent e = refl
 tells_unspent (Locked b) e = absurd (let z : false ≡ true = e in cc)
 tells_unspent Absent e = absurd (let z : false ≡ true = e in cc)
@@ -203,7 +203,7 @@ module _ (K : Shape) (J : ℕ → List Record) where
         all = λ x u low high. has_append counts.hashes g.hashes x ∙ elim (shard_of K.shards x == from) as (λ t. (shard_of K.shards x == from) ≡ t → (has counts.hashes x || has g.hashes x) ≡ true) [
           | true ↦ λ t.
               let s : shard_of K.shards x ≡ from = grind (arith, t) in
-              let o : has counts.hashes x ≡ true = counts.all x ∙ ap is_unspent (ap (λ M. status M x) (sym (there x s)) ∙ u) in
+              let o : has counts.hashes x ≡ true = counts.all x ∙ ap says_unspent (ap (λ M. status M x) (sym (there x s)) ∙ u) in
               grind (arith, o)
           | false ↦ λ t.
               let above : suc from ≤ shard_of K.shards x = grind (arith, t, low) in
@@ -215,11 +215,11 @@ module _ (K : Shape) (J : ℕ → List Record) where
 
 -- ---- the shards of a ledger
 
-pub count_more : (Ls : List (List Record)) (L : List Record) (n own : ℕ) → CountAll Ls n → Counts L own → CountAll (Ls ++ L ∷ []) (n + own)
+pub count_more : (Ls : List (List Record)) (L : List Record) (n own : ℕ) → CountAll Ls n → CountsUnspent L own → CountAll (Ls ++ L ∷ []) (n + own)
 count_more [] L n own e counts = (own, 0, counts, refl, omega (arith, e))
 count_more (M ∷ Ls) L n own (first, rest, its, others, e) counts = (first, rest + own, its, count_more Ls L rest own others counts, omega (arith, e))
 
-pub count_next : {D : Type 0} (xs : List (NodeOf D)) (i n own sum : ℕ) (x : NodeOf D) → i < length xs → x ≡ get_or xs i x → CountAll (map (λ s. s.journal) (take i xs)) n → Counts x.journal own → sum ≡ n + own
+pub count_next : {D : Type 0} (xs : List (NodeOf D)) (i n own sum : ℕ) (x : NodeOf D) → i < length xs → x ≡ get_or xs i x → CountAll (map (λ s. s.journal) (take i xs)) n → CountsUnspent x.journal own → sum ≡ n + own
     → CountAll (map (λ s. s.journal) (take (i + 1) xs)) sum
 count_next xs i n own sum x low is before counts e =
     subst (λ m. CountAll (map (λ s. s.journal) (take (i + 1) xs)) m) (sym e)

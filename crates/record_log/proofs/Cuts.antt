@@ -11,10 +11,10 @@ use Rattle.cbdc_model.specs.Records.{Header, Record}
 use Rattle.cbdc_model.specs.Grammar.{IsInGrammar}
 use Rattle.record_log.specs.Bodies.{body_of}
 use Rattle.gate_journal.specs.Rows.{filling, row, rows, IsShut, Opens}
-use Rattle.gate_journal.specs.Opening.{IsBroken, Breaks, HasNoFirst}
+use Rattle.gate_journal.specs.Opening.{IsBrokenRow, Breaks, HasNoFirst}
 use Rattle.gate_journal.proofs.Once.{tail_is, row_once, shut_is_no_row, broken_is_no_row}
-use Rattle.record_log.specs.Held.{bodies_of, IsOpen, HasRow, CutsOff, HasNoRecord, MayHold}
-use Rattle.record_log.specs.LogReading.{StopsAt, IsNoFirst, IsRead, IsUnread, IsNoLog}
+use Rattle.record_log.specs.Held.{bodies_of, IsGateOpen, HasRow, CutsOff, HasNoRecord, MayHold}
+use Rattle.record_log.specs.LogReading.{StopsAt, IsNoFirstBody, SpellRecords, IsUnread, IsNoLog}
 use Rattle.record_log.specs.declared.opening.NoLog.{NoLog}
 use Rattle.record_log.specs.declared.opening.NoLog.TheVariants.{Fault, Cut}
 use Rattle.record_log.proofs.LogSizes.{body_small, first_small, limits_of}
@@ -23,12 +23,12 @@ short_at : (xs : List (List ℕ)) (b : List ℕ) (ys : List (List ℕ)) → AllB
 short_at [] b ys all = all.0
 short_at (x ∷ xs) b ys all = short_at xs b ys all.1
 
-broken_open : (rest : List ℕ) → IsBroken rest → IsOpen rest
+broken_open : (rest : List ℕ) → IsBrokenRow rest → IsGateOpen rest
 broken_open [] broken = broken
 broken_open (gate ∷ more) broken = broken.0
 
 -- an open gate with no whole row has no record
-broken_has_none : (P : Record → Type 0) (rest : List ℕ) → ((r : Record) → P r → length (body_of r) < 2 ^ 64) → IsBroken rest → HasRow P rest → ⊥
+broken_has_none : (P : Record → Type 0) (rest : List ℕ) → ((r : Record) → P r → length (body_of r) < 2 ^ 64) → IsBrokenRow rest → HasRow P rest → ⊥
 broken_has_none P rest small broken has = broken_is_no_row rest (body_of has.what) has.more broken (small has.what has.has) has.behind has.parts
 
 -- whole rows of records, and then an open gate with no whole row
@@ -44,7 +44,7 @@ broken_cuts h records at bytes may breaks place = record {
 
 -- rows one of which spells no record
 pub stops_cuts : (h : Header) (records : List Record) (at : ℕ) (bodies : List (List ℕ)) (bytes rest : List ℕ) → MayHold h records → StopsAt h records at bodies → bytes ≡ rows bodies ++ rest
-    → IsShut rest ⊎ IsBroken rest → AllByRecursion (λ (b : List ℕ). length b < 2 ^ 64) bodies → length (rows bodies) < 2 ^ 64 → CutsOff (IsInGrammar h) records at bytes
+    → IsShut rest ⊎ IsBrokenRow rest → AllByRecursion (λ (b : List ℕ). length b < 2 ^ 64) bodies → length (rows bodies) < 2 ^ 64 → CutsOff (IsInGrammar h) records at bytes
 stops_cuts h records at bodies bytes rest may stops parts end short fits =
     let next = stops.next in
     let split : rows bodies ≡ rows (bodies_of records) ++ (row next ++ rows stops.rest) = ap rows stops.parts ∙ flat_map-append row (bodies_of records) (next ∷ stops.rest) in
@@ -77,7 +77,7 @@ no_row bytes none has = ⊎_elim
     nothing xs more empty is = cc
 
 -- nor where the first row's body spells none
-pub no_record : (bodies : List (List ℕ)) (bytes rest : List ℕ) → IsNoFirst bodies → 1 ≤ length bodies → bytes ≡ rows bodies ++ rest → AllByRecursion (λ (b : List ℕ). length b < 2 ^ 64) bodies → HasNoRecord bytes
+pub no_record : (bodies : List (List ℕ)) (bytes rest : List ℕ) → IsNoFirstBody bodies → 1 ≤ length bodies → bytes ≡ rows bodies ++ rest → AllByRecursion (λ (b : List ℕ). length b < 2 ^ 64) bodies → HasNoRecord bytes
 no_record [] bytes rest none some parts short has = absurd (omega (arith, some))
 no_record (b ∷ bodies) bytes rest none some parts short has =
     let whole : bytes ≡ 1 ∷ (filling b ++ (rows bodies ++ rest)) = parts ∙ append_assoc (row b) (rows bodies) rest in
@@ -86,7 +86,7 @@ no_record (b ∷ bodies) bytes rest none some parts short has =
     none has.what (sym (row_once (body_of has.what) b has.more (rows bodies ++ rest) (first_small has.what has.has) short.0 same).0, has.has)
 
 -- what is told of a damaged journal
-pub cut_is : (h : Header) (records : Vec Record) (cut : Option ℕ) (at : ℕ) (bodies : List (List ℕ)) (bytes : List ℕ) (told : NoLog) → MayHold h records.items → IsRead h records.items cut bodies → Breaks bodies bytes
+pub cut_is : (h : Header) (records : Vec Record) (cut : Option ℕ) (at : ℕ) (bodies : List (List ℕ)) (bytes : List ℕ) (told : NoLog) → MayHold h records.items → SpellRecords h records.items cut bodies → Breaks bodies bytes
     → at ≡ length (rows bodies) → at < 2 ^ 64 → MatchOption cut (told ≡ Cut h records at) (λ n. told ≡ Cut h records n) → IsNoLog bytes told
 cut_is h records None at bodies bytes told may read breaks place fits is =
     subst (IsNoLog bytes) (sym is) (may, broken_cuts h records.items at bytes may (subst (λ (b : List (List ℕ)). Breaks b bytes) read breaks) (place ∙ ap (λ (b : List (List ℕ)). length (rows b)) read))
@@ -94,7 +94,7 @@ cut_is h records (Some n) at bodies bytes told may read breaks place fits is =
     subst (IsNoLog bytes) (sym is) (may, stops_cuts h records.items n bodies bytes breaks.rest may read breaks.parts (inr breaks.broken) breaks.short (omega (arith, place, fits)))
 
 -- what is told of one that opened, and whose bodies are no records
-pub log_cut_is : (h : Header) (records : Vec Record) (cut : Option ℕ) (gate : ℕ) (bodies : List (List ℕ)) (bytes : List ℕ) (told : NoLog) → MayHold h records.items → IsRead h records.items cut bodies → Opens bodies bytes
+pub log_cut_is : (h : Header) (records : Vec Record) (cut : Option ℕ) (gate : ℕ) (bodies : List (List ℕ)) (bytes : List ℕ) (told : NoLog) → MayHold h records.items → SpellRecords h records.items cut bodies → Opens bodies bytes
     → gate ≡ length (rows bodies) → gate + 1 < 2 ^ 64 → IsSome cut → IfSome cut (λ n. told ≡ Cut h records n) → IsNoLog bytes told
 log_cut_is h records None gate bodies bytes told may read opens place fits some is = absurd (false≢true some)
 log_cut_is h records (Some n) gate bodies bytes told may read opens place fits some is =
@@ -110,8 +110,8 @@ unread_is bodies bytes rest (Damaged at) is some parts short = is
 unread_is bodies bytes rest (Full used need capacity) is some parts short = is
 unread_is bodies bytes rest Memory is some parts short = tt
 
-pub read_whole : (h : Header) (records : List Record) (cut : Option ℕ) (bodies : List (List ℕ)) → cut ≡ None → IsRead h records cut bodies → bodies ≡ bodies_of records
-read_whole h records cut bodies none read = subst (λ (o : Option ℕ). IsRead h records o bodies) none read
+pub read_whole : (h : Header) (records : List Record) (cut : Option ℕ) (bodies : List (List ℕ)) → cut ≡ None → SpellRecords h records cut bodies → bodies ≡ bodies_of records
+read_whole h records cut bodies none read = subst (λ (o : Option ℕ). SpellRecords h records o bodies) none read
 
 pub if_ok : {A E : Type 0} (r : Result A E) (P Q : A → Type 0) → IfOk r P → ((a : A) → P a → Q a) → IfOk r Q
 if_ok (Ok a) P Q is step = step a is

@@ -14,7 +14,7 @@ use Rattle.byte_fields.proofs.Parts.{FitsBatch, FitsHashes, FitsCompact, FitsRep
 use Rattle.record_log.specs.Bodies.{body_of}
 use Rattle.record_log.specs.Reading.{body_at}
 use Rattle.record_log.specs.Standing.{MayReply, MayDecide, MayEnter, MayStand, MayBegin}
-use Rattle.record_log.specs.Exact.{IsBody, IsFirst, IsFirstBody}
+use Rattle.record_log.specs.Exact.{IsBody, IsFirstRecord, IsFirstBody}
 use Rattle.record_log.proofs.Records.{FitsHeader, FitsHead, FitsRecord, body_read}
 
 -- ---- from what was read to the grammar
@@ -169,7 +169,7 @@ no_fault bytes r f e g = absurd (cc)
 
 -- ---- first bodies
 
-pub begins : (bytes : List ℕ) (r : Record) → FitsRecord r → MayBegin r → IsFirst r
+pub begins : (bytes : List ℕ) (r : Record) → FitsRecord r → MayBegin r → IsFirstRecord r
 begins bytes (Genesis header hs) fits may = (fits.0.shape, is_in_grammar header (Genesis header hs) fits may)
 begins bytes (Start header) fits may = (fits.shape, is_in_grammar header (Start header) fits may)
 begins bytes (Lock stamp b es) fits may = absurd may
@@ -180,7 +180,7 @@ begins bytes (Commit stamp b os) fits may = absurd may
 begins bytes (Discard stamp b) fits may = absurd may
 begins bytes (Done stamp b) fits may = absurd may
 
-pub may_begin : (r : Record) → IsFirst r → MayBegin r
+pub may_begin : (r : Record) → IsFirstRecord r → MayBegin r
 may_begin (Genesis header hs) is = may_stand header (Genesis header hs) is.1
 may_begin (Start header) is = may_stand header (Start header) is.1
 may_begin (Lock stamp b es) is = absurd is

@@ -10,7 +10,7 @@ use Rattle.byte_spelling.specs.Spelling.{number, counted, FitsHash}
 use Rattle.byte_fields.specs.Records.{hashes, batch, compact, entry, reply, answered, outcome, decision}
 use Rattle.byte_fields.proofs.Lengths.{length-number}
 use Rattle.byte_fields.proofs.Parts.{FitsCompact, FitsReply, FitsAnswered, FitsOutcome}
-use Rattle.record_log.specs.Bodies.{header, head, body_of}
+use Rattle.record_log.specs.Bodies.{header_bytes, head, body_of}
 use Rattle.record_log.proofs.Records.{FitsHeader, FitsRecord}
 
 module _ {X : Type 0} (item : X → List ℕ) (size : X → ℕ) (Fits : X → Type 0) (one : (x : X) → Fits x → length (item x) ≡ size x) where
@@ -69,19 +69,19 @@ flat_decisions : (ds : List Bool) → length (flat_map decision ds) ≡ length d
 flat_decisions [] = refl
 flat_decisions (d ∷ ds) = omega (arith, length-append (decision d) (flat_map decision ds), decision_length d, flat_decisions ds)
 
-header_length : (h : Header) → FitsHeader h → length (header h) ≡ 80
+header_length : (h : Header) → FitsHeader h → length (header_bytes h) ≡ 80
 header_length h fits = simp (length-append, length-number) (omega (arith, fits.genesis))
 
 pub batch_head : (kind stamp : ℕ) (b : Batch) → length (head kind stamp ++ batch b) ≡ 25
 batch_head kind stamp b = omega (arith, length-append (head kind stamp) (batch b), length-number stamp, batch_length b)
 
 pub body_length : (r : Record) → FitsRecord r → 9 + length (body_of r) ≡ size_of r
-body_length (Genesis h hs) fits = omega (arith, length-append (head 1 0 ++ header h) (hashes hs), length-append (head 1 0) (header h), length-number 0, header_length h fits.0, hashes_length hs fits.1.1)
+body_length (Genesis h hs) fits = omega (arith, length-append (head 1 0 ++ header_bytes h) (hashes hs), length-append (head 1 0) (header_bytes h), length-number 0, header_length h fits.0, hashes_length hs fits.1.1)
 body_length (Lock stamp b es) fits = omega (arith, length-append (head 2 stamp ++ batch b) (counted answered es), batch_head 2 stamp b, counted_length answered answered_size FitsAnswered answered_length es fits.1.1)
 body_length (Finish stamp b ds) fits =
     omega (arith, length-append (head 3 stamp ++ batch b) (counted decision ds), batch_head 3 stamp b, length-append (number (length ds)) (flat_map decision ds), length-number (length ds), flat_decisions ds)
 body_length (Forget stamp b) fits = omega (arith, batch_head 4 stamp b)
-body_length (Start h) fits = omega (arith, length-append (head 5 0) (header h), length-number 0, header_length h fits)
+body_length (Start h) fits = omega (arith, length-append (head 5 0) (header_bytes h), length-number 0, header_length h fits)
 body_length (Prepare stamp b txs) fits = omega (arith, length-append (head 6 stamp ++ batch b) (counted compact txs), batch_head 6 stamp b, counted_length compact compact_size FitsCompact compact_length txs fits.1.1)
 body_length (Commit stamp b os) fits = omega (arith, length-append (head 7 stamp ++ batch b) (counted outcome os), batch_head 7 stamp b, counted_length outcome outcome_size FitsOutcome outcome_length os fits.1.1)
 body_length (Discard stamp b) fits = omega (arith, batch_head 8 stamp b)

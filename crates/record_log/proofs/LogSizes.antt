@@ -8,7 +8,7 @@ use Rattle.cbdc_model.specs.Records.{Shape, Header, Compact, Reply, Outcome, Ans
 use Rattle.cbdc_model.specs.Grammar.{IsInGrammar, IsEntry, IsCompact, IsOutcome}
 use Rattle.cbdc_model.specs.Room.{size_of, reply_size, outcome_size, compact_size, answered_size}
 use Rattle.record_log.specs.Bodies.{body_of}
-use Rattle.record_log.specs.Exact.{IsFirst}
+use Rattle.record_log.specs.Exact.{IsFirstRecord}
 use Rattle.record_log.proofs.Grammar.{fits_record}
 use Rattle.record_log.proofs.Lengths.{body_length}
 use Rattle.gate_journal.specs.Rows.{row, rows}
@@ -53,7 +53,7 @@ size_is h r limits is = body_length r (fits_record h r limits is)
 pub body_small : (h : Header) (r : Record) → IsWithinLimits h.shape → IsInGrammar h r → length (body_of r) < 2 ^ 64
 body_small h r limits is = omega (arith, size_is h r limits is, size_small h r limits is)
 
-pub first_small : (r : Record) → IsFirst r → length (body_of r) < 2 ^ 64
+pub first_small : (r : Record) → IsFirstRecord r → length (body_of r) < 2 ^ 64
 first_small (Genesis header hs) is = body_small header (Genesis header hs) is.0 is.1
 first_small (Start header) is = body_small header (Start header) is.0 is.1
 first_small (Lock stamp b es) is = absurd is
@@ -64,7 +64,7 @@ first_small (Commit stamp b os) is = absurd is
 first_small (Discard stamp b) is = absurd is
 first_small (Done stamp b) is = absurd is
 
-first_limits : (h : Header) (r : Record) → IsFirst r → IsInGrammar h r → IsWithinLimits h.shape
+first_limits : (h : Header) (r : Record) → IsFirstRecord r → IsInGrammar h r → IsWithinLimits h.shape
 first_limits h (Genesis header hs) is may = subst (λ (k : Header). IsWithinLimits k.shape) may.0 is.0
 first_limits h (Start header) is may = subst (λ (k : Header). IsWithinLimits k.shape) may.0 is.0
 first_limits h (Lock stamp b es) is may = absurd is

@@ -6,7 +6,7 @@ use Rattle.cbdc_model.specs.Records.{Header, Batch, Compact, Answered, Taken, La
 use Rattle.byte_spelling.specs.Spelling.{number, counted}
 use Rattle.byte_fields.specs.Records.{hashes, batch, compact, entry, reply, answered, outcome}
 use Rattle.byte_fields.proofs.Lengths.{length-number}
-use Rattle.record_log.specs.Bodies.{header, head, body_of}
+use Rattle.record_log.specs.Bodies.{header_bytes, head, body_of}
 use Rattle.record_log.proofs.Lengths.{batch_length, batch_head}
 
 pub counted_long : {X : Type 0} (item : X → List ℕ) (xs : List X) → length (counted item xs) ≡ 8 + length (flat_map item xs)
@@ -21,7 +21,7 @@ lacks_long shard x = omega (arith, length-append (number shard) x, length-number
 pub blocked_long : (shard : ℕ) (x : List ℕ) (by : Batch) → length (outcome (Blocked shard x by)) ≡ 25 + length x
 blocked_long shard x by = omega (arith, length-append (number shard ++ x) (batch by), length-append (number shard) x, length-number shard, batch_length by)
 
-pub header_long : (h : Header) → length (header h) ≡ 48 + length h.genesis
+pub header_long : (h : Header) → length (header_bytes h) ≡ 48 + length h.genesis
 header_long h = simp (length-append, length-number) (omega arith)
 
 pub compact_long : (t : Compact) → length (compact t) ≡ length t.id + length (hashes t.inputs) + length (hashes t.outputs)
@@ -42,8 +42,8 @@ answered_long a =
 pub listed_long : {X : Type 0} (item : X → List ℕ) (kind stamp : ℕ) (b : Batch) (xs : List X) → length (head kind stamp ++ batch b ++ counted item xs) ≡ 25 + length (counted item xs)
 listed_long item kind stamp b xs = omega (arith, length-append (head kind stamp ++ batch b) (counted item xs), batch_head kind stamp b)
 
-pub genesis_long : (h : Header) (hs : List (List ℕ)) → length (body_of (Genesis h hs)) ≡ 9 + length (header h) + length (hashes hs)
-genesis_long h hs = omega (arith, length-append (head 1 0 ++ header h) (hashes hs), length-append (head 1 0) (header h), length-number 0)
+pub genesis_long : (h : Header) (hs : List (List ℕ)) → length (body_of (Genesis h hs)) ≡ 9 + length (header_bytes h) + length (hashes hs)
+genesis_long h hs = omega (arith, length-append (head 1 0 ++ header_bytes h) (hashes hs), length-append (head 1 0) (header_bytes h), length-number 0)
 
-pub start_long : (h : Header) → length (body_of (Start h)) ≡ 9 + length (header h)
-start_long h = omega (arith, length-append (head 5 0) (header h), length-number 0)
+pub start_long : (h : Header) → length (body_of (Start h)) ≡ 9 + length (header_bytes h)
+start_long h = omega (arith, length-append (head 5 0) (header_bytes h), length-number 0)

@@ -22,7 +22,7 @@ use Rattle.byte_fields.proofs.Lists.{list_read}
 use Rattle.byte_fields.proofs.Readers.{one_read, two_read, three_read, four_read, tested_read, refits, respells, chosen}
 use Rattle.byte_fields.proofs.Parts.{FitsByte, FitsSmall, FitsBatch, FitsCompact, FitsAnswered, FitsOutcome, FitsDecision, number_read, hash_read, small_read, batch_read, compact_read, answered_read, outcome_read, decision_read, tagged_read}
 use Rattle.record_log.specs.declared.reading.Head.{Head}
-use Rattle.record_log.specs.Bodies.{magic, header, body_of}
+use Rattle.record_log.specs.Bodies.{magic, header_bytes, body_of}
 use Rattle.record_log.specs.Reading.{is_to, is_shape, magic_at, sizes_at, shape_at, header_at, zero_at, head_at, genesis_at, lock_at, finish_at, forget_at, start_at, prepare_at, commit_at, discard_at, done_at, body_at}
 
 -- ---- what fits its fields
@@ -117,9 +117,9 @@ shape_read = refits shape_at shape_text (λ s. FitsSizes s × (is_shape s ≡ tr
 header_is : List ℕ → ℕ → ShapeOf → List ℕ → Header
 header_is m node shape genesis = record { node = node; shape = shape; genesis = genesis }
 
-header_read : IsRead header_at header FitsHeader
+header_read : IsRead header_at header_bytes FitsHeader
 unfolding header_at header_is
-header_read = four_read magic_at (λ m. magic) IsMagic magic_read small_at number FitsSmall small_read shape_at shape_text IsWithinLimits shape_read hash_at (λ h. h) FitsHash hash_read header_is header FitsHeader
+header_read = four_read magic_at (λ m. magic) IsMagic magic_read small_at number FitsSmall small_read shape_at shape_text IsWithinLimits shape_read hash_at (λ h. h) FitsHash hash_read header_is header_bytes FitsHeader
     (λ m node s id. simp append_assoc)
     (λ m node s id a b c d. record { node = b; shape = c; genesis = d })
     (λ h fits. (magic, h.node, h.shape, h.genesis, refl, fits.node, fits.shape, fits.genesis, refl))
@@ -172,11 +172,11 @@ outcomes_read = list_read outcome_at outcome FitsOutcome outcome_read 1024 (omeg
 
 -- what stands behind a record's first byte
 abbrev record_rest : Record → List ℕ
-record_rest (Genesis h hs) = (number 0 ++ header h) ++ hashes hs
+record_rest (Genesis h hs) = (number 0 ++ header_bytes h) ++ hashes hs
 record_rest (Lock stamp b es) = (number stamp ++ batch b) ++ counted answered es
 record_rest (Finish stamp b ds) = (number stamp ++ batch b) ++ counted decision ds
 record_rest (Forget stamp b) = number stamp ++ batch b
-record_rest (Start h) = number 0 ++ header h
+record_rest (Start h) = number 0 ++ header_bytes h
 record_rest (Prepare stamp b txs) = (number stamp ++ batch b) ++ counted compact txs
 record_rest (Commit stamp b os) = (number stamp ++ batch b) ++ counted outcome os
 record_rest (Discard stamp b) = number stamp ++ batch b
@@ -187,8 +187,8 @@ IsGenesis r = (z : ℕ) × (h : Header) × (hs : List (List ℕ)) × IsZero z ×
 
 genesis_read : IsRead genesis_at record_rest IsGenesis
 unfolding genesis_at
-genesis_read = three_read zero_at (λ n. number 0) IsZero zero_read header_at header FitsHeader header_read (list_at 1000000 hash_at) hashes (FitsList 1000000 FitsHash) minted_read (λ z h hs. Genesis h hs) record_rest IsGenesis
-    (λ z h hs. sym (append_assoc (number 0) (header h) (hashes hs)))
+genesis_read = three_read zero_at (λ n. number 0) IsZero zero_read header_at header_bytes FitsHeader header_read (list_at 1000000 hash_at) hashes (FitsList 1000000 FitsHash) minted_read (λ z h hs. Genesis h hs) record_rest IsGenesis
+    (λ z h hs. sym (append_assoc (number 0) (header_bytes h) (hashes hs)))
     (λ z h hs a b c. (z, h, hs, a, b, c, refl))
     (λ r is. is)
 
@@ -197,7 +197,7 @@ IsStart r = (z : ℕ) × (h : Header) × IsZero z × FitsHeader h × (Start h �
 
 start_read : IsRead start_at record_rest IsStart
 unfolding start_at
-start_read = two_read zero_at (λ n. number 0) IsZero zero_read header_at header FitsHeader header_read (λ z h. Start h) record_rest IsStart
+start_read = two_read zero_at (λ n. number 0) IsZero zero_read header_at header_bytes FitsHeader header_read (λ z h. Start h) record_rest IsStart
     (λ z h. refl)
     (λ z h a b. (z, h, a, b, refl))
     (λ r is. is)

@@ -11,16 +11,16 @@ use Rattle.record_log.specs.Exact.{IsBody, IsFirstBody}
 use Rattle.gate_journal.specs.Rows.{row, rows}
 use Rattle.gate_journal.proofs.RowBytes.{length-row, length-rows-push}
 use Rattle.record_log.specs.Held.{bodies_of, MayHold}
-use Rattle.record_log.specs.LogReading.{StopsAt, IsNoFirst, place_behind}
+use Rattle.record_log.specs.LogReading.{StopsAt, IsNoFirstBody, place_behind}
 
 -- the first bodies spell these records, which end at this place
-pub record SoFar (h : Header) (records : List Record) (at i : ℕ) (bodies : List (List ℕ)) : Type 0 where
+pub record RecordsSoFar (h : Header) (records : List Record) (at i : ℕ) (bodies : List (List ℕ)) : Type 0 where
   pub holds : MayHold h records
   pub spelled : bodies_of records ≡ take i bodies
   pub place : at ≡ place_behind records
 
 pub start : (h : Header) (first : Record) (at : ℕ) (bodies : List (List ℕ)) (b : List ℕ) → MayHold h (first ∷ []) → slice_get bodies 0 ≡ Some (body_of first) → slice_get bodies 0 ≡ Some b → at ≡ min (length (row b)) 18446744073709551615
-    → SoFar h (first ∷ []) at 1 bodies
+    → RecordsSoFar h (first ∷ []) at 1 bodies
 start h first at [] b holds is of place = cc
 start h first at (c ∷ bodies) b holds is of place =
     let here : c ≡ body_of first = cc in
@@ -38,8 +38,8 @@ holds_more h (q ∷ later) r holds is = (holds.0, All-push (IsInGrammar h) (q �
 bodies_push : (records : List Record) (r : Record) → bodies_of (records ++ r ∷ []) ≡ bodies_of records ++ body_of r ∷ []
 bodies_push records r = map-append body_of records (r ∷ [])
 
-pub more : (h : Header) (records : List Record) (at i size next : ℕ) (bodies : List (List ℕ)) (b : List ℕ) (r : Record) → SoFar h records at i bodies → i < length bodies → b ≡ get_or bodies i b → IsBody h b r
-    → size ≡ min (length (row b)) 18446744073709551615 → next ≡ min (at + size) 18446744073709551615 → SoFar h (records ++ r ∷ []) next (i + 1) bodies
+pub more : (h : Header) (records : List Record) (at i size next : ℕ) (bodies : List (List ℕ)) (b : List ℕ) (r : Record) → RecordsSoFar h records at i bodies → i < length bodies → b ≡ get_or bodies i b → IsBody h b r
+    → size ≡ min (length (row b)) 18446744073709551615 → next ≡ min (at + size) 18446744073709551615 → RecordsSoFar h (records ++ r ∷ []) next (i + 1) bodies
 more h records at i size next bodies b r so_far inside here is size_is next_is = record {
   holds = holds_more h records r so_far.holds is.1;
   spelled = bodies_push records r ∙ ap₂ (λ (xs : List (List ℕ)) (x : List ℕ). xs ++ x ∷ []) so_far.spelled (sym is.0 ∙ here) ∙ sym (ap (λ n. take n bodies) (add-one i) ∙ take-suc bodies i b inside);
@@ -54,7 +54,7 @@ at_drop : (bodies : List (List ℕ)) (i : ℕ) (b : List ℕ) → i < length bod
 at_drop bodies i b inside here = drop-cons bodies i b inside ∙ ap (λ (x : List ℕ). x ∷ drop (suc i) bodies) (sym here)
 
 -- the next body spells no record
-pub stop : (h : Header) (records : List Record) (at i : ℕ) (bodies : List (List ℕ)) (b : List ℕ) → SoFar h records at i bodies → i < length bodies → b ≡ get_or bodies i b → ((r : Record) → IsBody h b r → ⊥)
+pub stop : (h : Header) (records : List Record) (at i : ℕ) (bodies : List (List ℕ)) (b : List ℕ) → RecordsSoFar h records at i bodies → i < length bodies → b ≡ get_or bodies i b → ((r : Record) → IsBody h b r → ⊥)
     → StopsAt h records at bodies
 stop h records at i bodies b so_far inside here none = record {
   next = b;
@@ -65,10 +65,10 @@ stop h records at i bodies b so_far inside here none = record {
 }
 
 -- all bodies were read
-pub all_read : (h : Header) (records : List Record) (at i : ℕ) (bodies : List (List ℕ)) → SoFar h records at i bodies → length bodies ≤ i → bodies ≡ bodies_of records
+pub all_read : (h : Header) (records : List Record) (at i : ℕ) (bodies : List (List ℕ)) → RecordsSoFar h records at i bodies → length bodies ≤ i → bodies ≡ bodies_of records
 all_read h records at i bodies so_far end = sym (take_all i bodies end) ∙ sym so_far.spelled
 
-pub no_first : (bodies : List (List ℕ)) (b : List ℕ) → slice_get bodies 0 ≡ Some b → ((r : Record) → IsFirstBody b r → ⊥) → IsNoFirst bodies
+pub no_first : (bodies : List (List ℕ)) (b : List ℕ) → slice_get bodies 0 ≡ Some b → ((r : Record) → IsFirstBody b r → ⊥) → IsNoFirstBody bodies
 no_first [] b is none = tt
 no_first (c ∷ bodies) b is none =
     let same : b ≡ c = cc in

@@ -11,8 +11,8 @@ abbrev pub magic : List ℕ
 magic = 72 ∷ 65 ∷ 77 ∷ 74 ∷ 82 ∷ 78 ∷ 76 ∷ 49 ∷ []
 
 -- it and a header's numbers and genesis id
-abbrev pub header : Header → List ℕ
-header h = magic ++ number h.node ++ number h.shape.shards ++ number h.shape.coordinators ++ number h.shape.lanes ++ number h.shape.batch ++ h.genesis
+abbrev pub header_bytes : Header → List ℕ
+header_bytes h = magic ++ number h.node ++ number h.shape.shards ++ number h.shape.coordinators ++ number h.shape.lanes ++ number h.shape.batch ++ h.genesis
 
 -- a record's kind and its stamp
 abbrev pub head : ℕ → ℕ → List ℕ
@@ -20,11 +20,11 @@ head kind stamp = kind ∷ [] ++ number stamp
 
 -- the one spelling of a record
 abbrev pub body_of : Record → List ℕ
-body_of (Genesis h hs) = head 1 0 ++ header h ++ hashes hs
+body_of (Genesis h hs) = head 1 0 ++ header_bytes h ++ hashes hs
 body_of (Lock stamp b es) = head 2 stamp ++ batch b ++ counted answered es
 body_of (Finish stamp b ds) = head 3 stamp ++ batch b ++ counted decision ds
 body_of (Forget stamp b) = head 4 stamp ++ batch b
-body_of (Start h) = head 5 0 ++ header h
+body_of (Start h) = head 5 0 ++ header_bytes h
 body_of (Prepare stamp b txs) = head 6 stamp ++ batch b ++ counted compact txs
 body_of (Commit stamp b os) = head 7 stamp ++ batch b ++ counted outcome os
 body_of (Discard stamp b) = head 8 stamp ++ batch b

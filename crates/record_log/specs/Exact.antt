@@ -12,23 +12,23 @@ abbrev pub IsBody : Header → List ℕ → Record → Type 0
 IsBody h bytes r = (bytes ≡ body_of r) × IsInGrammar h r
 
 -- a record that a journal may begin with: a Genesis or a Start under its own header
-abbrev pub IsFirst : Record → Type 0
-IsFirst (Genesis header hs) = IsWithinLimits header.shape × IsInGrammar header (Genesis header hs)
-IsFirst (Start header) = IsWithinLimits header.shape × IsInGrammar header (Start header)
-IsFirst (Lock stamp b es) = ⊥
-IsFirst (Finish stamp b ds) = ⊥
-IsFirst (Forget stamp b) = ⊥
-IsFirst (Prepare stamp b txs) = ⊥
-IsFirst (Commit stamp b os) = ⊥
-IsFirst (Discard stamp b) = ⊥
-IsFirst (Done stamp b) = ⊥
+abbrev pub IsFirstRecord : Record → Type 0
+IsFirstRecord (Genesis header hs) = IsWithinLimits header.shape × IsInGrammar header (Genesis header hs)
+IsFirstRecord (Start header) = IsWithinLimits header.shape × IsInGrammar header (Start header)
+IsFirstRecord (Lock stamp b es) = ⊥
+IsFirstRecord (Finish stamp b ds) = ⊥
+IsFirstRecord (Forget stamp b) = ⊥
+IsFirstRecord (Prepare stamp b txs) = ⊥
+IsFirstRecord (Commit stamp b os) = ⊥
+IsFirstRecord (Discard stamp b) = ⊥
+IsFirstRecord (Done stamp b) = ⊥
 
 -- the bytes are its body
 abbrev pub IsFirstBody : List ℕ → Record → Type 0
-IsFirstBody bytes r = (bytes ≡ body_of r) × IsFirst r
+IsFirstBody bytes r = (bytes ≡ body_of r) × IsFirstRecord r
 
 -- this record was read, unless memory ran out
-abbrev pub Reads : Record → Result Record RecordFault → Type 0
-Reads r (Ok q) = q ≡ r
-Reads r (Err NotARecord) = ⊥
-Reads r (Err Memory) = Unit {0}
+abbrev pub ReadsRecord : Record → Result Record RecordFault → Type 0
+ReadsRecord r (Ok q) = q ≡ r
+ReadsRecord r (Err NotARecord) = ⊥
+ReadsRecord r (Err Memory) = Unit {0}

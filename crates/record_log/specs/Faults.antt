@@ -6,6 +6,6 @@ use Rattle.record_log.specs.declared.fault.RecordFault.{RecordFault}
 use Rattle.record_log.specs.declared.fault.RecordFault.TheVariants.{NotARecord, Memory}
 
 -- how a reader's fault is told
-abbrev pub IsTaken : ReadError → RecordFault → Type 0
-IsTaken errors.Memory f = f ≡ Memory
-IsTaken (errors.Bad b) f = f ≡ NotARecord
+abbrev pub IsReadFault : ReadError → RecordFault → Type 0
+IsReadFault errors.Memory f = f ≡ Memory
+IsReadFault (errors.Bad b) f = f ≡ NotARecord

@@ -23,18 +23,18 @@ pub record StopsAt (h : Header) (records : List Record) (at : ℕ) (bodies : Lis
   pub place : at ≡ place_behind records
 
 -- the bodies spell these records; or they do up to a place
-abbrev pub IsRead : Header → List Record → Option ℕ → List (List ℕ) → Type 0
-IsRead h records None bodies = bodies ≡ bodies_of records
-IsRead h records (Some at) bodies = StopsAt h records at bodies
+abbrev pub SpellRecords : Header → List Record → Option ℕ → List (List ℕ) → Type 0
+SpellRecords h records None bodies = bodies ≡ bodies_of records
+SpellRecords h records (Some at) bodies = StopsAt h records at bodies
 
 -- the first body is no first record, or there is none
-abbrev pub IsNoFirst : List (List ℕ) → Type 0
-IsNoFirst [] = Unit {0}
-IsNoFirst (b ∷ bodies) = (r : Record) → IsFirstBody b r → ⊥
+abbrev pub IsNoFirstBody : List (List ℕ) → Type 0
+IsNoFirstBody [] = Unit {0}
+IsNoFirstBody (b ∷ bodies) = (r : Record) → IsFirstBody b r → ⊥
 
 -- why bodies spell no journal
 abbrev pub IsUnread : List (List ℕ) → NodeOpenFault → Type 0
-IsUnread bodies NotReady = IsNoFirst bodies
+IsUnread bodies NotReady = IsNoFirstBody bodies
 IsUnread bodies Memory = Unit {0}
 IsUnread bodies other = ⊥
 

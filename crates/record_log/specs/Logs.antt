@@ -8,21 +8,21 @@ use Rattle.gate_journal.specs.declared.faults.AppendFault.TheVariants as journal
 use Rattle.record_log.specs.declared.log.LogFault.{LogFault}
 use Rattle.record_log.specs.declared.log.LogFault.TheVariants.{Broken, Full, DiskFault}
 use Rattle.record_log.specs.declared.log.RecordLog.{RecordLog}
-use Rattle.record_log.specs.Held.{Holds}
+use Rattle.record_log.specs.Held.{HoldsRecords}
 
 -- its disk holds these records, and a crash leaves nothing else
 abbrev pub HoldsAll : {D : Type 0} {G : Ghosts D} → RecordLog D G → List Record → Type 0
-HoldsAll {D} {G} l records = Holds (G.content (disk_of l.journal)) (G.images (disk_of l.journal)) (gate_of l.journal) records
+HoldsAll {D} {G} l records = HoldsRecords (G.content (disk_of l.journal)) (G.images (disk_of l.journal)) (gate_of l.journal) records
 
 -- there is memory for so many more records, whose bodies have at most so many bytes
-pub record HasRoom {D : Type 0} {G : Ghosts D} (l : RecordLog D G) (count bytes : ℕ) : Type 0 where
+pub record HasLogRoom {D : Type 0} {G : Ghosts D} (l : RecordLog D G) (count bytes : ℕ) : Type 0 where
   pub records : vec_len l.records + count ≤ vec_capacity l.records
   pub body : bytes ≤ vec_capacity l.body
   pub row : bytes ≤ reserved_of l.journal
 
 -- the memory that was there is there still
 abbrev pub KeepsRoom : {D : Type 0} {G : Ghosts D} → RecordLog D G → RecordLog D G → Type 0
-KeepsRoom old new = (count bytes : ℕ) → HasRoom old count bytes → HasRoom new count bytes
+KeepsRoom old new = (count bytes : ℕ) → HasLogRoom old count bytes → HasLogRoom new count bytes
 
 -- its journal is as before
 pub record IsUntouched {D : Type 0} {G : Ghosts D} (old new : RecordLog D G) : Type 0 where

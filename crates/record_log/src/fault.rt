@@ -1,6 +1,6 @@
 // Why no record was read.
 ghost use Rattle.std.specs.Prelude.{◌≡◌};
-ghost use Rattle.record_log.specs.Faults.{IsTaken};
+ghost use Rattle.record_log.specs.Faults.{IsReadFault};
 
 use byte_fields::ReadError;
 use thiserror::Error;
@@ -16,7 +16,7 @@ pub enum RecordFault {
 }
 
 impl From<ReadError> for RecordFault {
-    ghost from_gives = { λ e f. IsTaken e f };
+    ghost from_gives = { λ e f. IsReadFault e f };
 
     fn from(e: ReadError) -> RecordFault {
         match e {

@@ -2,7 +2,7 @@
 ghost use Rattle.std.specs.Prelude.{◌≡◌, IfOk};
 ghost use Rattle.cbdc_model.specs.Grammar.{IsInGrammar};
 ghost use Rattle.record_log.specs.Bodies.{body_of};
-ghost use Rattle.record_log.specs.Exact.{Reads};
+ghost use Rattle.record_log.specs.Exact.{ReadsRecord};
 ghost use Rattle.record_log.specs.Laws.{OneBodyLaw, SizeLaw};
 
 use crate::fault::RecordFault;
@@ -22,7 +22,7 @@ fn body_of_record(alloc: Global, record: &Record, header: &Header) -> Result<Vec
 
 /// Writes a record and reads it again: where it may stand under the header it comes back the same, or memory ran out.
 pub fn read_back(alloc: Global, record: &Record, header: &Header) -> Result<Record, RecordFault>
-    ensures { IsInGrammar header.now «record».now → Reads «record».now result }
+    ensures { IsInGrammar header.now «record».now → ReadsRecord «record».now result }
 {
     match body_of_record(alloc, record, header) {
         Ok(body) => read_record(alloc, body.as_slice(), header),

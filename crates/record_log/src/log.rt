@@ -4,7 +4,7 @@ ghost use Rattle.outside.specs.Counts.{Rose};
 ghost use Rattle.outside.specs.Images.{Leaves};
 ghost use Rattle.gate_journal.specs.Shown.{disk_of, gate_of, broken_of};
 ghost use Rattle.gate_journal.specs.Rows.{OpensWithOrWithout};
-ghost use Rattle.gate_journal.specs.Appending.{refusal};
+ghost use Rattle.gate_journal.specs.Appending.{append_fault};
 ghost use Rattle.record_log.specs.Bodies.{body_of};
 ghost use Rattle.record_log.specs.Held.{bodies_of};
 
@@ -41,12 +41,12 @@ pub struct RecordLog<D: Disk> {
 
 impl<D: Disk> RecordLog<D> {
     ghost use Rattle.cbdc_model.specs.Records.{Record};
-    ghost use Rattle.record_log.specs.Logs.{HoldsAll, HasRoom, KeepsRoom, IsUntouched, log_fault};
+    ghost use Rattle.record_log.specs.Logs.{HoldsAll, HasLogRoom, KeepsRoom, IsUntouched, log_fault};
 
     /// Takes the memory for so many further records, whose bodies have at most so many bytes.
     pub fn reserve(&mut self, count: usize, bytes: u64) -> Result<(), AllocError>
         requires { bytes < 2 ^ 62 }
-        ensures room { OnOk result (HasRoom self.new count bytes) }
+        ensures room { OnOk result (HasLogRoom self.new count bytes) }
         ensures keeps { KeepsRoom self.old self.new }
         ensures untouched { IsUntouched self.old self.new }
         ensures faults { D.count (disk_of self.new.journal) ≡ D.count (disk_of self.old.journal) }
@@ -90,8 +90,8 @@ impl<D: Disk> RecordLog<D> {
     /// Writes a record to the disk, in memory that was taken before. It is kept by `keep`.
     pub fn write(&mut self, next: &Record) -> Result<(), LogFault>
         // Where there is memory, Broken and Full come exactly where it is so, and nothing is written.
-        ensures answer { HasRoom self.old 1 (length (body_of next.now)) →
-            MatchOption (refusal (broken_of self.old.journal) (gate_of self.old.journal + 1) (9 + length (body_of next.now)) (D.limit (disk_of self.old.journal)))
+        ensures answer { HasLogRoom self.old 1 (length (body_of next.now)) →
+            MatchOption (append_fault (broken_of self.old.journal) (gate_of self.old.journal + 1) (9 + length (body_of next.now)) (D.limit (disk_of self.old.journal)))
             (IsOkUnless result LogFault.DiskFault)
             (λ fault. result ≡ Err (log_fault fault)) }
         ensures unwritten { IfErr result (λ e. e ≢ LogFault.DiskFault → IsUntouched self.old self.new) }
@@ -149,7 +149,7 @@ impl<D: Disk> RecordLog<D> {
     pub fn keep(&mut self, next: Record)
         requires { vec_len self.old.records < vec_capacity self.old.records }
         ensures kept { self.new.records.items ≡ self.old.records.items ++ next ∷ [] }
-        ensures room { (count bytes : ℕ) → HasRoom self.old (count + 1) bytes → HasRoom self.new count bytes }
+        ensures room { (count bytes : ℕ) → HasLogRoom self.old (count + 1) bytes → HasLogRoom self.new count bytes }
         ensures header { self.new.header ≡ self.old.header }
         ensures journal { self.new.journal ≡ self.old.journal }
     {
@@ -164,8 +164,8 @@ impl<D: Disk> RecordLog<D> {
         ensures as_before { OnErr result (self.new.records.items ≡ self.old.records.items) }
 
         // Where there is memory, Broken and Full come exactly where it is so, and nothing is written.
-        ensures answer { HasRoom self.old 1 (length (body_of added)) →
-            MatchOption (refusal (broken_of self.old.journal) (gate_of self.old.journal + 1) (9 + length (body_of added)) (D.limit (disk_of self.old.journal)))
+        ensures answer { HasLogRoom self.old 1 (length (body_of added)) →
+            MatchOption (append_fault (broken_of self.old.journal) (gate_of self.old.journal + 1) (9 + length (body_of added)) (D.limit (disk_of self.old.journal)))
             (IsOkUnless result LogFault.DiskFault)
             (λ fault. result ≡ Err (log_fault fault)) }
         ensures unwritten { IfErr result (λ e. e ≢ LogFault.DiskFault → IsUntouched self.old self.new) }
@@ -184,7 +184,7 @@ impl<D: Disk> RecordLog<D> {
             → Leaves D.tells_past D.moment D.images_since D.images (disk_of self.old.journal) (disk_of self.new.journal) (OpensWithOrWithout (bodies_of records) (body_of added)) }
 
         // One record's room is taken by it.
-        ensures room { (count bytes : ℕ) → HasRoom self.old (count + 1) bytes → HasRoom self.new count bytes }
+        ensures room { (count bytes : ℕ) → HasLogRoom self.old (count + 1) bytes → HasLogRoom self.new count bytes }
         ensures header { self.new.header ≡ self.old.header }
     {
         match self.write(&added) {

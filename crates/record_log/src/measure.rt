@@ -3,7 +3,7 @@ ghost use Rattle.std.specs.Prelude.{◌≡◌, ◌-◌, ◌^◌, length, min};
 ghost use Rattle.std.specs.List.{flat_map};
 ghost use Rattle.byte_spelling.specs.Spelling.{counted};
 ghost use Rattle.byte_fields.specs.Records.{reply};
-ghost use Rattle.record_log.specs.Bodies.{header, body_of};
+ghost use Rattle.record_log.specs.Bodies.{header_bytes, body_of};
 
 use byte_fields::Spell;
 use cbdc_types::{Answered, CompactTx, Hash, Header, List, Outcome, Record, Reply};
@@ -85,7 +85,7 @@ impl Measure for Outcome {
 }
 
 fn length_of_header(h: &Header) -> u64
-    ensures { result ≡ min (length (header h.now)) (2 ^ 64 - 1) }
+    ensures { result ≡ min (length (header_bytes h.now)) (2 ^ 64 - 1) }
 {
     h.genesis.measure().saturating_add(48)
 }

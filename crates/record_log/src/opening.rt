@@ -4,12 +4,12 @@ ghost use Rattle.outside.specs.Counts.{Rose};
 ghost use Rattle.outside.specs.Images.{Tells, Leaves};
 ghost use Rattle.gate_journal.specs.Shown.{disk_of, gate_of, broken_of};
 ghost use Rattle.gate_journal.specs.Rows.{row, rows};
-ghost use Rattle.gate_journal.specs.Opening.{IsRefusal, Breaks};
+ghost use Rattle.gate_journal.specs.Opening.{IsOpenRefusal, Breaks};
 ghost use Rattle.cbdc_model.specs.Room.{size_of};
 ghost use Rattle.record_log.specs.Bodies.{body_of};
-ghost use Rattle.record_log.specs.Exact.{IsFirst};
+ghost use Rattle.record_log.specs.Exact.{IsFirstRecord};
 ghost use Rattle.record_log.specs.Held.{OpensTo, MayHold};
-ghost use Rattle.record_log.specs.LogReading.{IsRead, IsUnread, IsNoLog, HoldsBefore};
+ghost use Rattle.record_log.specs.LogReading.{SpellRecords, IsUnread, IsNoLog, HoldsBefore};
 ghost use Rattle.record_log.specs.Logs.{HoldsAll};
 
 use crate::{RecordFault, RecordLog, read_first, read_record};
@@ -44,7 +44,7 @@ struct Read {
 
 // The header that a first record has.
 fn header_of(first: &Record) -> Option<Header>
-    ensures { IsFirst first.now → MatchOption result ⊥ (λ h. MayHold h (first.now ∷ [])) }
+    ensures { IsFirstRecord first.now → MatchOption result ⊥ (λ h. MayHold h (first.now ∷ [])) }
 {
     match first {
         Record::Genesis { header, .. } => Some(*header),
@@ -70,7 +70,7 @@ fn later_records(
     requires some { 0 < length bodies.now }
     requires first { MayHold header (first ∷ []) }
     requires spelled { slice_get bodies.now 0 ≡ Some (body_of first) }
-    ensures read { IfOk result (λ r. MayHold r.header r.records.items × IsRead r.header r.records.items r.cut bodies.now) }
+    ensures read { IfOk result (λ r. MayHold r.header r.records.items × SpellRecords r.header r.records.items r.cut bodies.now) }
     ensures unread { IfErr result (λ e. e ≡ NodeOpenFault.Memory) }
 {
     let Ok(mut records) = Vec::with_capacity(alloc, bodies.len()) else {
@@ -105,7 +105,7 @@ fn later_records(
 
 // The records that bodies spell, where the first body is a first record.
 fn records_of(alloc: Global, bodies: &Bodies) -> Result<Read, NodeOpenFault>
-    ensures read { IfOk result (λ r. MayHold r.header r.records.items × IsRead r.header r.records.items r.cut bodies.now) }
+    ensures read { IfOk result (λ r. MayHold r.header r.records.items × SpellRecords r.header r.records.items r.cut bodies.now) }
     ensures unread { IfErr result (λ e. IsUnread bodies.now e) }
 {
     if bodies.is_empty() {
@@ -199,7 +199,7 @@ fn refusal_of(alloc: Global, fault: OpenFault) -> NoLog
     ensures fault { result ≡ NoLog.Fault NodeOpenFault.DiskFault → fault ≡ OpenFault.DiskFault }
     ensures is_fault { fault ≡ OpenFault.DiskFault → result ≡ NoLog.Fault NodeOpenFault.DiskFault }
     ensures is_memory { fault ≡ OpenFault.Memory → result ≡ NoLog.Fault NodeOpenFault.Memory }
-    ensures refusal { (c : Items ℕ) → IsRefusal c fault → IsNoLog c result }
+    ensures refusal { (c : Items ℕ) → IsOpenRefusal c fault → IsNoLog c result }
     ensures grammar { HoldsBefore result }
 {
     match fault {

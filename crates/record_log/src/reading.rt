@@ -2,7 +2,7 @@
 ghost use Rattle.std.specs.Prelude.{◌≡◌, ◌↔◌, IfOk, IsTrue, if◌then◌else◌, Some, None, bytes_eq};
 ghost use Rattle.byte_fields.specs.Faults.{Gives};
 ghost use Rattle.record_log.specs.Bodies.{magic};
-ghost use Rattle.record_log.specs.Exact.{IsBody, IsFirstBody, Reads};
+ghost use Rattle.record_log.specs.Exact.{IsBody, IsFirstBody, ReadsRecord};
 ghost use Rattle.record_log.specs.Reading.{is_shape, magic_at, shape_at, header_at, zero_at, head_at, genesis_at, lock_at, finish_at, forget_at, start_at, prepare_at, commit_at, discard_at, done_at, body_at};
 ghost use Rattle.record_log.specs.Standing.{MayBegin};
 
@@ -342,7 +342,7 @@ pub fn read_record(alloc: Global, bytes: &[u8], header: &Header) -> Result<Recor
     // What is read is spelled so, and may stand there.
     ensures found { IfOk result (λ r. IsBody header.now bytes.now r) }
     // What is spelled so and may stand there is read, unless memory runs out.
-    ensures only { (r : _) → IsBody header.now bytes.now r → Reads r result }
+    ensures only { (r : _) → IsBody header.now bytes.now r → ReadsRecord r result }
 {
     // The shape is within its limits, so that each list that may stand there can be read.
     let _limit = header.shape.batch();
@@ -375,7 +375,7 @@ pub fn read_first(alloc: Global, bytes: &[u8]) -> Result<Record, RecordFault>
     // What is read is spelled so, and a journal may begin with it.
     ensures found { IfOk result (λ r. IsFirstBody bytes.now r) }
     // What is spelled so and may begin a journal is read, unless memory runs out.
-    ensures only { (r : _) → IsFirstBody bytes.now r → Reads r result }
+    ensures only { (r : _) → IsFirstBody bytes.now r → ReadsRecord r result }
 {
     match body(alloc, bytes) {
         Ok((record, rest)) => {

@@ -2,7 +2,7 @@
 ghost use Rattle.std.specs.Prelude.{◌≡◌, ◌++◌, ◌+◌, ◌<◌, ◌≤◌, length, OnOk, OnErr};
 ghost use Rattle.std.specs.Vec.{vec_len, vec_capacity};
 ghost use Rattle.byte_fields.specs.Records.{batch};
-ghost use Rattle.record_log.specs.Bodies.{magic, header, head, body_of};
+ghost use Rattle.record_log.specs.Bodies.{magic, header_bytes, head, body_of};
 
 use crate::measure::length_of_body;
 use byte_fields::{Spell, put_byte, put_hash, put_list, put_number};
@@ -19,9 +19,9 @@ fn put_magic(out: &mut Vec<u8>) -> Result<(), AllocError>
 }
 
 fn put_header(out: &mut Vec<u8>, h: &Header) -> Result<(), AllocError>
-    ensures ok { OnOk result (out.new.items ≡ out.old.items ++ header h.now) }
-    ensures len { OnOk result (vec_len out.new ≡ vec_len out.old + length (header h.now)) }
-    ensures full { OnErr result (vec_capacity out.old < vec_len out.old + length (header h.now)) }
+    ensures ok { OnOk result (out.new.items ≡ out.old.items ++ header_bytes h.now) }
+    ensures len { OnOk result (vec_len out.new ≡ vec_len out.old + length (header_bytes h.now)) }
+    ensures full { OnErr result (vec_capacity out.old < vec_len out.old + length (header_bytes h.now)) }
     ensures capacity { vec_capacity out.old ≤ vec_capacity out.new }
 {
     put_magic(out)?;

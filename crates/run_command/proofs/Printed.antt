@@ -6,7 +6,7 @@ use Rattle.submissions.specs.SoundTest.{sound_by}
 use Rattle.submissions.proofs.Telling.{is_sound_law}
 use Rattle.submissions.specs.Checks.{VerdictsOf}
 use Rattle.requests.specs.declared.FileWord.{FileWord}
-use Rattle.sentinel.specs.Files.{told as of_file}
+use Rattle.sentinel.specs.Files.{file_verdict as of_file}
 use Rattle.input_files.specs.Contents.{all_txs}
 use Rattle.line_text.specs.Lines.{Text}
 use Rattle.file_runs.specs.Runs.{joined}

@@ -7,7 +7,7 @@ use Rattle.printed_lines.specs.Runs.{IsRunText}
 use Rattle.cbdc_model.specs.Coins.{FullTx, Output}
 use Rattle.requests.specs.declared.FileWord.{FileWord}
 use Rattle.input_files.specs.Contents.{AreRead, AreVerdicts, all_txs, FirstNotRead, IsNoVerdicts}
-use Rattle.sentinel.specs.Files.{told}
+use Rattle.sentinel.specs.Files.{file_verdict}
 use Rattle.sentinel.specs.declared.file.VerdictFile.{VerdictFile}
 use Rattle.command_answers.specs.Causes.{FileRose, OnePlace, OneRose}
 use Rattle.command_answers.specs.Scene.{Disks, Scene}
@@ -34,7 +34,7 @@ pub record WasRun {D : Type 0} (device : Ghosts D) (files : Text → Option (Lis
   -- they were run over the ledger that the disks told, in which each record was caused
   pub caused : TookLedger device before.held after.held
   -- where it was kept the run tells what it did
-  pub tells : OfShown device before.held (IsRunTold device after.held (told known) handed ran)
+  pub tells : OfShown device before.held (IsRunTold device after.held (file_verdict known) handed ran)
 
 -- a run of these transactions over a kept ledger, which was printed
 pub record IsPrintedRun {D : Type 0} (device : Ghosts D) (now : ℕ → Option D) (printed : Text → Type 0) (verdicts : VerdictsOf) (handed : List (List FullTx))
@@ -65,7 +65,7 @@ pub record DidRun {D : Type 0} (device : Ghosts D) (files : Text → Option (Lis
   -- the disks told a ledger in which each record was caused; what that leaves of it
   pub caused : TookLedger device before.held after.held
   -- where it was kept the transactions were run over it, and this was printed
-  pub ran : PrintsRun device before.held after.held printed (told known) handed
+  pub ran : PrintsRun device before.held after.held printed (file_verdict known) handed
 
 -- one of the files of a run has this place
 abbrev pub RunPlace : FileWord → List FileWord → ℕ → Type 0
@@ -82,11 +82,11 @@ WhyNoRun device before after verdicts clients answer =
     ⊎ ((handed : List (List FullTx)) × AreRead before.file 0 clients handed
     × (IsNoVerdicts verdicts.place (before.file verdicts.name.now) (before.file_faults verdicts.name.now) (after.file_faults verdicts.name.now) answer
     ⊎ ((known : VerdictFile) × AreVerdicts (before.file verdicts.name.now) known
-    × WhyNoTurns device before.disks after.disks (file_turns (told known) handed) answer)))
+    × WhyNoTurns device before.disks after.disks (file_turns (file_verdict known) handed) answer)))
 
 -- what is left by a run of the transactions that its files hold, with their verdicts, and that did not come through
 abbrev pub RunLeaves : {D : Type 0} → Ghosts D → Scene D → Scene D → FileWord → List FileWord → Answer → Type 0
 RunLeaves device before after verdicts clients answer =
     (handed : List (List FullTx)) × AreRead before.file 0 clients handed
     × (known : VerdictFile) × AreVerdicts (before.file verdicts.name.now) known
-    × TurnsLeave device before.disks after.disks (file_turns (told known) handed) answer
+    × TurnsLeave device before.disks after.disks (file_turns (file_verdict known) handed) answer

@@ -7,7 +7,7 @@ use Rattle.cbdc_model.specs.Slots.{slot, Idle}
 use Rattle.cbdc_model.specs.Coins.{Output, FullTx}
 use Rattle.cbdc_model.specs.Clean.{Clean, IsProper, IsProperCompact}
 use Rattle.base_types.specs.declared.faults.Refusal.{Refusal}
-use Rattle.sentinel.specs.FirstRefusal.{Verdicts, Applies, rank, IsSound}
+use Rattle.sentinel.specs.FirstRefusal.{Verdicts, Applies, rank, IsSoundTx}
 use Rattle.cbdc_model.specs.After.{IsJournal}
 use Rattle.cbdc_model.specs.History.{Minted, minted, header_of}
 use Rattle.cbdc_model.specs.World.{KeptJournals}
@@ -74,7 +74,7 @@ NodesLaw = (K : Shape) (m : Minted) (E X : ℕ → List Record) → AreJournals 
 
 -- a sound transaction is proper, whatever the verdicts
 abbrev pub SoundLaw : Type 0
-SoundLaw = (t : FullTx) (verdicts : Verdicts) → IsSound t verdicts → IsProper t
+SoundLaw = (t : FullTx) (verdicts : Verdicts) → IsSoundTx t verdicts → IsProper t
 
 -- a transaction is proper exactly where none of the reasons applies that ask no verdict: those before the two of witnesses
 abbrev pub ProperLaw : Type 0

@@ -5,7 +5,7 @@ use Rattle.std.proofs.lemmas.Bool.{cases_lt}
 use Rattle.cbdc_types.specs.declared.tx.FullTx.{FullTx}
 use Rattle.base_types.specs.declared.faults.Refusal.{Refusal}
 use Rattle.base_types.specs.declared.faults.Refusal.TheVariants.{NoInputs, NoOutputs, WitnessCount, RepeatedInput, ZeroInput, ZeroOutput, InputOverflow, OutputOverflow, Unbalanced, BadWitness, Unverified}
-use Rattle.sentinel.specs.FirstRefusal.{Verdicts, Applies, AppliesAt, HasAt, IsFirstRefusal, IsSound, NoneAt, Repeats, rank}
+use Rattle.sentinel.specs.FirstRefusal.{Verdicts, Applies, AppliesAt, HasAt, IsFirstRefusal, IsSoundTx, NoneAt, Repeats, rank}
 
 -- none of the reasons before this rank applies
 abbrev pub NoneBelow : ℕ → FullTx → Verdicts → Type 0
@@ -17,8 +17,8 @@ below_first t v r lt = absurd (omega arith)
 pub below_next : (t : FullTx) (v : Verdicts) (n : ℕ) → NoneBelow n t v → NoneAt n t v → NoneBelow (n + 1) t v
 below_next t v n below at r lt = elim (cases_lt (rank r) n) [ inl earlier ↦ below r earlier | inr here ↦ at r (omega arith) ]
 
-pub first_at : (t : FullTx) (v : Verdicts) (n : ℕ) (r : Refusal) → NoneBelow n t v → AppliesAt n t v r → IsFirstRefusal t v r
-first_at t v n r below (at, applies) = record { applies = applies; first = λ other lt. below other (omega arith) }
+pub first_refusal_at : (t : FullTx) (v : Verdicts) (n : ℕ) (r : Refusal) → NoneBelow n t v → AppliesAt n t v r → IsFirstRefusal t v r
+first_refusal_at t v n r below (at, applies) = record { applies = applies; first = λ other lt. below other (omega arith) }
 
 rank-lt : (r : Refusal) → rank r < 11
 rank-lt NoInputs = lit< tt
@@ -34,9 +34,9 @@ rank-lt (BadWitness i) = lit< tt
 rank-lt (Unverified i) = lit< tt
 
 -- the last reason decides
-pub last_at : (t : FullTx) (v : Verdicts) (u : Result (Unit {0}) Refusal) → NoneBelow 10 t v → MatchResult u (λ done. NoneAt 10 t v) (λ r. AppliesAt 10 t v r) → MatchResult u (λ done. IsSound t v) (λ r. IsFirstRefusal t v r)
+pub last_at : (t : FullTx) (v : Verdicts) (u : Result (Unit {0}) Refusal) → NoneBelow 10 t v → MatchResult u (λ done. NoneAt 10 t v) (λ r. AppliesAt 10 t v r) → MatchResult u (λ done. IsSoundTx t v) (λ r. IsFirstRefusal t v r)
 last_at t v (Ok done) below at = λ r. below_next t v 10 below at r (rank-lt r)
-last_at t v (Err r) below at = first_at t v 10 r below at
+last_at t v (Err r) below at = first_refusal_at t v 10 r below at
 
 pub no_repeat : (t : FullTx) (v : Verdicts) → ((i : ℕ) → ¬ (Repeats t.inputs i)) → NoneAt 3 t v
 no_repeat t v none NoInputs is = absurd (omega arith)

@@ -6,38 +6,38 @@ use Rattle.hex.specs.Hex.{encode_lower, encode_with, lower_digits}
 use Rattle.std.specs.Prelude.{Err, IsSome}
 use Rattle.std.proofs.lemmas.Bool.{true≢false}
 use Rattle.base_types.specs.declared.faults.InputKind.TheVariants.{Form, Repeated}
-use Rattle.sentinel.specs.Files.{Reads}
+use Rattle.sentinel.specs.Files.{ReadsVerdicts}
 use Rattle.sentinel.specs.declared.file.VerdictFault.TheVariants as fault
 use Rattle.sentinel.specs.declared.line.Key.{Key}
-use Rattle.sentinel.specs.Lines.{Line, IsLine, IsOpen, Begins, is_key, said, spelled, text, word}
+use Rattle.sentinel.specs.Lines.{Line, IsLine, HasNoLineEnd, BeginsWithLines, is_key, said, spelled, text, word}
 
 -- ---- line feeds
 
-open-append : (a b : List ℕ) → IsOpen a → IsOpen b → IsOpen (a ++ b)
+open-append : (a b : List ℕ) → HasNoLineEnd a → HasNoLineEnd b → HasNoLineEnd (a ++ b)
 open-append [] b first second = second
 open-append (x ∷ a) b first second = (first.0, open-append a b first.1 second)
 
-no_feed : (t : List ℕ) → IsOpen t → (k : ℕ) → get_or t k 0 ≢ 10
+no_feed : (t : List ℕ) → HasNoLineEnd t → (k : ℕ) → get_or t k 0 ≢ 10
 no_feed [] is k at = let bad : 0 ≡ 10 = at in omega arith
 no_feed (x ∷ t) is zero at = is.0 at
 no_feed (x ∷ t) is (suc k) at = no_feed t is.1 k at
 
-digits_open : IsOpen lower_digits
+digits_open : HasNoLineEnd lower_digits
 digits_open = search rules
 
-hex_open : (bytes : List ℕ) → IsOpen (encode_with lower_digits bytes)
+hex_open : (bytes : List ℕ) → HasNoLineEnd (encode_with lower_digits bytes)
 unfolding encode_with
 hex_open [] = tt
 hex_open (b ∷ bytes) = (no_feed lower_digits digits_open (b / 16), (no_feed lower_digits digits_open (b % 16), hex_open bytes))
 
-decimal_open : (n : ℕ) → n < 2 ^ 64 → IsOpen (decimal n)
-decimal_open = decimal_by_steps (λ n ds. IsOpen ds) (λ n small. (omega arith, tt)) (λ n ds large is. open-append ds ((48 + n % 10) ∷ []) is (omega arith, tt))
+decimal_open : (n : ℕ) → n < 2 ^ 64 → HasNoLineEnd (decimal n)
+decimal_open = decimal_by_steps (λ n ds. HasNoLineEnd ds) (λ n small. (omega arith, tt)) (λ n ds large is. open-append ds ((48 + n % 10) ∷ []) is (omega arith, tt))
 
-word_open : (good : Bool) → IsOpen (32 ∷ word good)
+word_open : (good : Bool) → HasNoLineEnd (32 ∷ word good)
 word_open true = search rules
 word_open false = search rules
 
-pub spelled_open : (l : Line) → IsLine l → IsOpen (spelled l)
+pub spelled_open : (l : Line) → IsLine l → HasNoLineEnd (spelled l)
 spelled_open l is =
     let small : l.index < 2 ^ 64 = omega (arith, is.place) in
     open-append (encode_lower l.tx ++ 32 ∷ decimal l.index) (32 ∷ word l.good)
@@ -45,14 +45,14 @@ spelled_open l is =
     (word_open l.good)
 
 -- what ends in a line is not open
-pub open_none : (a b bytes : List ℕ) → IsOpen bytes → bytes ≢ a ++ 10 ∷ b
+pub open_none : (a b bytes : List ℕ) → HasNoLineEnd bytes → bytes ≢ a ++ 10 ∷ b
 open_none [] b [] is at = absurd (cc at)
 open_none [] b (x ∷ bytes) is at = is.0 (cc at)
 open_none (y ∷ a) b [] is at = absurd (cc at)
 open_none (y ∷ a) b (x ∷ bytes) is at = open_none a b bytes is.1 (cc at)
 
 -- bytes have one first line
-pub one_line : (s t a b : List ℕ) → IsOpen s → IsOpen t → s ++ 10 ∷ a ≡ t ++ 10 ∷ b → s ≡ t
+pub one_line : (s t a b : List ℕ) → HasNoLineEnd s → HasNoLineEnd t → s ++ 10 ∷ a ≡ t ++ 10 ∷ b → s ≡ t
 one_line [] [] a b first second is = refl
 one_line [] (y ∷ t) a b first second is = absurd (second.0 (cc is))
 one_line (x ∷ s) [] a b first second is = absurd (first.0 (cc is))
@@ -65,15 +65,15 @@ one_line (x ∷ s) (y ∷ t) a b first second is =
 -- ---- lines so far
 
 -- what a map has of an input
-abbrev pub kept_in : List (Key × Bool) → List ℕ → ℕ → Option Bool
-kept_in entries tx index = lookup (λ (k : Key). is_key tx index k.tx k.index) entries
+abbrev pub kept_verdict_in : List (Key × Bool) → List ℕ → ℕ → Option Bool
+kept_verdict_in entries tx index = lookup (λ (k : Key). is_key tx index k.tx k.index) entries
 
 -- these lines were read and kept, and the next has this number
 pub record IsRead (bytes rest : List ℕ) (line : ℕ) (entries : List (Key × Bool)) : Type 0 where
   pub lines : List Line
-  pub begins : Begins bytes lines rest
+  pub begins : BeginsWithLines bytes lines rest
   pub count : line ≡ length lines + 1
-  pub same : (tx : List ℕ) (index : ℕ) → kept_in entries tx index ≡ said lines tx index
+  pub same : (tx : List ℕ) (index : ℕ) → kept_verdict_in entries tx index ≡ said lines tx index
 
 pub read_none : (bytes : List ℕ) → IsRead bytes bytes 1 []
 read_none bytes = record {
@@ -86,8 +86,8 @@ read_none bytes = record {
 module _ (bytes rest line behind : List ℕ) (number : ℕ) (old new : List (Key × Bool)) (key : Key) (good : Bool) where
   pub read_more : IsRead bytes rest number old → rest ≡ line ++ 10 ∷ behind
       → IsLine (record { tx = key.tx; index = key.index; good = good }) → line ≡ spelled (record { tx = key.tx; index = key.index; good = good })
-      → kept_in old key.tx key.index ≡ None
-      → ((tx : List ℕ) (index : ℕ) → kept_in new tx index ≡ cond (is_key key.tx key.index tx index) (Some good) (kept_in old tx index))
+      → kept_verdict_in old key.tx key.index ≡ None
+      → ((tx : List ℕ) (index : ℕ) → kept_verdict_in new tx index ≡ cond (is_key key.tx key.index tx index) (Some good) (kept_verdict_in old tx index))
       → IsRead bytes behind (number + 1) new
   read_more so_far split form spells absent updates =
       let l : Line = record { tx = key.tx; index = key.index; good = good } in
@@ -105,8 +105,8 @@ module _ (bytes rest line behind : List ℕ) (number : ℕ) (old new : List (Key
 -- ---- what is told of a wrong line
 
 module _ (more : Bool) (bytes rest line behind : List ℕ) (number : ℕ) (entries : List (Key × Bool)) where
-  pub told_form : IsRead bytes rest number entries → rest ≡ line ++ 10 ∷ behind → IsOpen line → ((l : Line) → IsLine l → line ≢ spelled l)
-      → Reads more bytes (Err (fault.Bad (record { line = number; kind = Form })))
+  pub told_form : IsRead bytes rest number entries → rest ≡ line ++ 10 ∷ behind → HasNoLineEnd line → ((l : Line) → IsLine l → line ≢ spelled l)
+      → ReadsVerdicts more bytes (Err (fault.Bad (record { line = number; kind = Form })))
   told_form so_far split feedless none = (
     so_far.lines,
     rest,
@@ -120,16 +120,16 @@ module _ (more : Bool) (bytes rest line behind : List ℕ) (number : ℕ) (entri
   )
 
   pub told_repeated : (l : Line) (v : Bool) → IsRead bytes rest number entries → rest ≡ line ++ 10 ∷ behind → IsLine l → line ≡ spelled l
-      → kept_in entries l.tx l.index ≡ Some v → Reads more bytes (Err (fault.Bad (record { line = number; kind = Repeated })))
+      → kept_verdict_in entries l.tx l.index ≡ Some v → ReadsVerdicts more bytes (Err (fault.Bad (record { line = number; kind = Repeated })))
   told_repeated l v so_far split form spells found =
       let e : said so_far.lines l.tx l.index ≡ Some v = sym (so_far.same l.tx l.index) ∙ found in
       let at : rest ≡ spelled l ++ 10 ∷ behind = split ∙ ap (λ (s : List ℕ). s ++ 10 ∷ behind) spells in
       let again : IsSome (said so_far.lines l.tx l.index) = rw e (search rules) in
       (so_far.lines, rest, so_far.begins, so_far.count, (l, behind, form, at, again))
 
-pub told_open : (bytes rest : List ℕ) (number : ℕ) (entries : List (Key × Bool)) → IsRead bytes rest number entries → IsOpen rest → rest ≢ []
-    → Reads false bytes (Err (fault.Bad (record { line = number; kind = Form })))
-told_open bytes rest number entries so_far feedless some = (
+pub open_end_told : (bytes rest : List ℕ) (number : ℕ) (entries : List (Key × Bool)) → IsRead bytes rest number entries → HasNoLineEnd rest → rest ≢ []
+    → ReadsVerdicts false bytes (Err (fault.Bad (record { line = number; kind = Form })))
+open_end_told bytes rest number entries so_far feedless some = (
   so_far.lines,
   rest,
   so_far.begins,

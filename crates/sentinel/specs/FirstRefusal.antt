@@ -69,8 +69,8 @@ pub record IsFirstRefusal (t : FullTx) (verdicts : Verdicts) (r : Refusal) : Typ
   pub first : (other : Refusal) → rank other < rank r → ¬ (Applies t verdicts other)
 
 -- no reason applies
-abbrev pub IsSound : FullTx → Verdicts → Type 0
-IsSound t verdicts = (r : Refusal) → ¬ (Applies t verdicts r)
+abbrev pub IsSoundTx : FullTx → Verdicts → Type 0
+IsSoundTx t verdicts = (r : Refusal) → ¬ (Applies t verdicts r)
 
 -- none of the reasons of this rank applies
 abbrev pub NoneAt : ℕ → FullTx → Verdicts → Type 0

@@ -26,8 +26,8 @@ abbrev pub spelled : Line → List ℕ
 spelled l = (encode_lower l.tx ++ 32 ∷ decimal l.index) ++ 32 ∷ word l.good
 
 -- no line ends in these bytes
-abbrev pub IsOpen : List ℕ → Type 0
-IsOpen bytes = AllByRecursion (λ b. b ≢ 10) bytes
+abbrev pub HasNoLineEnd : List ℕ → Type 0
+HasNoLineEnd bytes = AllByRecursion (λ b. b ≢ 10) bytes
 
 -- ---- lines one after another, the last of them first
 
@@ -51,6 +51,6 @@ AreLines [] = Unit {0}
 AreLines (l ∷ earlier) = IsLine l × (said earlier l.tx l.index ≡ None) × AreLines earlier
 
 -- the bytes begin with these lines, and go on with the rest
-pub record Begins (bytes : List ℕ) (lines : List Line) (rest : List ℕ) : Type 0 where
+pub record BeginsWithLines (bytes : List ℕ) (lines : List Line) (rest : List ℕ) : Type 0 where
   pub whole : bytes ≡ text lines ++ rest
   pub sound : AreLines lines

@@ -44,7 +44,7 @@ fn bad(line: u64, kind: InputKind) -> VerdictFault
 }
 
 impl VerdictFile {
-    ghost use Rattle.sentinel.specs.Files.{Reads};
+    ghost use Rattle.sentinel.specs.Files.{ReadsVerdicts};
 
     /// Reads the lines of a verdict file: its first bytes, and whether it goes on behind them. The first bad line
     /// is told, whatever stands behind it.
@@ -52,7 +52,7 @@ impl VerdictFile {
     /// At Ok the bytes are lines in form, each for an input of its own, the file doesn't go on, and the file gives each input its line's word and
     /// no other input any; else the first wrong line with its kind, or that the file goes on and no whole line is wrong; or memory ran out.
     pub fn read(alloc: Global, bytes: &[u8], more: bool) -> Result<VerdictFile, VerdictFault>
-        ensures { Reads more bytes.now result }
+        ensures { ReadsVerdicts more bytes.now result }
     {
         let mut words = HashMap::new(alloc);
         let mut rest = bytes;
@@ -80,9 +80,9 @@ impl VerdictFile {
 }
 
 impl Verifier for VerdictFile {
-    ghost use Rattle.sentinel.specs.Files.{told};
+    ghost use Rattle.sentinel.specs.Files.{file_verdict};
 
-    ghost verdict_of = { told };
+    ghost verdict_of = { file_verdict };
 
     fn verdict(&self, tx: &Hash, index: u64) -> Verdict {
         match self.words.get(&Key { tx: *tx, index }) {

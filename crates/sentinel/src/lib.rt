@@ -13,7 +13,7 @@ mod steps;
 mod verifier;
 
 ghost use Rattle.std.specs.Prelude.{MatchResult};
-ghost use Rattle.sentinel.specs.FirstRefusal.{IsFirstRefusal, IsSound};
+ghost use Rattle.sentinel.specs.FirstRefusal.{IsFirstRefusal, IsSoundTx};
 
 use cbdc_types::{FullTx, Hash, Refusal};
 pub use file::{BadLine, VerdictFault, VerdictFile};
@@ -29,7 +29,7 @@ pub use verifier::{AllGood, Verdict, Verifier};
 /// nothing is known. A place is always the least.
 pub fn check<V: Verifier>(tx: &FullTx, id: &Hash, verifier: &V) -> Result<(), Refusal>
     ensures { MatchResult result
-        (λ _. IsSound tx.now (V.verdict_of verifier.now id.now))
+        (λ _. IsSoundTx tx.now (V.verdict_of verifier.now id.now))
         (λ r. IsFirstRefusal tx.now (V.verdict_of verifier.now id.now) r) }
 {
     has_inputs(tx)?;

@@ -1,7 +1,7 @@
 // One line of a verdict file.
 ghost use Rattle.std.specs.Prelude.{◌≡◌, ◌≢◌, ◌≤◌, ◌++◌, ◌∷◌, ℕ, Bool, List, length, decimal, MatchOption, IfSome};
 ghost use Rattle.hex.specs.Hex.{encode_lower, IsBytes};
-ghost use Rattle.sentinel.specs.Lines.{Line, IsLine, IsOpen, spelled, word};
+ghost use Rattle.sentinel.specs.Lines.{Line, IsLine, HasNoLineEnd, spelled, word};
 
 use base_types::Hash;
 use itoa::Buffer;
@@ -99,7 +99,7 @@ pub(crate) fn read_line(line: &[u8]) -> Option<(Key, bool)>
 
 /// The bytes before the first line feed, and those behind it.
 pub(crate) fn next_line(bytes: &[u8]) -> Option<(&[u8], &[u8])>
-    ensures { MatchOption result (IsOpen bytes.now) (λ r. IsOpen r.0.now × (bytes.now ≡ r.0.now ++ 10 ∷ r.1.now)) }
+    ensures { MatchOption result (HasNoLineEnd bytes.now) (λ r. HasNoLineEnd r.0.now × (bytes.now ≡ r.0.now ++ 10 ∷ r.1.now)) }
 {
     let end = memchr(b'\n', bytes)?;
     let (line, behind) = bytes.split_at(end);

@@ -7,12 +7,12 @@ use Rattle.cbdc_model.specs.Status.{Status, status, has, held_inputs, taken_inpu
 use Rattle.cbdc_model.specs.Replies.{entries, replies}
 use Rattle.shard_table.specs.declared.slots.Kept.{Kept}
 use Rattle.shard_table.specs.Entries.{lookup}
-use Rattle.shard_core.specs.declared.slots.Slot.{Slot as LaneSlot}
-use Rattle.shard_core.specs.declared.slots.Slot.TheVariants.{Idle as Free, Locked as Taken, Finished}
-use Rattle.shard_core.specs.Agrees.{Agrees, is_unspent, locked_by, holder_in}
-use Rattle.shard_core.specs.Memory.{HaveMemory, ArePaired, locked_entries, locked_replies}
+use Rattle.shard_core.specs.declared.slots.LaneSlot.{LaneSlot}
+use Rattle.shard_core.specs.declared.slots.LaneSlot.TheVariants.{Idle as Free, Locked as Taken, Finished}
+use Rattle.shard_core.specs.Agrees.{HashesAgree, says_unspent, locked_by, holder_in}
+use Rattle.shard_core.specs.Memory.{HaveDecisionMemory, ArePaired, locked_entries, locked_replies}
 use Rattle.shard_core.specs.Moves.{inputs_where, outputs_where, returned_where, inputs_in, outputs_in, hashes_in, owed_by, owed_in}
-use Rattle.shard_core.specs.Judged.{IsIdle, IsPast, IsLocked, IsNextFinish}
+use Rattle.shard_core.specs.Judged.{IsSlotFree, IsSlotPast, IsSlotLocked, FitsFinish}
 use Rattle.shard_core.specs.declared.core_state.ShardCore.{ShardCore}
 use Rattle.shard_core.specs.declared.plans.StampPlan.{StampPlan}
 use Rattle.shard_core.specs.declared.plans.StampPlan.TheVariants.{Kept as StampKept, Append as StampNext, Refused as StampRefused}
@@ -38,11 +38,11 @@ set_length (x ∷ xs) zero a = refl
 set_length (x ∷ xs) (suc i) a = let rest = set_length xs i a in rw rest
 
 -- two numbers are equal or not
-pub data Same (i j : ℕ) : Type 0 where
-  Yes : i ≡ j → Same i j
-  No : i ≢ j → Same i j
+pub data SameNumber (i j : ℕ) : Type 0 where
+  Yes : i ≡ j → SameNumber i j
+  No : i ≢ j → SameNumber i j
 
-pub same_nat : (i j : ℕ) → Same i j
+pub same_nat : (i j : ℕ) → SameNumber i j
 same_nat zero zero = Yes refl
 same_nat zero (suc j) = No (omega arith)
 same_nat (suc i) zero = No (omega arith)
@@ -64,15 +64,15 @@ owed_at [] i s h = cc
 owed_at (t ∷ slots) zero s h = let same : owed_by t ≡ owed_by s = ap owed_by (some_is t s h) in omega (arith, same)
 owed_at (t ∷ slots) (suc i) s h = let rest = owed_at slots i s h in omega (arith, rest)
 
-pub memory_slot : (slots : List LaneSlot) (memory : List (Vec Bool)) (i : ℕ) (new : LaneSlot) → HaveMemory slots memory → locked_entries new ≡ 0 → HaveMemory (set slots i new) memory
+pub memory_slot : (slots : List LaneSlot) (memory : List (Vec Bool)) (i : ℕ) (new : LaneSlot) → HaveDecisionMemory slots memory → locked_entries new ≡ 0 → HaveDecisionMemory (set slots i new) memory
 memory_slot slots memory i new old none j s m h k =
     elim (same_nat j i) [
       | Yes e ↦ let same : locked_entries s ≡ 0 = ap locked_entries (set_at slots i new s j e h) ∙ none in omega (arith, same)
       | No n ↦ old j s m (set_off slots i new s j n h) k
     ]
 
-pub memory_both : (slots : List LaneSlot) (memory : List (Vec Bool)) (i : ℕ) (new : LaneSlot) (v : Vec Bool) → HaveMemory slots memory → locked_entries new ≤ vec_capacity v
-    → HaveMemory (set slots i new) (set memory i v)
+pub memory_both : (slots : List LaneSlot) (memory : List (Vec Bool)) (i : ℕ) (new : LaneSlot) (v : Vec Bool) → HaveDecisionMemory slots memory → locked_entries new ≤ vec_capacity v
+    → HaveDecisionMemory (set slots i new) (set memory i v)
 memory_both slots memory i new v old room j s m h k =
     elim (same_nat j i) [
       | Yes e ↦
@@ -89,7 +89,7 @@ paired_set slots i new old pair j s h =
       | No n ↦ old j s (set_off slots i new s j n h)
     ]
 
-unspent_lock : (t : Bool) (b : Batch) (s : Status) → (not t && is_unspent s) ≡ is_unspent (if t then Locked b else s)
+unspent_lock : (t : Bool) (b : Batch) (s : Status) → (not t && says_unspent s) ≡ says_unspent (if t then Locked b else s)
 unspent_lock true b s = refl
 unspent_lock false b s = refl
 
@@ -97,9 +97,9 @@ locked_lock : (t : Bool) (b : Batch) (s : Status) → (if t then Some b else loc
 locked_lock true b s = refl
 locked_lock false b s = refl
 
-pub agrees_lock : (J : List Record) (stamp : ℕ) (b : Batch) (es : List Answered) (hashes new : List Digest) (held kept : List (Kept (Batch × ℕ))) → Agrees hashes held J
+pub agrees_lock : (J : List Record) (stamp : ℕ) (b : Batch) (es : List Answered) (hashes new : List Digest) (held kept : List (Kept (Batch × ℕ))) → HashesAgree hashes held J
     → ((y : Digest) → has new y ≡ (not (has (held_inputs es) y) && has hashes y))
-    → ((y : Digest) → holder_in kept y ≡ (if has (held_inputs es) y then Some b else holder_in held y)) → Agrees new kept (Lock stamp b es ∷ J)
+    → ((y : Digest) → holder_in kept y ≡ (if has (held_inputs es) y then Some b else holder_in held y)) → HashesAgree new kept (Lock stamp b es ∷ J)
 agrees_lock J stamp b es hashes new held kept a u l = record {
   unspent = λ x. u x ∙ ap (λ (c : Bool). not (has (held_inputs es) x) && c) (a.unspent x) ∙ unspent_lock (has (held_inputs es) x) b (status J x);
   locked = λ x. l x ∙ ap (λ (o : Option Batch). if has (held_inputs es) x then Some b else o) (a.locked x) ∙ locked_lock (has (held_inputs es) x) b (status J x);
@@ -120,8 +120,8 @@ returned_is [] ds = refl
 returned_is (a ∷ es) [] = refl
 returned_is (a ∷ es) (d ∷ ds) = let rest = returned_is es ds in rw rest
 
-unspent_finish : (made back gone : Bool) (s : Status) → (made || (back || (not gone && is_unspent s)))
-    ≡ is_unspent (if made then Unspent else (if back then Unspent else (if gone then Absent else s)))
+unspent_finish : (made back gone : Bool) (s : Status) → (made || (back || (not gone && says_unspent s)))
+    ≡ says_unspent (if made then Unspent else (if back then Unspent else (if gone then Absent else s)))
 unspent_finish true back gone s = refl
 unspent_finish false true gone s = refl
 unspent_finish false false true s = refl
@@ -142,11 +142,11 @@ holder_step : (new old : List (Kept (Batch × ℕ))) (t : Bool) (x : Digest) →
 holder_step new old t x h = ap (λ (o : Option (Batch × ℕ)). option_map (λ (p : Batch × ℕ). p.0) o) h ∙ cut_holder t (λ (p : Batch × ℕ). p.0) (lookup old x)
 
 pub agrees_finish : (J : List Record) (stamp : ℕ) (b : Batch) (ds : List Bool) (part : List Entry) (rs : List Reply) (hashes h1 h2 h3 : List Digest) (held k1 k2 k3 : List (Kept (Batch × ℕ)))
-    → entries (lock_of J b) ≡ part → replies (lock_of J b) ≡ rs → Agrees hashes held J
+    → entries (lock_of J b) ≡ part → replies (lock_of J b) ≡ rs → HashesAgree hashes held J
     → ((y : Digest) → has h1 y ≡ (not (has (inputs_where part ds) y) && has hashes y)) → ((y : Digest) → lookup k1 y ≡ (if has (inputs_where part ds) y then None else lookup held y))
     → ((y : Digest) → has h2 y ≡ (has (returned_where part rs ds) y || has h1 y)) → ((y : Digest) → lookup k2 y ≡ (if has (returned_where part rs ds) y then None else lookup k1 y))
     → ((y : Digest) → has h3 y ≡ (has (outputs_where part ds) y || has h2 y)) → ((y : Digest) → lookup k3 y ≡ (if has (outputs_where part ds) y then None else lookup k2 y))
-    → Agrees h3 k3 (Finish stamp b ds ∷ J)
+    → HashesAgree h3 k3 (Finish stamp b ds ∷ J)
 agrees_finish J stamp b ds part rs hashes h1 h2 h3 held k1 k2 k3 p r a u1 l1 u2 l2 u3 l3 =
     let made : made_outputs (lock_of J b) ds ≡ outputs_where part ds = made_is (lock_of J b) ds ∙ ap (λ (es : List Entry). outputs_where es ds) p in
     let gone : taken_inputs (lock_of J b) ds ≡ inputs_where part ds = taken_is (lock_of J b) ds ∙ ap (λ (es : List Entry). inputs_where es ds) p in
@@ -165,10 +165,10 @@ agrees_finish J stamp b ds part rs hashes h1 h2 h3 held k1 k2 k3 p r a u1 l1 u2 
           ∙ locked_finish (has (outputs_where part ds) x) (has (returned_where part rs ds) x) (has (inputs_where part ds) x) (status J x));
     }
 
-pub agrees_forget : (J : List Record) (stamp : ℕ) (b : Batch) (hashes : List Digest) (held : List (Kept (Batch × ℕ))) → Agrees hashes held J → Agrees hashes held (Forget stamp b ∷ J)
+pub agrees_forget : (J : List Record) (stamp : ℕ) (b : Batch) (hashes : List Digest) (held : List (Kept (Batch × ℕ))) → HashesAgree hashes held J → HashesAgree hashes held (Forget stamp b ∷ J)
 agrees_forget J stamp b hashes held a = record { unspent = a.unspent; locked = a.locked }
 
-genesis_unspent : (t : Bool) → t ≡ is_unspent (if t then Unspent else Absent)
+genesis_unspent : (t : Bool) → t ≡ says_unspent (if t then Unspent else Absent)
 genesis_unspent true = refl
 genesis_unspent false = refl
 
@@ -176,7 +176,7 @@ genesis_locked : (t : Bool) → None ≡ locked_by (if t then Unspent else Absen
 genesis_locked true = refl
 genesis_locked false = refl
 
-pub agrees_genesis : (h : Header) (hs hashes : List Digest) → ((y : Digest) → has hashes y ≡ has hs y) → Agrees hashes [] (Genesis h hs ∷ [])
+pub agrees_genesis : (h : Header) (hs hashes : List Digest) → ((y : Digest) → has hashes y ≡ has hs y) → HashesAgree hashes [] (Genesis h hs ∷ [])
 agrees_genesis h hs hashes u = record { unspent = λ x. u x ∙ genesis_unspent (has hs x); locked = λ x. genesis_locked (has hs x) }
 
 pub replicate_get : {X : Type 0} (n i : ℕ) (a s : X) → slice_get (replicate n a) i ≡ Some s → s ≡ a
@@ -207,12 +207,12 @@ pub same_count : (es : List Answered) → length (replies es) ≡ length (entrie
 same_count [] = refl
 same_count (a ∷ es) = let rest = same_count es in rw rest
 
-pub idle_owed : (s : LaneSlot) → IsIdle s → owed_by s ≡ 0
+pub idle_owed : (s : LaneSlot) → IsSlotFree s → owed_by s ≡ 0
 idle_owed (Free n t) h = refl
 idle_owed (Taken n part rs t) h = absurd h
 idle_owed (Finished n part rs ds t u) h = absurd h
 
-pub past_owed : (s : LaneSlot) → IsPast s → owed_by s ≡ 0
+pub past_owed : (s : LaneSlot) → IsSlotPast s → owed_by s ≡ 0
 past_owed (Free n t) h = refl
 past_owed (Taken n part rs t) h = absurd h
 past_owed (Finished n part rs ds t u) h = refl
@@ -240,7 +240,7 @@ taken_replies n m part qart rs qs t u h = cc
 pub taken_number : (n m : ℕ) (part qart : List Entry) (rs qs : List Reply) (t u : ℕ) → Taken n part rs t ≡ Taken m qart qs u → n ≡ m
 taken_number n m part qart rs qs t u h = cc
 
-pub finish_slot : (core : ShardCore) (b : Batch) (ds : List Bool) (s : LaneSlot) → slice_get core.slots b.lane ≡ Some s → ArePaired core.slots → IsLocked s b.number ds → IsFinishable core b ds
+pub finish_slot : (core : ShardCore) (b : Batch) (ds : List Bool) (s : LaneSlot) → slice_get core.slots b.lane ≡ Some s → ArePaired core.slots → IsSlotLocked s b.number ds → IsFinishable core b ds
 finish_slot core b ds (Free n t) h pairs l = absurd l
 finish_slot core b ds (Taken n part rs t) h pairs l =
     record {
@@ -253,7 +253,7 @@ finish_slot core b ds (Taken n part rs t) h pairs l =
     }
 finish_slot core b ds (Finished n part rs es t u) h pairs l = absurd l
 
-pub finish_ready : (core : ShardCore) (b : Batch) (ds : List Bool) (s : LaneSlot) (p : StampPlan) → slice_get core.slots b.lane ≡ Some s → ArePaired core.slots → IsNextFinish p s b.number ds
+pub finish_ready : (core : ShardCore) (b : Batch) (ds : List Bool) (s : LaneSlot) (p : StampPlan) → slice_get core.slots b.lane ≡ Some s → ArePaired core.slots → FitsFinish p s b.number ds
     → IsFinishPlan p core b ds
 finish_ready core b ds s (StampKept stamp) h pairs n = tt
 finish_ready core b ds s (StampNext stamp) h pairs n = finish_slot core b ds s h pairs n

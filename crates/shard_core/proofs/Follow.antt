@@ -6,9 +6,9 @@ use Rattle.cbdc_model.specs.Records.{Digest, Batch, Record, Entry, Reply, Answer
 use Rattle.cbdc_model.specs.Replies.{answered, entries, replies, reply_to}
 use Rattle.cbdc_model.specs.Slots.{Slot, Phase, slot, Idle, InLock, InFinish}
 use Rattle.cbdc_model.specs.After.{FitsReplies}
-use Rattle.shard_core.specs.Places.{first_place, fits_reply}
-use Rattle.shard_core.specs.Slots.{SlotStands, batch_in}
-use Rattle.shard_core.specs.declared.slots.Slot.TheVariants.{Locked as Taken}
+use Rattle.shard_core.specs.Places.{first_misfit, fits_reply}
+use Rattle.shard_core.specs.Slots.{SlotStands, batch_numbered}
+use Rattle.shard_core.specs.declared.slots.LaneSlot.TheVariants.{Locked as Taken}
 
 pub entries_answered : (es : List Entry) (past : List Record) (b : Batch) (claimed : List Digest) → entries (answered past b claimed es) ≡ es
 entries_answered [] past b claimed = refl
@@ -48,23 +48,23 @@ not_fits_one r true f e = let held = e refl in cc
 not_fits_one r false f e = cc
 
 -- decisions fit replies where no place is told
-pub fits_all : (es : List Answered) (ds : List Bool) → first_place fits_reply (replies es) ds ≡ None → FitsReplies es ds
+pub fits_all : (es : List Answered) (ds : List Bool) → first_misfit fits_reply (replies es) ds ≡ None → FitsReplies es ds
 fits_all [] [] e = tt
 fits_all [] (d ∷ ds) e = cc
 fits_all (a ∷ es) [] e = cc
 fits_all (a ∷ es) (d ∷ ds) e =
-    elim (fits_reply a.reply d) as (λ c. fits_reply a.reply d ≡ c → (if c then option_map (λ n. suc n) (first_place fits_reply (replies es) ds) else Some 0) ≡ None
+    elim (fits_reply a.reply d) as (λ c. fits_reply a.reply d ≡ c → (if c then option_map (λ n. suc n) (first_misfit fits_reply (replies es) ds) else Some 0) ≡ None
     → (d ≡ true → is_held a.reply ≡ true) × FitsReplies es ds) [
-      | true ↦ λ f h. (fits_one a.reply d f, fits_all es ds (none_under (first_place fits_reply (replies es) ds) h))
+      | true ↦ λ f h. (fits_one a.reply d f, fits_all es ds (none_under (first_misfit fits_reply (replies es) ds) h))
       | false ↦ λ f h. cc
     ] refl e
 
-pub no_place : (es : List Answered) (ds : List Bool) → FitsReplies es ds → first_place fits_reply (replies es) ds ≡ None
+pub no_place : (es : List Answered) (ds : List Bool) → FitsReplies es ds → first_misfit fits_reply (replies es) ds ≡ None
 no_place [] [] f = refl
 no_place [] (d ∷ ds) f = absurd f
 no_place (a ∷ es) [] f = absurd f
 no_place (a ∷ es) (d ∷ ds) f =
-    elim (fits_reply a.reply d) as (λ c. fits_reply a.reply d ≡ c → (if c then option_map (λ n. suc n) (first_place fits_reply (replies es) ds) else Some 0) ≡ None) [
+    elim (fits_reply a.reply d) as (λ c. fits_reply a.reply d ≡ c → (if c then option_map (λ n. suc n) (first_misfit fits_reply (replies es) ds) else Some 0) ≡ None) [
       | true ↦ λ _. let rest = no_place es ds f.1 in rw rest refl
       | false ↦ λ g. absurd (not_fits_one a.reply d g f.0)
     ] refl
@@ -94,12 +94,12 @@ other_number s n m p e apart =
 
 -- the decisions decide at the right batch
 pub locked_slot : {A : Type 0} (past : List Record) (b : Batch) (n t : ℕ) (part : List Entry) (rs : List Reply) (ds : List Bool) (o : Option ℕ) (given : Bool)
-    → SlotStands (Taken n part rs t) past b.lane → A → n ≡ b.number → o ≡ first_place fits_reply rs ds → is_some o ≡ not given
+    → SlotStands (Taken n part rs t) past b.lane → A → n ≡ b.number → o ≡ first_misfit fits_reply rs ds → is_some o ≡ not given
     → IsTrue given ↔ (A × ((slot past b.lane).phase ≡ InLock) × ((slot past b.lane).number ≡ b.number) × FitsReplies (lock_of past b) ds)
 locked_slot past b n t part rs ds o given stands a number place some =
-    let same : batch_in b.lane n ≡ b = batch_is b n number in
+    let same : batch_numbered b.lane n ≡ b = batch_is b n number in
     let kept : replies (lock_of past b) ≡ rs = ap (λ (c : Batch). replies (lock_of past c)) (sym same) ∙ stands.3 in
-    let told : o ≡ first_place fits_reply (replies (lock_of past b)) ds = place ∙ ap (λ xs. first_place fits_reply xs ds) (sym kept) in (
+    let told : o ≡ first_misfit fits_reply (replies (lock_of past b)) ds = place ∙ ap (λ xs. first_misfit fits_reply xs ds) (sym kept) in (
       λ y. (
         a,
         ap (λ (x : Slot). x.phase) stands.0,
@@ -108,8 +108,8 @@ locked_slot past b n t part rs ds o given stands a number place some =
       ),
       λ f. yes_if o given some (told ∙ no_place (lock_of past b) ds f.3),
     ) where
-      batch_is : (c : Batch) (m : ℕ) → m ≡ c.number → batch_in c.lane m ≡ c
-      batch_is c m e = ap (λ k. batch_in c.lane k) e
+      batch_is : (c : Batch) (m : ℕ) → m ≡ c.number → batch_numbered c.lane m ≡ c
+      batch_is c m e = ap (λ k. batch_numbered c.lane k) e
 
       none_if : (p : Option ℕ) (q : Bool) → is_some p ≡ not q → IsTrue q → p ≡ None
       none_if None q e y = refl

@@ -3,8 +3,8 @@ use Rattle.std.proofs.Common.{◌≡◌, ◌≢◌, ℕ, zero, suc, List, [], �
 use Rattle.std.proofs.lemmas.Bool.Decides.{nat_tests}
 use Rattle.cbdc_model.specs.Records.{Batch, Record, Entry, Reply, Answered, Lock, Finish, Forget}
 use Rattle.cbdc_model.specs.Replies.{replies, entries}
-use Rattle.shard_core.specs.declared.slots.Slot.{Slot as LaneSlot}
-use Rattle.shard_core.specs.declared.slots.Slot.TheVariants.{Idle as Free, Locked as Taken, Finished}
+use Rattle.shard_core.specs.declared.slots.LaneSlot.{LaneSlot}
+use Rattle.shard_core.specs.declared.slots.LaneSlot.TheVariants.{Idle as Free, Locked as Taken, Finished}
 use Rattle.shard_core.specs.Slots.{SlotStands}
 
 pub get_set_same : {A : Type 0} (xs : List A) (i : ℕ) (v s : A) → slice_get (set xs i v) i ≡ Some s → s ≡ v

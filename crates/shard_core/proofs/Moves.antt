@@ -23,8 +23,8 @@ if_step f true false v c n p q = rw p
 if_step f false true v c n p q = rw (p, q)
 if_step f false false v c n p q = rw (p, q)
 
-pub cut : {X : Type 0} (xs : List X) (i : ℕ) (x : X) → i < length xs → x ≡ get_or xs i x → drop i xs ≡ x ∷ drop (suc i) xs
-cut xs i x l is = drop-cons xs i x l ∙ ap (λ (z : _). z ∷ drop (suc i) xs) (sym is)
+pub drop_at : {X : Type 0} (xs : List X) (i : ℕ) (x : X) → i < length xs → x ≡ get_or xs i x → drop i xs ≡ x ∷ drop (suc i) xs
+drop_at xs i x l is = drop-cons xs i x l ∙ ap (λ (z : _). z ∷ drop (suc i) xs) (sym is)
 
 pub outputs_more : (es : List Entry) (ds : List Bool) (i : ℕ) (e : Entry) → drop i es ≡ e ∷ drop (suc i) es → drop i ds ≡ true ∷ drop (suc i) ds → (y : Digest)
     → has (outputs_where (drop i es) (drop i ds)) y ≡ (has e.outputs y || has (outputs_where (drop (suc i) es) (drop (suc i) ds)) y)

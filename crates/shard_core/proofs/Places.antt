@@ -5,42 +5,42 @@ use Rattle.cbdc_model.specs.Records.{Answered, Reply}
 use Rattle.cbdc_model.specs.Replies.{replies}
 use mathlib.Core.Bool.{not, beq}
 use Rattle.cbdc_model.specs.Next.{difference, misfit, same_decision}
-use Rattle.shard_core.specs.Places.{first_place, fits_reply}
+use Rattle.shard_core.specs.Places.{first_misfit, fits_reply}
 
-pub difference_is : {A : Type 0} (same : A → A → Bool) (xs ys : List A) → difference same xs ys ≡ first_place same xs ys
+pub difference_is : {A : Type 0} (same : A → A → Bool) (xs ys : List A) → difference same xs ys ≡ first_misfit same xs ys
 difference_is same [] [] = refl
 difference_is same [] (y ∷ ys) = refl
 difference_is same (x ∷ xs) [] = refl
 difference_is same (x ∷ xs) (y ∷ ys) = let rest = difference_is same xs ys in rw rest
 
-pub misfit_is : (es : List Answered) (ds : List Bool) → misfit es ds ≡ first_place fits_reply (replies es) ds
+pub misfit_is : (es : List Answered) (ds : List Bool) → misfit es ds ≡ first_misfit fits_reply (replies es) ds
 misfit_is [] [] = refl
 misfit_is [] (d ∷ ds) = refl
 misfit_is (a ∷ es) [] = refl
 misfit_is (a ∷ es) (d ∷ ds) = let rest = misfit_is es ds in grind (arith, common_steps, misfit_is es ds)
 
-pub found_at : {A B : Type 0} (fits : A → B → Bool) (xs : List A) (ys : List B) (k : ℕ) (x : A) (y : B) → ((i : ℕ) (d : A) (e : B) → i < k → fits (get_or xs i d) (get_or ys i e) ≡ true)
-    → k < length xs → k < length ys → fits (get_or xs k x) (get_or ys k y) ≡ false → Some k ≡ first_place fits xs ys
-found_at fits [] ys k x y all lx ly bad = absurd (omega arith)
-found_at fits (u ∷ xs) [] k x y all lx ly bad = absurd (omega arith)
-found_at fits (u ∷ xs) (v ∷ ys) zero x y all lx ly bad = let e : fits u v ≡ false = bad in rw e
-found_at fits (u ∷ xs) (v ∷ ys) (suc k) x y all lx ly bad =
+pub misfit_at : {A B : Type 0} (fits : A → B → Bool) (xs : List A) (ys : List B) (k : ℕ) (x : A) (y : B) → ((i : ℕ) (d : A) (e : B) → i < k → fits (get_or xs i d) (get_or ys i e) ≡ true)
+    → k < length xs → k < length ys → fits (get_or xs k x) (get_or ys k y) ≡ false → Some k ≡ first_misfit fits xs ys
+misfit_at fits [] ys k x y all lx ly bad = absurd (omega arith)
+misfit_at fits (u ∷ xs) [] k x y all lx ly bad = absurd (omega arith)
+misfit_at fits (u ∷ xs) (v ∷ ys) zero x y all lx ly bad = let e : fits u v ≡ false = bad in rw e
+misfit_at fits (u ∷ xs) (v ∷ ys) (suc k) x y all lx ly bad =
     let e : fits u v ≡ true = all 0 x y (omega arith) in
-    let rest = found_at fits xs ys k x y (λ i d f h. all (suc i) d f (omega arith)) (omega arith) (omega arith) bad in
+    let rest = misfit_at fits xs ys k x y (λ i d f h. all (suc i) d f (omega arith)) (omega arith) (omega arith) bad in
     rw (e, ← rest)
 
-pub found_none : {A B : Type 0} (fits : A → B → Bool) (xs : List A) (ys : List B) → ((i : ℕ) (d : A) (e : B) → i < length xs → fits (get_or xs i d) (get_or ys i e) ≡ true)
-    → length xs ≡ length ys → None ≡ first_place fits xs ys
-found_none fits [] [] all same = refl
-found_none fits [] (y ∷ ys) all same = absurd (omega arith)
-found_none fits (x ∷ xs) [] all same = absurd (omega arith)
-found_none fits (x ∷ xs) (y ∷ ys) all same =
+pub no_misfit : {A B : Type 0} (fits : A → B → Bool) (xs : List A) (ys : List B) → ((i : ℕ) (d : A) (e : B) → i < length xs → fits (get_or xs i d) (get_or ys i e) ≡ true)
+    → length xs ≡ length ys → None ≡ first_misfit fits xs ys
+no_misfit fits [] [] all same = refl
+no_misfit fits [] (y ∷ ys) all same = absurd (omega arith)
+no_misfit fits (x ∷ xs) [] all same = absurd (omega arith)
+no_misfit fits (x ∷ xs) (y ∷ ys) all same =
     let e : fits x y ≡ true = all 0 x y (omega arith) in
-    let rest = found_none fits xs ys (λ i d f h. all (suc i) d f (omega arith)) (omega arith) in
+    let rest = no_misfit fits xs ys (λ i d f h. all (suc i) d f (omega arith)) (omega arith) in
     rw (e, ← rest)
 
 pub found_short : {A B : Type 0} (fits : A → B → Bool) (xs : List A) (ys : List B) → ((i : ℕ) (d : A) (e : B) → i < length xs → i < length ys → fits (get_or xs i d) (get_or ys i e) ≡ true)
-    → length xs ≢ length ys → Some (min (length xs) (length ys)) ≡ first_place fits xs ys
+    → length xs ≢ length ys → Some (min (length xs) (length ys)) ≡ first_misfit fits xs ys
 found_short fits [] [] all differ = absurd (differ refl)
 found_short fits [] (y ∷ ys) all differ = ap Some (omega arith)
 found_short fits (x ∷ xs) [] all differ = ap Some (omega arith)
@@ -59,14 +59,14 @@ none_some : {X : Type 0} (o : Option X) → (f : X → X) → None ≡ option_ma
 none_some None f h = refl
 none_some (Some x) f h = cc
 
-fits_by : (t : Bool) (r : Reply) (rs : List Reply) (d : Bool) (ds : List Bool) → None ≡ first_place fits_reply (r ∷ rs) (d ∷ ds) → fits_reply r d ≡ t
-    → (None ≡ first_place fits_reply rs ds → length ds ≡ length rs) → length (d ∷ ds) ≡ length (r ∷ rs)
+fits_by : (t : Bool) (r : Reply) (rs : List Reply) (d : Bool) (ds : List Bool) → None ≡ first_misfit fits_reply (r ∷ rs) (d ∷ ds) → fits_reply r d ≡ t
+    → (None ≡ first_misfit fits_reply rs ds → length ds ≡ length rs) → length (d ∷ ds) ≡ length (r ∷ rs)
 fits_by true r rs d ds h e rest =
-    let same : length ds ≡ length rs = rest (none_some (first_place fits_reply rs ds) (λ n. suc n) (rw e at h)) in omega (arith, same)
+    let same : length ds ≡ length rs = rest (none_some (first_misfit fits_reply rs ds) (λ n. suc n) (rw e at h)) in omega (arith, same)
 fits_by false r rs d ds h e rest = let no : None ≡ Some 0 = rw e at h in cc
 
 -- where all places fit, the lists are as long
-pub fits_length : (rs : List Reply) (ds : List Bool) → None ≡ first_place fits_reply rs ds → length ds ≡ length rs
+pub fits_length : (rs : List Reply) (ds : List Bool) → None ≡ first_misfit fits_reply rs ds → length ds ≡ length rs
 fits_length [] [] h = refl
 fits_length [] (d ∷ ds) h = cc
 fits_length (r ∷ rs) [] h = cc

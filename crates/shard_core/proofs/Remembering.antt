@@ -4,11 +4,11 @@ use Rattle.cbdc_model.specs.Records.{Digest, Record, Entry, Reply, Answered, loc
 use Rattle.cbdc_model.specs.Slots.{slot, Phase, Idle, InLock, InFinish}
 use Rattle.cbdc_model.specs.Replies.{entries}
 use Rattle.cbdc_model.specs.Fates.{Fate, names, decided_fate, fate_in, lane_fate, fate_below, Waiting, Committed, Rejected}
-use Rattle.shard_core.specs.Remembers.{has_id, fate_of, told, as_fate}
+use Rattle.shard_core.specs.Remembers.{has_id, fate_of, told_fate, as_fate}
 use Rattle.shard_core.specs.declared.plans.Remembered.{Remembered}
-use Rattle.shard_core.specs.Slots.{SlotStands, batch_in}
+use Rattle.shard_core.specs.Slots.{SlotStands, batch_numbered}
 use Rattle.shard_core.proofs.Applies.{Yes, No, same_nat}
-use Rattle.shard_core.specs.declared.slots.Slot.TheVariants.{Idle as Free, Locked as Taken, Finished}
+use Rattle.shard_core.specs.declared.slots.LaneSlot.TheVariants.{Idle as Free, Locked as Taken, Finished}
 
 has_id-entries : (es : List Answered) (id : Digest) → has_id (entries es) id ≡ names es id
 has_id-entries [] id = refl
@@ -19,7 +19,7 @@ fate_of-entries [] ds id = refl
 fate_of-entries (a ∷ es) [] id = refl
 fate_of-entries (a ∷ es) (d ∷ ds) id = ap (λ f. if same_digest a.entry.id id then Some (if d then Committed else Rejected) else f) (fate_of-entries es ds id)
 
-fate_at : (J : List Record) (lane n : ℕ) (p : Phase) (id : Digest) → slot J lane ≡ record { number = n; phase = p } → lane_fate J id lane ≡ fate_in p J (batch_in lane n) id
+fate_at : (J : List Record) (lane n : ℕ) (p : Phase) (id : Digest) → slot J lane ≡ record { number = n; phase = p } → lane_fate J id lane ≡ fate_in p J (batch_numbered lane n) id
 fate_at J lane n p id e = rw e refl
 
 pub free_fate : (J : List Record) (lane n t : ℕ) (id : Digest) → SlotStands (Free n t) J lane → lane_fate J id lane ≡ None
@@ -28,15 +28,15 @@ free_fate J lane n t id s = fate_at J lane n Idle id s.0
 pub taken_fate : (J : List Record) (lane n t : ℕ) (part : List Entry) (rs : List Reply) (id : Digest) → SlotStands (Taken n part rs t) J lane
     → lane_fate J id lane ≡ (if has_id part id then Some Waiting else None)
 taken_fate J lane n t part rs id s =
-    let same : names (lock_of J (batch_in lane n)) id ≡ has_id part id = sym (has_id-entries (lock_of J (batch_in lane n)) id) ∙ ap (λ es. has_id es id) s.2 in
+    let same : names (lock_of J (batch_numbered lane n)) id ≡ has_id part id = sym (has_id-entries (lock_of J (batch_numbered lane n)) id) ∙ ap (λ es. has_id es id) s.2 in
     fate_at J lane n InLock id s.0 ∙ ap (λ c. if c then Some Waiting else None) same
 
 pub finished_fate : (J : List Record) (lane n t u : ℕ) (part : List Entry) (rs : List Reply) (ds : List Bool) (id : Digest) → SlotStands (Finished n part rs ds t u) J lane
     → lane_fate J id lane ≡ fate_of part ds id
 finished_fate J lane n t u part rs ds id s =
     fate_at J lane n InFinish id s.0
-    ∙ sym (fate_of-entries (lock_of J (batch_in lane n)) (decisions_in (record_of 3 J (batch_in lane n))) id)
-    ∙ ap (λ es. fate_of es (decisions_in (record_of 3 J (batch_in lane n))) id) s.2
+    ∙ sym (fate_of-entries (lock_of J (batch_numbered lane n)) (decisions_in (record_of 3 J (batch_numbered lane n))) id)
+    ∙ ap (λ es. fate_of es (decisions_in (record_of 3 J (batch_numbered lane n))) id) s.2
     ∙ ap (λ xs. fate_of part xs id) s.5
 
 -- the least lane that remembers it decides
@@ -81,7 +81,7 @@ waiting_unless o true h e = cc
 waiting_unless o false h e = sym h
 
 -- what the first lane that remembers it tells
-pub fate_told : (J : List Record) (id : Digest) (n k : ℕ) (r : Option Remembered) → k < n → fate_below J id k ≡ None → told r ≡ lane_fate J id k → is_some r ≡ true
-    → told r ≡ fate_below J id n
+pub fate_told : (J : List Record) (id : Digest) (n k : ℕ) (r : Option Remembered) → k < n → fate_below J id k ≡ None → told_fate r ≡ lane_fate J id k → is_some r ≡ true
+    → told_fate r ≡ fate_below J id n
 fate_told J id n k None lt none here some = cc
 fate_told J id n k (Some x) lt none here some = sym (fate_first J id n k (as_fate x) lt none (sym here))

@@ -2,11 +2,11 @@
 use Rattle.std.proofs.Common.{◌≡◌, ◌∙◌, ap, subst, List, Some, option_map}
 use Rattle.std.specs.Prelude.{slice_get}
 use Rattle.cbdc_model.specs.Records.{Record}
-use Rattle.shard_core.specs.declared.slots.Slot.{Slot as LaneSlot}
+use Rattle.shard_core.specs.declared.slots.LaneSlot.{LaneSlot}
 use Rattle.shard_core.specs.declared.core_state.ShardCore.{ShardCore}
-use Rattle.shard_core.specs.Stands.{Stands, IsSameState}
+use Rattle.shard_core.specs.Stands.{ShardStands, IsSameState}
 
-pub stands_same : (old new : ShardCore) (J : List Record) → IsSameState old new → Stands old J → Stands new J
+pub stands_same : (old new : ShardCore) (J : List Record) → IsSameState old new → ShardStands old J → ShardStands new J
 stands_same old new J same stands = record {
   lanes = λ lane s is. stands.lanes lane s (subst (λ (slots : List LaneSlot). slice_get slots lane ≡ Some s) same.slots is);
   last = same.last ∙ stands.last;

@@ -2,13 +2,13 @@
 use Rattle.std.specs.Prelude.{◌≡◌, ℕ, ◌*◌, ◌<◌, ◌^◌, Bool, List, length, Some, slice_get}
 use Rattle.cbdc_model.specs.Records.{Batch, Entry, Reply, Record, Lock, Finish, Forget}
 use Rattle.cbdc_model.specs.Replies.{entries, replies}
-use Rattle.shard_core.specs.declared.slots.Slot.TheVariants.{Locked as Taken}
+use Rattle.shard_core.specs.declared.slots.LaneSlot.TheVariants.{Locked as Taken}
 use Rattle.shard_core.specs.declared.core_state.ShardCore.{ShardCore}
-use Rattle.shard_core.specs.Stands.{IsReady, IsFree, IsDone}
+use Rattle.shard_core.specs.Stands.{IsLockReady, IsLaneFree, IsLanePast}
 
 -- the batch is of a lane here, and the stamp is below 2^63
-abbrev pub IsOfLane : ShardCore → Batch → ℕ → Type 0
-IsOfLane core b stamp = (b.lane < core.header.shape.coordinators * core.header.shape.lanes) × (stamp < 2 ^ 63)
+abbrev pub IsOfShardLane : ShardCore → Batch → ℕ → Type 0
+IsOfShardLane core b stamp = (b.lane < core.header.shape.coordinators * core.header.shape.lanes) × (stamp < 2 ^ 63)
 
 -- the batch is locked here, with as many entries as there are decisions
 pub record IsFinishable (core : ShardCore) (b : Batch) (ds : List Bool) : Type 0 where
@@ -21,20 +21,20 @@ pub record IsFinishable (core : ShardCore) (b : Batch) (ds : List Bool) : Type 0
 
 -- the shard can take this record in: its memory is there
 abbrev pub IsLockAdmitted : ShardCore → Record → Type 0
-IsLockAdmitted core (Lock stamp b es) = IsOfLane core b stamp × IsFree core b.lane × IsReady core (entries es) (replies es)
+IsLockAdmitted core (Lock stamp b es) = IsOfShardLane core b stamp × IsLaneFree core b.lane × IsLockReady core (entries es) (replies es)
 IsLockAdmitted core other = ⊥
 
--- `IsLockAdmitted`, `IsFinishAdmitted`, `IsForgetAdmitted`, `IsAdmitted`: the shard can take this record in: its memory is there
+-- `IsLockAdmitted`, `IsFinishAdmitted`, `IsForgetAdmitted`, `ShardAdmits`: the shard can take this record in: its memory is there
 abbrev pub IsFinishAdmitted : ShardCore → Record → Type 0
-IsFinishAdmitted core (Finish stamp b ds) = IsOfLane core b stamp × IsFinishable core b ds
+IsFinishAdmitted core (Finish stamp b ds) = IsOfShardLane core b stamp × IsFinishable core b ds
 IsFinishAdmitted core other = ⊥
 
 abbrev pub IsForgetAdmitted : ShardCore → Record → Type 0
-IsForgetAdmitted core (Forget stamp b) = IsOfLane core b stamp × IsDone core b.lane
+IsForgetAdmitted core (Forget stamp b) = IsOfShardLane core b stamp × IsLanePast core b.lane
 IsForgetAdmitted core other = ⊥
 
-abbrev pub IsAdmitted : ShardCore → Record → Type 0
-IsAdmitted core (Lock stamp b es) = IsLockAdmitted core (Lock stamp b es)
-IsAdmitted core (Finish stamp b ds) = IsFinishAdmitted core (Finish stamp b ds)
-IsAdmitted core (Forget stamp b) = IsForgetAdmitted core (Forget stamp b)
-IsAdmitted core other = ⊥
+abbrev pub ShardAdmits : ShardCore → Record → Type 0
+ShardAdmits core (Lock stamp b es) = IsLockAdmitted core (Lock stamp b es)
+ShardAdmits core (Finish stamp b ds) = IsFinishAdmitted core (Finish stamp b ds)
+ShardAdmits core (Forget stamp b) = IsForgetAdmitted core (Forget stamp b)
+ShardAdmits core other = ⊥

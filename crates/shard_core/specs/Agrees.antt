@@ -6,10 +6,10 @@ use Rattle.shard_table.specs.declared.slots.Kept.{Kept}
 use Rattle.shard_table.specs.Entries.{lookup}
 
 -- whether a status is Unspent
-abbrev pub is_unspent : Status → Bool
-is_unspent Unspent = true
-is_unspent (Locked by) = false
-is_unspent Absent = false
+abbrev pub says_unspent : Status → Bool
+says_unspent Unspent = true
+says_unspent (Locked by) = false
+says_unspent Absent = false
 
 -- the batch that holds the hash
 abbrev pub locked_by : Status → Option Batch
@@ -22,6 +22,6 @@ abbrev pub holder_in : List (Kept (Batch × ℕ)) → Digest → Option Batch
 holder_in held x = option_map (λ p. p.0) (lookup held x)
 
 -- the unspent hashes and the locks are what the journal says, at each hash
-pub record Agrees (hashes : List Digest) (held : List (Kept (Batch × ℕ))) (J : List Record) : Type 0 where
-  pub unspent : (x : Digest) → has hashes x ≡ is_unspent (status J x)
+pub record HashesAgree (hashes : List Digest) (held : List (Kept (Batch × ℕ))) (J : List Record) : Type 0 where
+  pub unspent : (x : Digest) → has hashes x ≡ says_unspent (status J x)
   pub locked : (x : Digest) → holder_in held x ≡ locked_by (status J x)

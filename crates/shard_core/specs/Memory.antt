@@ -1,8 +1,8 @@
 -- The memory for the decisions of locked batches.
 use Rattle.std.specs.Prelude.{◌≡◌, ℕ, ◌≤◌, Bool, List, length, vec_capacity, Some, slice_get}
 use Rattle.std.specs.Global.{Vec}
-use Rattle.shard_core.specs.declared.slots.Slot.{Slot as LaneSlot}
-use Rattle.shard_core.specs.declared.slots.Slot.TheVariants.{Idle as Free, Locked as Taken, Finished}
+use Rattle.shard_core.specs.declared.slots.LaneSlot.{LaneSlot}
+use Rattle.shard_core.specs.declared.slots.LaneSlot.TheVariants.{Idle as Free, Locked as Taken, Finished}
 
 -- how many entries and replies a locked batch has
 abbrev pub locked_entries : LaneSlot → ℕ
@@ -17,8 +17,8 @@ locked_replies (Taken n part rs t) = length rs
 locked_replies (Finished n part rs ds t u) = 0
 
 -- for each locked batch there is memory for a decision on each entry
-abbrev pub HaveMemory : List LaneSlot → List (Vec Bool) → Type 0
-HaveMemory slots memory =
+abbrev pub HaveDecisionMemory : List LaneSlot → List (Vec Bool) → Type 0
+HaveDecisionMemory slots memory =
     (i : ℕ) (s : LaneSlot) (m : Vec Bool) → slice_get slots i ≡ Some s → slice_get memory i ≡ Some m → locked_entries s ≤ vec_capacity m
 
 -- each locked batch has a reply for each entry

@@ -1,8 +1,8 @@
 -- Which hashes a record moves, by the entries of its batch.
 use Rattle.std.specs.Prelude.{ℕ, ◌+◌, Bool, List, [], ◌∷◌, ◌++◌, length, if◌then◌else◌}
 use Rattle.cbdc_model.specs.Records.{Digest, Entry, Reply, is_held}
-use Rattle.shard_core.specs.declared.slots.Slot.{Slot as LaneSlot}
-use Rattle.shard_core.specs.declared.slots.Slot.TheVariants.{Idle as Free, Locked as Taken, Finished}
+use Rattle.shard_core.specs.declared.slots.LaneSlot.{LaneSlot}
+use Rattle.shard_core.specs.declared.slots.LaneSlot.TheVariants.{Idle as Free, Locked as Taken, Finished}
 
 -- the inputs and the outputs of the committed entries
 abbrev pub inputs_where : List Entry → List Bool → List Digest

@@ -4,11 +4,11 @@ use Rattle.cbdc_model.specs.Records.{Batch, Record, last_stamp}
 use Rattle.cbdc_model.specs.Slots.{slot, Idle}
 use Rattle.cbdc_model.specs.Grammar.{IsShard}
 use Rattle.shard_core.specs.declared.core_state.ShardCore.{ShardCore}
-use Rattle.shard_core.specs.Stands.{Stands}
+use Rattle.shard_core.specs.Stands.{ShardStands}
 
 -- the core stands for this journal, which is a shard's and has its first record
-pub record StandsFor (core : ShardCore) (J : List Record) : Type 0 where
-  pub stands : Stands core J
+pub record IsShardCoreOf (core : ShardCore) (J : List Record) : Type 0 where
+  pub stands : ShardStands core J
   pub begun : J ≢ []
   pub shard : IsShard core.header.shape core.header.node
 

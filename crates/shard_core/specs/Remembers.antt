@@ -5,16 +5,16 @@ use Rattle.cbdc_model.specs.Fates.{Fate, Waiting, Committed, Rejected}
 use Rattle.shard_core.specs.declared.plans.Remembered.{Remembered}
 use Rattle.shard_core.specs.declared.plans.Remembered.TheVariants.{Waiting as Waits, Committed as Commits, Rejected as Rejects}
 
--- `as_fate`, `told`: what the program remembers, and its answer, as the definitions have it
+-- `as_fate`, `told_fate`: what the program remembers, and its answer, as the definitions have it
 abbrev pub as_fate : Remembered → Fate
 as_fate Waits = Waiting
 as_fate Commits = Committed
 as_fate Rejects = Rejected
 
 -- what an answer says
-abbrev pub told : Option Remembered → Option Fate
-told None = None
-told (Some r) = Some (as_fate r)
+abbrev pub told_fate : Option Remembered → Option Fate
+told_fate None = None
+told_fate (Some r) = Some (as_fate r)
 
 -- the same of entries without their replies
 abbrev pub has_id : List Entry → Digest → Bool

@@ -3,10 +3,10 @@ use Rattle.std.specs.Prelude.{◌≡◌, ℕ, ◌+◌, ◌<◌, ◌≤◌, ◌^�
 use Rattle.cbdc_model.specs.Records.{Digest, Batch, Record, Entry, Reply, last_stamp}
 use Rattle.cbdc_model.specs.Status.{has}
 use Rattle.shard_table.specs.Entries.{lookup}
-use Rattle.shard_core.specs.declared.slots.Slot.{Slot as LaneSlot}
+use Rattle.shard_core.specs.declared.slots.LaneSlot.{LaneSlot}
 use Rattle.shard_core.specs.declared.core_state.Ready.{Ready}
-use Rattle.shard_core.specs.Judged.{IsIdle, IsPast}
-use Rattle.shard_core.specs.Agrees.{Agrees}
+use Rattle.shard_core.specs.Judged.{IsSlotFree, IsSlotPast}
+use Rattle.shard_core.specs.Agrees.{HashesAgree}
 use Rattle.shard_core.specs.Moves.{hashes_in}
 use Rattle.shard_core.specs.declared.core_state.ShardCore.{ShardCore}
 use Rattle.shard_core.specs.declared.plans.LockPlan.{LockPlan}
@@ -15,10 +15,10 @@ use Rattle.shard_core.specs.Slots.{SlotStands}
 
 -- the slots, the last stamp, the unspent hashes and the locked ones are what the journal, the newest record first, says
 -- of them
-pub record Stands (core : ShardCore) (J : List Record) : Type 0 where
+pub record ShardStands (core : ShardCore) (J : List Record) : Type 0 where
   pub lanes : (lane : ℕ) (s : LaneSlot) → slice_get core.slots lane ≡ Some s → SlotStands s J lane
   pub last : core.last ≡ last_stamp J
-  pub hashes : Agrees core.unspent.hashes core.locks.held J
+  pub hashes : HashesAgree core.unspent.hashes core.locks.held J
 
 -- the shard stands for the same journals as before: only room was made
 pub record IsSameState (old new : ShardCore) : Type 0 where
@@ -30,29 +30,29 @@ pub record IsSameState (old new : ShardCore) : Type 0 where
   pub owed : new.owed ≡ old.owed
 
 -- the memory for the next Lock holds this part with these replies, and has room for its decisions
-abbrev pub IsReadyIn : Option Ready → List Entry → List Reply → Type 0
-IsReadyIn None part rs = ⊥
-IsReadyIn (Some r) part rs =
+abbrev pub IsLockReadyIn : Option Ready → List Entry → List Reply → Type 0
+IsLockReadyIn None part rs = ⊥
+IsLockReadyIn (Some r) part rs =
     (r.part ≡ part) × (r.replies ≡ rs) × (r.count ≡ hashes_in part) × (length part ≤ vec_capacity r.decisions)
 
 -- the memory for a Lock of this part with these replies, and for its Finish, is there
-pub record IsReady (core : ShardCore) (part : List Entry) (rs : List Reply) : Type 0 where
-  pub kept : IsReadyIn core.ready part rs
+pub record IsLockReady (core : ShardCore) (part : List Entry) (rs : List Reply) : Type 0 where
+  pub kept : IsLockReadyIn core.ready part rs
   pub pairs : length rs ≡ length part
   pub locks : hashes_in part ≤ core.locks.spare
   pub unspent : core.owed + hashes_in part ≤ core.unspent.spare
   pub fits : core.owed + hashes_in part < 2 ^ 62
 
 -- of the lane's batch in the core
-abbrev pub IsDone : ShardCore → ℕ → Type 0
-IsDone core lane = (s : LaneSlot) → slice_get core.slots lane ≡ Some s → IsPast s
+abbrev pub IsLanePast : ShardCore → ℕ → Type 0
+IsLanePast core lane = (s : LaneSlot) → slice_get core.slots lane ≡ Some s → IsSlotPast s
 
 -- no batch of the lane is remembered in the core
-abbrev pub IsFree : ShardCore → ℕ → Type 0
-IsFree core lane = (s : LaneSlot) → slice_get core.slots lane ≡ Some s → IsIdle s
+abbrev pub IsLaneFree : ShardCore → ℕ → Type 0
+IsLaneFree core lane = (s : LaneSlot) → slice_get core.slots lane ≡ Some s → IsSlotFree s
 
 -- where a Lock is to be appended, the memory for it is there
-abbrev pub IsReadyFor : ShardCore → Batch → List Entry → LockPlan → Type 0
-IsReadyFor core b part (LockKept r) = Unit {0}
-IsReadyFor core b part (LockNext r) = IsReady core part r.replies × IsFree core b.lane
-IsReadyFor core b part (LockRefused why) = Unit {0}
+abbrev pub IsPlanReady : ShardCore → Batch → List Entry → LockPlan → Type 0
+IsPlanReady core b part (LockKept r) = Unit {0}
+IsPlanReady core b part (LockNext r) = IsLockReady core part r.replies × IsLaneFree core b.lane
+IsPlanReady core b part (LockRefused why) = Unit {0}

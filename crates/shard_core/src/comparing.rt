@@ -2,7 +2,7 @@
 ghost use Rattle.std.specs.Prelude.{◌≡◌};
 ghost use Rattle.cbdc_model.specs.Records.{same_digest, is_held as reply_is_held};
 ghost use Rattle.cbdc_model.specs.Next.{same_entry, same_digests, same_decision};
-ghost use Rattle.shard_core.specs.Places.{first_place, fits_reply};
+ghost use Rattle.shard_core.specs.Places.{first_misfit, fits_reply};
 
 use cbdc_types::{Entry, Hash, Reply};
 
@@ -30,7 +30,7 @@ fn are_same_entries(x: &Entry, y: &Entry) -> bool
 
 /// The first place where the parts differ, or the shorter length; None where they are the same.
 pub fn other_part(kept: &[Entry], given: &[Entry]) -> Option<u64>
-    ensures { result ≡ first_place same_entry kept.now given.now }
+    ensures { result ≡ first_misfit same_entry kept.now given.now }
 {
     for at in 0..kept.len().min(given.len()) {
         if !are_same_entries(&kept[at], &given[at]) {
@@ -46,7 +46,7 @@ pub fn other_part(kept: &[Entry], given: &[Entry]) -> Option<u64>
 
 /// The first place where the decisions differ, or the shorter length; None where they are the same.
 pub fn other_decisions(kept: &[bool], given: &[bool]) -> Option<u64>
-    ensures { result ≡ first_place same_decision kept.now given.now }
+    ensures { result ≡ first_misfit same_decision kept.now given.now }
 {
     for at in 0..kept.len().min(given.len()) {
         if kept[at] != given[at] {
@@ -62,7 +62,7 @@ pub fn other_decisions(kept: &[bool], given: &[bool]) -> Option<u64>
 
 /// The first place where an entry that isn't Held is to be committed, or the shorter length; None where the decisions fit.
 pub fn misfit(replies: &[Reply], decisions: &[bool]) -> Option<u64>
-    ensures { result ≡ first_place fits_reply replies.now decisions.now }
+    ensures { result ≡ first_misfit fits_reply replies.now decisions.now }
 {
     for at in 0..replies.len().min(decisions.len()) {
         if decisions[at] && !is_held(&replies[at]) {

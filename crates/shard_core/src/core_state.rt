@@ -4,10 +4,10 @@ ghost use Rattle.cbdc_model.specs.Records.{Digest, Record};
 ghost use Rattle.cbdc_model.specs.Room.{lane_room};
 ghost use Rattle.cbdc_model.specs.Fates.{lane_fate};
 ghost use Rattle.shard_core.specs.Slots.{SlotStands};
-ghost use Rattle.shard_core.specs.Remembers.{told, has_id, fate_of};
+ghost use Rattle.shard_core.specs.Remembers.{told_fate, has_id, fate_of};
 ghost use Rattle.cbdc_model.specs.Status.{has};
 ghost use Rattle.shard_core.specs.Moves.{owed_in};
-ghost use Rattle.shard_core.specs.Memory.{HaveMemory, ArePaired};
+ghost use Rattle.shard_core.specs.Memory.{HaveDecisionMemory, ArePaired};
 ghost use Rattle.cbdc_types.specs.declared.record.Header.{Header};
 
 use crate::applying::{hash_count, lock_held, make_committed, return_others, take_committed};
@@ -16,7 +16,7 @@ use crate::copying::{copy_of, entries_of, same_replies};
 use crate::judging::{LockAnswer, judge_finish, judge_forget, judge_lock, kept_replies};
 use crate::plans::{LockPlan, Remembered, StampPlan};
 use crate::replying::{replies_to, status_of};
-use crate::{Slot, Slots};
+use crate::{LaneSlot, Slots};
 use cbdc_types::{
     Answered, BatchId, Decisions, Entry, FinishCall, ForgetCall, Hash, Header, LaneId, List,
     LockCall, Part, Record, Refused, Replied, Reply, Stamp, Status,
@@ -57,20 +57,20 @@ pub struct ShardCore {
     ghost lanes: { length slots ≡ header.shape.coordinators * header.shape.lanes },
     ghost memories: { length decisions.items ≡ header.shape.coordinators * header.shape.lanes },
     ghost clock: { last < 2 ^ 63 },
-    ghost memory: { HaveMemory slots decisions.items },
+    ghost memory: { HaveDecisionMemory slots decisions.items },
     ghost paired: { ArePaired slots },
     ghost owes: { owed ≡ owed_in slots },
     ghost room: { owed ≤ unspent.spare },
 }
 
 // The bytes that are kept free for the later records of a slot's batch.
-fn room_of(slot: &Slot) -> u64
+fn room_of(slot: &LaneSlot) -> u64
     ensures { (J : Items Record) (lane : ℕ) → SlotStands slot.now J lane → result ≡ min (lane_room J lane) (2 ^ 64 - 1) }
 {
     match slot {
-        Slot::Idle(_, _) => 0,
-        Slot::Locked(_, part, _, _) => (part.len() as u64).saturating_add(76),
-        Slot::Finished(_, _, _, _, _, _) => 34,
+        LaneSlot::Idle(_, _) => 0,
+        LaneSlot::Locked(_, part, _, _) => (part.len() as u64).saturating_add(76),
+        LaneSlot::Finished(_, _, _, _, _, _) => 34,
     }
 }
 
@@ -121,11 +121,11 @@ fn keep(parts: &mut Vec<Vec<Entry>>, lane: LaneId, part: Vec<Entry>) {
 }
 
 // The part of a finished batch, none of another one.
-fn finished_part(alloc: Global, slot: Slot) -> Vec<Entry> {
+fn finished_part(alloc: Global, slot: LaneSlot) -> Vec<Entry> {
     match slot {
-        Slot::Finished(_, part, _, _, _, _) => part.into_vec(),
-        Slot::Idle(_, _) => Vec::new(alloc),
-        Slot::Locked(_, _, _, _) => Vec::new(alloc),
+        LaneSlot::Finished(_, part, _, _, _, _) => part.into_vec(),
+        LaneSlot::Idle(_, _) => Vec::new(alloc),
+        LaneSlot::Locked(_, _, _, _) => Vec::new(alloc),
     }
 }
 
@@ -151,19 +151,19 @@ fn table_of(alloc: Global, hashes: &[Hash]) -> Result<Table, AllocError>
 }
 
 // What a slot remembers of a transaction.
-fn remembered_in(slot: &Slot, id: &Hash) -> Option<Remembered>
-    ensures { (J : Items Record) (lane : ℕ) → SlotStands slot.now J lane → told result ≡ lane_fate J id.now lane }
+fn remembered_in(slot: &LaneSlot, id: &Hash) -> Option<Remembered>
+    ensures { (J : Items Record) (lane : ℕ) → SlotStands slot.now J lane → told_fate result ≡ lane_fate J id.now lane }
 {
     match slot {
-        Slot::Idle(_, _) => None,
-        Slot::Locked(_, part, _, _) => {
+        LaneSlot::Idle(_, _) => None,
+        LaneSlot::Locked(_, part, _, _) => {
             if has_entry(part.as_slice(), id) {
                 Some(Remembered::Waiting)
             } else {
                 None
             }
         }
-        Slot::Finished(_, part, _, decisions, _, _) => {
+        LaneSlot::Finished(_, part, _, decisions, _, _) => {
             decided_in(part.as_slice(), decisions.as_slice(), id)
         }
     }
@@ -183,7 +183,7 @@ fn has_entry(entries: &[Entry], id: &Hash) -> bool
 
 // What the decision of the first entry with this id says.
 fn decided_in(entries: &[Entry], decisions: &[bool], id: &Hash) -> Option<Remembered>
-    ensures { told result ≡ fate_of entries.now decisions.now id.now }
+    ensures { told_fate result ≡ fate_of entries.now decisions.now id.now }
 {
     for at in 0..entries.len().min(decisions.len()) {
         if is_same_hash(&entries[at].id, id) {
@@ -203,20 +203,20 @@ impl ShardCore {
     ghost use Rattle.cbdc_model.specs.Records.{Batch, Answered, last_stamp};
     ghost use Rattle.cbdc_model.specs.Next.{next_lock, next_finish, next_forget, next_stamp};
     ghost use Rattle.cbdc_model.specs.Status.{status};
-    ghost use Rattle.shard_core.specs.Stands.{Stands, IsSameState, IsReady, IsReadyFor, IsFree, IsDone};
-    ghost use Rattle.shard_core.specs.Plans.{stamp_plan, lock_plan, IsFinishPlan, IsForgetPlan};
-    ghost use Rattle.shard_core.specs.Admitted.{IsAdmitted, IsLockAdmitted, IsFinishAdmitted, IsForgetAdmitted, IsOfLane, IsFinishable};
-    ghost use Rattle.shard_core.specs.Next.{StandsFor, IsOpenTo};
+    ghost use Rattle.shard_core.specs.Stands.{ShardStands, IsSameState, IsLockReady, IsPlanReady, IsLaneFree, IsLanePast};
+    ghost use Rattle.shard_core.specs.Plans.{core_plan, core_lock_plan, IsFinishPlan, IsForgetPlan};
+    ghost use Rattle.shard_core.specs.Admitted.{ShardAdmits, IsLockAdmitted, IsFinishAdmitted, IsForgetAdmitted, IsOfShardLane, IsFinishable};
+    ghost use Rattle.shard_core.specs.Next.{IsShardCoreOf, IsOpenTo};
     ghost use Rattle.cbdc_model.specs.After.{After, Follows};
     ghost use Rattle.cbdc_model.specs.Grammar.{IsInGrammar};
     ghost use Rattle.cbdc_model.specs.Room.{kept_room as room_kept};
     ghost use Rattle.cbdc_model.specs.Fates.{fate};
-    ghost use Rattle.shard_core.specs.Counts.{Counts};
+    ghost use Rattle.shard_core.specs.Counts.{CountsUnspent};
 
     /// The shard with this header whose journal holds the Genesis of these hashes alone.
     pub fn new(alloc: Global, header: &Header, hashes: &[Hash]) -> Result<ShardCore, AllocError>
         ensures header { IfOk result (λ core. core.header ≡ header.now) }
-        ensures stands { IfOk result (λ core. Stands core (Record.Genesis header.now hashes.now ∷ [])) }
+        ensures stands { IfOk result (λ core. ShardStands core (Record.Genesis header.now hashes.now ∷ [])) }
     {
         let lanes = header.shape.lane_count();
         let slots = Slots::new(alloc, lanes)?;
@@ -265,8 +265,8 @@ impl ShardCore {
         requires lane { call.now.batch.lane < self.old.header.shape.coordinators * self.old.header.shape.lanes }
         requires cause { call.now.cause < 2 ^ 63 }
         ensures same { IsSameState self.old self.new }
-        ensures ready { IfOk result (IsReadyFor self.new call.now.batch call.now.part) }
-        ensures plan { IfOk result (λ p. (J : Items Record) → Stands self.old J → lock_plan p ≡ next_lock J call.now.batch call.now.part call.now.cause) }
+        ensures ready { IfOk result (IsPlanReady self.new call.now.batch call.now.part) }
+        ensures plan { IfOk result (λ p. (J : Items Record) → ShardStands self.old J → core_lock_plan p ≡ next_lock J call.now.batch call.now.part call.now.cause) }
     {
         let slot = self.slots.slot(call.batch.lane);
         match judge_lock(slot, call) {
@@ -298,7 +298,7 @@ impl ShardCore {
     fn make_room(&mut self, part: Part, replies: List<Reply>) -> Result<(), AllocError>
         requires { length replies ≡ length part }
         ensures same { IsSameState self.old self.new }
-        ensures ready { OnOk result (IsReady self.new part replies) }
+        ensures ready { OnOk result (IsLockReady self.new part replies) }
     {
         let count = hash_count(part.as_slice());
         let decisions = Vec::with_capacity(self.alloc, part.len())?;
@@ -317,7 +317,7 @@ impl ShardCore {
     pub fn plan_finish(&self, call: &FinishCall) -> StampPlan
         requires lane { call.now.batch.lane < self.now.header.shape.coordinators * self.now.header.shape.lanes }
         requires cause { call.now.cause < 2 ^ 63 }
-        ensures plan { (J : Items Record) → Stands self.now J → stamp_plan result ≡ next_finish J call.now.batch call.now.decisions call.now.cause }
+        ensures plan { (J : Items Record) → ShardStands self.now J → core_plan result ≡ next_finish J call.now.batch call.now.decisions call.now.cause }
         ensures ready { IsFinishPlan result self.now call.now.batch call.now.decisions }
     {
         let next = self.next_stamp(call.cause);
@@ -328,7 +328,7 @@ impl ShardCore {
     pub fn plan_forget(&self, call: &ForgetCall) -> StampPlan
         requires lane { call.now.batch.lane < self.now.header.shape.coordinators * self.now.header.shape.lanes }
         requires cause { call.now.cause < 2 ^ 63 }
-        ensures plan { (J : Items Record) → Stands self.now J → stamp_plan result ≡ next_forget J call.now.batch call.now.cause }
+        ensures plan { (J : Items Record) → ShardStands self.now J → core_plan result ≡ next_forget J call.now.batch call.now.cause }
         ensures ready { IsForgetPlan result self.now call.now.batch }
     {
         let next = self.next_stamp(call.cause);
@@ -342,8 +342,8 @@ impl ShardCore {
     /// where the record is in the grammar and follows the journal, a Lock with the replies that the shard gives.
     pub fn admit(&mut self, r: &Record) -> Result<bool, AllocError>
         ensures same { IsSameState self.old self.new }
-        ensures admitted { IfOk result (λ yes. OnTrue yes (IsAdmitted self.new r.now)) }
-        ensures next { IfOk result (λ yes. (J : Items Record) → StandsFor self.old J → (IsTrue yes ↔ After self.old.header J r.now)) }
+        ensures admitted { IfOk result (λ yes. OnTrue yes (ShardAdmits self.new r.now)) }
+        ensures next { IfOk result (λ yes. (J : Items Record) → IsShardCoreOf self.old J → (IsTrue yes ↔ After self.old.header J r.now)) }
     {
         if !is_in_grammar(&self.header, r) {
             return Ok(false);
@@ -355,8 +355,8 @@ impl ShardCore {
     pub(crate) fn admit_known(&mut self, r: &Record) -> Result<bool, AllocError>
         requires { IsInGrammar self.old.header r.now }
         ensures same { IsSameState self.old self.new }
-        ensures admitted { IfOk result (λ yes. OnTrue yes (IsAdmitted self.new r.now)) }
-        ensures next { IfOk result (λ yes. (J : Items Record) → StandsFor self.old J → (IsTrue yes ↔ After self.old.header J r.now)) }
+        ensures admitted { IfOk result (λ yes. OnTrue yes (ShardAdmits self.new r.now)) }
+        ensures next { IfOk result (λ yes. (J : Items Record) → IsShardCoreOf self.old J → (IsTrue yes ↔ After self.old.header J r.now)) }
     {
         match r {
             Record::Lock {
@@ -380,10 +380,10 @@ impl ShardCore {
         batch: &BatchId,
         answered: &[Answered],
     ) -> Result<bool, AllocError>
-        requires { IsOfLane self.old batch.now stamp }
+        requires { IsOfShardLane self.old batch.now stamp }
         ensures same { IsSameState self.old self.new }
         ensures admitted { IfOk result (λ yes. OnTrue yes (IsLockAdmitted self.new (Record.Lock stamp batch.now answered.now))) }
-        ensures next { IfOk result (λ yes. (J : Items Record) → Stands self.old J
+        ensures next { IfOk result (λ yes. (J : Items Record) → ShardStands self.old J
             → (IsTrue yes ↔ Follows self.old.header J (Record.Lock stamp batch.now answered.now))) }
     {
         if !self.is_open_to(stamp, batch) {
@@ -407,58 +407,58 @@ impl ShardCore {
 
     // Whether the lane is free for a Lock of the batch with this stamp.
     fn is_open_to(&self, stamp: Stamp, batch: &BatchId) -> bool
-        requires { IsOfLane self.now batch.now stamp }
-        ensures free { OnTrue result (IsFree self.now batch.now.lane) }
-        ensures lane { (J : Items Record) → Stands self.now J → (IsTrue result ↔ IsOpenTo J batch.now stamp) }
+        requires { IsOfShardLane self.now batch.now stamp }
+        ensures free { OnTrue result (IsLaneFree self.now batch.now.lane) }
+        ensures lane { (J : Items Record) → ShardStands self.now J → (IsTrue result ↔ IsOpenTo J batch.now stamp) }
     {
         if stamp.0 <= self.last_stamp().0 {
             return false;
         }
         match self.slots.slot(batch.lane) {
-            Slot::Idle(number, _) => *number < batch.number,
-            Slot::Locked(_, _, _, _) => false,
-            Slot::Finished(_, _, _, _, _, _) => false,
+            LaneSlot::Idle(number, _) => *number < batch.number,
+            LaneSlot::Locked(_, _, _, _) => false,
+            LaneSlot::Finished(_, _, _, _, _, _) => false,
         }
     }
 
     fn is_next_finish(&self, stamp: Stamp, batch: &BatchId, decisions: &[bool]) -> bool
-        requires { IsOfLane self.now batch.now stamp }
+        requires { IsOfShardLane self.now batch.now stamp }
         ensures locked { OnTrue result (IsFinishable self.now batch.now decisions.now) }
-        ensures next { (J : Items Record) → Stands self.now J
+        ensures next { (J : Items Record) → ShardStands self.now J
             → (IsTrue result ↔ Follows self.now.header J (Record.Finish stamp batch.now decisions.now)) }
     {
         if stamp.0 <= self.last_stamp().0 {
             return false;
         }
         match self.slots.slot(batch.lane) {
-            Slot::Idle(_, _) => false,
-            Slot::Locked(number, _, replies, _) => {
+            LaneSlot::Idle(_, _) => false,
+            LaneSlot::Locked(number, _, replies, _) => {
                 *number == batch.number && misfit(replies.as_slice(), decisions).is_none()
             }
-            Slot::Finished(_, _, _, _, _, _) => false,
+            LaneSlot::Finished(_, _, _, _, _, _) => false,
         }
     }
 
     fn is_next_forget(&self, stamp: Stamp, batch: &BatchId) -> bool
-        requires { IsOfLane self.now batch.now stamp }
-        ensures done { OnTrue result (IsDone self.now batch.now.lane) }
-        ensures next { (J : Items Record) → Stands self.now J
+        requires { IsOfShardLane self.now batch.now stamp }
+        ensures done { OnTrue result (IsLanePast self.now batch.now.lane) }
+        ensures next { (J : Items Record) → ShardStands self.now J
             → (IsTrue result ↔ Follows self.now.header J (Record.Forget stamp batch.now)) }
     {
         if stamp.0 <= self.last_stamp().0 {
             return false;
         }
         match self.slots.slot(batch.lane) {
-            Slot::Idle(_, _) => false,
-            Slot::Locked(_, _, _, _) => false,
-            Slot::Finished(number, _, _, _, _, _) => *number == batch.number,
+            LaneSlot::Idle(_, _) => false,
+            LaneSlot::Locked(_, _, _, _) => false,
+            LaneSlot::Finished(number, _, _, _, _, _) => *number == batch.number,
         }
     }
 
     /// Takes in a Lock that was appended. Takes no memory.
     pub fn apply_lock(&mut self, r: &Record)
         requires { IsLockAdmitted self.old r.now }
-        ensures stands { (J : Items Record) → Stands self.old J → Stands self.new (r.now ∷ J) }
+        ensures stands { (J : Items Record) → ShardStands self.old J → ShardStands self.new (r.now ∷ J) }
         ensures header { self.new.header ≡ self.old.header }
     {
         let Record::Lock {
@@ -482,7 +482,7 @@ impl ShardCore {
             entries.as_slice(),
             batch,
         );
-        let slot = Slot::Locked(batch.number, part, replies, *stamp);
+        let slot = LaneSlot::Locked(batch.number, part, replies, *stamp);
         self.slots.put(batch.lane, slot);
         swap_memory(&mut self.decisions, batch.lane, decisions);
         self.owed += count;
@@ -492,7 +492,7 @@ impl ShardCore {
     /// Takes in a Finish that was appended. Takes no memory.
     pub fn apply_finish(&mut self, r: &Record)
         requires { IsFinishAdmitted self.old r.now }
-        ensures stands { (J : Items Record) → Stands self.old J → Stands self.new (r.now ∷ J) }
+        ensures stands { (J : Items Record) → ShardStands self.old J → ShardStands self.new (r.now ∷ J) }
         ensures header { self.new.header ≡ self.old.header }
     {
         let Record::Finish {
@@ -503,7 +503,7 @@ impl ShardCore {
         else {
             unreachable!();
         };
-        let Slot::Locked(number, part, replies, at) = self.slots.take(batch.lane) else {
+        let LaneSlot::Locked(number, part, replies, at) = self.slots.take(batch.lane) else {
             unreachable!();
         };
         let ds = decisions.as_slice();
@@ -515,7 +515,7 @@ impl ShardCore {
         self.owed -= hash_count(part.as_slice());
         let memory = swap_memory(&mut self.decisions, batch.lane, Vec::new(self.alloc));
         let kept = decided(memory, ds);
-        let slot = Slot::Finished(number, part, replies, kept, at, *stamp);
+        let slot = LaneSlot::Finished(number, part, replies, kept, at, *stamp);
         self.slots.put(batch.lane, slot);
         self.last = *stamp;
     }
@@ -523,14 +523,14 @@ impl ShardCore {
     /// Takes in a Forget that was appended. Takes no memory.
     pub fn apply_forget(&mut self, r: &Record)
         requires { IsForgetAdmitted self.old r.now }
-        ensures stands { (J : Items Record) → Stands self.old J → Stands self.new (r.now ∷ J) }
+        ensures stands { (J : Items Record) → ShardStands self.old J → ShardStands self.new (r.now ∷ J) }
         ensures header { self.new.header ≡ self.old.header }
     {
         let Record::Forget { stamp, batch } = r else {
             unreachable!();
         };
         let forgotten = self.slots.take(batch.lane);
-        self.slots.put(batch.lane, Slot::Idle(batch.number, *stamp));
+        self.slots.put(batch.lane, LaneSlot::Idle(batch.number, *stamp));
         self.last = *stamp;
         keep(
             &mut self.spare,
@@ -541,14 +541,14 @@ impl ShardCore {
 
     /// What the shard knows of a hash. Takes no memory.
     pub fn check_unspent(&self, x: &Hash) -> Status
-        ensures { (J : Items Record) → Stands self.now J → result ≡ status J x.now }
+        ensures { (J : Items Record) → ShardStands self.now J → result ≡ status J x.now }
     {
         status_of(&self.unspent, &self.locks, x)
     }
 
     /// How many hashes are unspent. Takes no memory.
     pub fn unspent_len(&self) -> u64
-        ensures { (J : Items Record) → Stands self.now J → Counts J result }
+        ensures { (J : Items Record) → ShardStands self.now J → CountsUnspent J result }
     {
         self.unspent.len()
     }
@@ -556,7 +556,7 @@ impl ShardCore {
     /// What is remembered of a transaction: of the batches that are locked or finished here and have this id, that of
     /// the least lane decides. Takes no memory.
     pub fn check_tx(&self, id: &Hash) -> Option<Remembered>
-        ensures { (J : Items Record) → Stands self.now J → told result ≡ fate self.now.header.shape J id.now }
+        ensures { (J : Items Record) → ShardStands self.now J → told_fate result ≡ fate self.now.header.shape J id.now }
     {
         for lane in 0..self.header.shape.lane_count() {
             let found = remembered_in(self.slots.slot(LaneId(lane)), id);
@@ -570,7 +570,7 @@ impl ShardCore {
     /// The bytes that are kept free in the journal for the later records of unfinished batches, or the greatest number
     /// where they are more. Takes no memory.
     pub fn kept_room(&self) -> u64
-        ensures { (J : Items Record) → Stands self.now J → result ≡ min (room_kept self.now.header.shape J) (2 ^ 64 - 1) }
+        ensures { (J : Items Record) → ShardStands self.now J → result ≡ min (room_kept self.now.header.shape J) (2 ^ 64 - 1) }
     {
         let mut room = 0u64;
         for lane in 0..self.header.shape.lane_count() {

@@ -6,11 +6,11 @@ ghost use Rattle.cbdc_model.specs.Records.{lock_of};
 ghost use Rattle.cbdc_model.specs.Next.{is_idle};
 ghost use Rattle.cbdc_model.specs.Slots.{Phase, slot as slot_of};
 ghost use Rattle.cbdc_model.specs.Replies.{entries};
-ghost use Rattle.shard_core.specs.Slots.{SlotStands, number_in, batch_in};
-ghost use Rattle.shard_core.specs.Judged.{IsJudged, IsNextLock, IsNextFinish, IsNextForget, Remembers, RemembersAgain, kept_at};
-ghost use Rattle.shard_core.specs.Plans.{stamp_plan, replies_at};
+ghost use Rattle.shard_core.specs.Slots.{SlotStands, slot_number, batch_numbered};
+ghost use Rattle.shard_core.specs.Judged.{IsLockJudged, FitsLock, FitsFinish, FitsForget, SlotRemembers, RemembersAgain, kept_at};
+ghost use Rattle.shard_core.specs.Plans.{core_plan, core_replies};
 
-use crate::Slot;
+use crate::LaneSlot;
 use crate::comparing::{misfit, other_decisions, other_part};
 use crate::plans::StampPlan;
 use cbdc_types::{
@@ -26,20 +26,20 @@ pub enum LockAnswer {
 }
 
 // A slot's number.
-pub fn number_of(slot: &Slot) -> u64
-    ensures { result ≡ number_in slot.now }
+pub fn number_of(slot: &LaneSlot) -> u64
+    ensures { result ≡ slot_number slot.now }
 {
     match slot {
-        Slot::Idle(number, _) => *number,
-        Slot::Locked(number, _, _, _) => *number,
-        Slot::Finished(number, _, _, _, _, _) => *number,
+        LaneSlot::Idle(number, _) => *number,
+        LaneSlot::Locked(number, _, _, _) => *number,
+        LaneSlot::Finished(number, _, _, _, _, _) => *number,
     }
 }
 
 // What a Lock is answered where no batch of the lane is remembered.
 fn lock_idle(number: u64, stamp: Stamp, call: &LockCall) -> LockAnswer
-    ensures again { RemembersAgain result (Slot.Idle number stamp) call.now.batch.number }
-    ensures judged { (J : Items Record) → SlotStands (Slot.Idle number stamp) J call.now.batch.lane → IsJudged result J call.now.batch call.now.part call.now.cause }
+    ensures again { RemembersAgain result (LaneSlot.Idle number stamp) call.now.batch.number }
+    ensures judged { (J : Items Record) → SlotStands (LaneSlot.Idle number stamp) J call.now.batch.lane → IsLockJudged result J call.now.batch call.now.part call.now.cause }
 {
     let given = call.batch.number;
     if given <= number {
@@ -55,7 +55,7 @@ fn lock_idle(number: u64, stamp: Stamp, call: &LockCall) -> LockAnswer
 fn lock_open(number: u64, part: &[Entry], call: &LockCall) -> LockAnswer
     ensures not_next { result ≢ LockAnswer.Next }
     ensures judged { (J : Items Record) (p : Phase) → slot_of J call.now.batch.lane ≡ record { number = number; phase = p } → is_idle p ≡ false
-        → entries (lock_of J (batch_in call.now.batch.lane number)) ≡ part.now → IsJudged result J call.now.batch call.now.part call.now.cause }
+        → entries (lock_of J (batch_numbered call.now.batch.lane number)) ≡ part.now → IsLockJudged result J call.now.batch call.now.part call.now.cause }
     ensures again { result ≡ LockAnswer.Again → call.now.batch.number ≡ number }
 {
     let given = call.batch.number;
@@ -72,34 +72,34 @@ fn lock_open(number: u64, part: &[Entry], call: &LockCall) -> LockAnswer
 }
 
 // What a Lock of the lane of this slot is answered.
-pub fn judge_lock(slot: &Slot, call: &LockCall) -> LockAnswer
-    ensures next { IsNextLock result slot.now }
+pub fn judge_lock(slot: &LaneSlot, call: &LockCall) -> LockAnswer
+    ensures next { FitsLock result slot.now }
     ensures again { RemembersAgain result slot.now call.now.batch.number }
-    ensures judged { (J : Items Record) → SlotStands slot.now J call.now.batch.lane → IsJudged result J call.now.batch call.now.part call.now.cause }
+    ensures judged { (J : Items Record) → SlotStands slot.now J call.now.batch.lane → IsLockJudged result J call.now.batch call.now.part call.now.cause }
 {
     match slot {
-        Slot::Idle(number, stamp) => lock_idle(*number, *stamp, call),
-        Slot::Locked(number, part, _, _) => lock_open(*number, part.as_slice(), call),
-        Slot::Finished(number, part, _, _, _, _) => lock_open(*number, part.as_slice(), call),
+        LaneSlot::Idle(number, stamp) => lock_idle(*number, *stamp, call),
+        LaneSlot::Locked(number, part, _, _) => lock_open(*number, part.as_slice(), call),
+        LaneSlot::Finished(number, part, _, _, _, _) => lock_open(*number, part.as_slice(), call),
     }
 }
 
 // The replies that a slot keeps, and the stamp of its Lock.
-pub fn kept_replies(alloc: Global, slot: &Slot) -> Result<Replied, AllocError>
-    ensures { IfOk result (λ r. (J : Items Record) (b : Batch) → SlotStands slot.now J b.lane → Remembers slot.now b.number → replies_at r ≡ kept_at J b) }
+pub fn kept_replies(alloc: Global, slot: &LaneSlot) -> Result<Replied, AllocError>
+    ensures { IfOk result (λ r. (J : Items Record) (b : Batch) → SlotStands slot.now J b.lane → SlotRemembers slot.now b.number → core_replies r ≡ kept_at J b) }
 {
     match slot {
-        Slot::Idle(_, stamp) => Ok(Replied {
+        LaneSlot::Idle(_, stamp) => Ok(Replied {
             replies: List::new(alloc),
             stamp: *stamp,
         }),
-        Slot::Locked(_, _, replies, stamp) => replied(alloc, replies, *stamp),
-        Slot::Finished(_, _, replies, _, stamp, _) => replied(alloc, replies, *stamp),
+        LaneSlot::Locked(_, _, replies, stamp) => replied(alloc, replies, *stamp),
+        LaneSlot::Finished(_, _, replies, _, stamp, _) => replied(alloc, replies, *stamp),
     }
 }
 
 fn replied(alloc: Global, replies: &List<Reply>, stamp: Stamp) -> Result<Replied, AllocError>
-    ensures { IfOk result (λ r. replies_at r ≡ record { given = replies.now; at = stamp }) }
+    ensures { IfOk result (λ r. core_replies r ≡ record { given = replies.now; at = stamp }) }
 {
     Ok(Replied {
         replies: List::from_vec(Vec::from_slice(alloc, replies.as_slice())?),
@@ -110,9 +110,9 @@ fn replied(alloc: Global, replies: &List<Reply>, stamp: Stamp) -> Result<Replied
 // What a Finish is answered where no batch of the lane is remembered.
 #[tactic(auto, using(crate::proofs::Finishes::finishes))]
 fn finish_idle(number: u64, call: &FinishCall) -> StampPlan
-    ensures next { (t : ℕ) → IsNextFinish result (Slot.Idle number t) call.now.batch.number call.now.decisions }
-    ensures plan { (J : Items Record) (t : ℕ) → SlotStands (Slot.Idle number t) J call.now.batch.lane
-        → stamp_plan result ≡ next_finish J call.now.batch call.now.decisions call.now.cause }
+    ensures next { (t : ℕ) → FitsFinish result (LaneSlot.Idle number t) call.now.batch.number call.now.decisions }
+    ensures plan { (J : Items Record) (t : ℕ) → SlotStands (LaneSlot.Idle number t) J call.now.batch.lane
+        → core_plan result ≡ next_finish J call.now.batch call.now.decisions call.now.cause }
 {
     if call.batch.number <= number {
         StampPlan::Refused(Refused::Stale { kept: number })
@@ -130,10 +130,10 @@ fn finish_locked(
     call: &FinishCall,
     next: Stamp,
 ) -> StampPlan
-    ensures next { (part : Items Entry) → IsNextFinish result (Slot.Locked number part replies.now stamp) call.now.batch.number call.now.decisions }
-    ensures plan { (J : Items Record) (part : Items Entry) → SlotStands (Slot.Locked number part replies.now stamp) J call.now.batch.lane
+    ensures next { (part : Items Entry) → FitsFinish result (LaneSlot.Locked number part replies.now stamp) call.now.batch.number call.now.decisions }
+    ensures plan { (J : Items Record) (part : Items Entry) → SlotStands (LaneSlot.Locked number part replies.now stamp) J call.now.batch.lane
         → next ≡ next_stamp J call.now.cause
-        → stamp_plan result ≡ next_finish J call.now.batch call.now.decisions call.now.cause }
+        → core_plan result ≡ next_finish J call.now.batch call.now.decisions call.now.cause }
 {
     let given = call.batch.number;
     if given < number {
@@ -154,9 +154,9 @@ fn finish_locked(
 // What a Finish is answered where the lane's last batch is finished with these decisions, under this stamp.
 #[tactic(auto, using(crate::proofs::Finishes::finishes))]
 fn finish_again(number: u64, decisions: &[bool], stamp: Stamp, call: &FinishCall) -> StampPlan
-    ensures next { (part : Items Entry) (rs : Items Reply) (t : ℕ) → IsNextFinish result (Slot.Finished number part rs decisions.now t stamp) call.now.batch.number call.now.decisions }
-    ensures plan { (J : Items Record) (part : Items Entry) (rs : Items Reply) (t : ℕ) → SlotStands (Slot.Finished number part rs decisions.now t stamp) J call.now.batch.lane
-        → stamp_plan result ≡ next_finish J call.now.batch call.now.decisions call.now.cause }
+    ensures next { (part : Items Entry) (rs : Items Reply) (t : ℕ) → FitsFinish result (LaneSlot.Finished number part rs decisions.now t stamp) call.now.batch.number call.now.decisions }
+    ensures plan { (J : Items Record) (part : Items Entry) (rs : Items Reply) (t : ℕ) → SlotStands (LaneSlot.Finished number part rs decisions.now t stamp) J call.now.batch.lane
+        → core_plan result ≡ next_finish J call.now.batch call.now.decisions call.now.cause }
 {
     let given = call.batch.number;
     if given < number {
@@ -172,17 +172,17 @@ fn finish_again(number: u64, decisions: &[bool], stamp: Stamp, call: &FinishCall
 }
 
 // What a Finish of the lane of this slot is answered, where `next` is the stamp of a new record.
-pub fn judge_finish(slot: &Slot, call: &FinishCall, next: Stamp) -> StampPlan
-    ensures next { IsNextFinish result slot.now call.now.batch.number call.now.decisions }
+pub fn judge_finish(slot: &LaneSlot, call: &FinishCall, next: Stamp) -> StampPlan
+    ensures next { FitsFinish result slot.now call.now.batch.number call.now.decisions }
     ensures plan { (J : Items Record) → SlotStands slot.now J call.now.batch.lane → next ≡ next_stamp J call.now.cause
-        → stamp_plan result ≡ next_finish J call.now.batch call.now.decisions call.now.cause }
+        → core_plan result ≡ next_finish J call.now.batch call.now.decisions call.now.cause }
 {
     match slot {
-        Slot::Idle(number, _) => finish_idle(*number, call),
-        Slot::Locked(number, _, replies, stamp) => {
+        LaneSlot::Idle(number, _) => finish_idle(*number, call),
+        LaneSlot::Locked(number, _, replies, stamp) => {
             finish_locked(*number, replies.as_slice(), *stamp, call, next)
         }
-        Slot::Finished(number, _, _, decisions, _, stamp) => {
+        LaneSlot::Finished(number, _, _, decisions, _, stamp) => {
             finish_again(*number, decisions.as_slice(), *stamp, call)
         }
     }
@@ -208,10 +208,10 @@ fn late_enough(stamp: Stamp, cause: Stamp, next: Stamp) -> StampPlan
 
 // What a Forget of the lane of this slot is answered.
 #[tactic(auto, using(crate::proofs::Forgets::forgets))]
-pub fn judge_forget(slot: &Slot, call: &ForgetCall, next: Stamp) -> StampPlan
-    ensures next { IsNextForget result slot.now }
+pub fn judge_forget(slot: &LaneSlot, call: &ForgetCall, next: Stamp) -> StampPlan
+    ensures next { FitsForget result slot.now }
     ensures plan { (J : Items Record) → SlotStands slot.now J call.now.batch.lane → next ≡ next_stamp J call.now.cause
-        → stamp_plan result ≡ next_forget J call.now.batch call.now.cause }
+        → core_plan result ≡ next_forget J call.now.batch call.now.cause }
 {
     let given = call.batch.number;
     let number = number_of(slot);
@@ -222,8 +222,8 @@ pub fn judge_forget(slot: &Slot, call: &ForgetCall, next: Stamp) -> StampPlan
         return StampPlan::Refused(Refused::NotLocked { kept: number });
     }
     match slot {
-        Slot::Idle(_, stamp) => StampPlan::Kept(*stamp),
-        Slot::Locked(_, _, _, _) => StampPlan::Refused(Refused::NotFinished { kept: number }),
-        Slot::Finished(_, _, _, _, _, stamp) => late_enough(*stamp, call.cause, next),
+        LaneSlot::Idle(_, stamp) => StampPlan::Kept(*stamp),
+        LaneSlot::Locked(_, _, _, _) => StampPlan::Refused(Refused::NotFinished { kept: number }),
+        LaneSlot::Finished(_, _, _, _, _, stamp) => late_enough(*stamp, call.cause, next),
     }
 }

@@ -9,16 +9,16 @@ use std::alloc::{AllocError, Global};
 
 impl Core for ShardCore {
     ghost use Rattle.record_grammar.specs.Kinds.{IsShardHeader, IsStart};
-    ghost use Rattle.shard_core.specs.Admitted.{IsAdmitted};
-    ghost use Rattle.shard_core.specs.Stands.{Stands};
+    ghost use Rattle.shard_core.specs.Admitted.{ShardAdmits};
+    ghost use Rattle.shard_core.specs.Stands.{ShardStands};
 
     ghost header = { λ core. core.header };
 
-    ghost stands = { Stands };
+    ghost stands = { ShardStands };
 
-    ghost admits = { IsAdmitted };
+    ghost admits = { ShardAdmits };
 
-    ghost takes = { λ old new next. (J : List AnyRecord) → Stands old J → Stands new (next ∷ J) };
+    ghost takes = { λ old new next. (J : List AnyRecord) → ShardStands old J → ShardStands new (next ∷ J) };
 
     ghost kind = { IsShardHeader };
 

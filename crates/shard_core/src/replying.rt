@@ -3,7 +3,7 @@ ghost use Rattle.std.specs.Prelude.{◌≡◌, List as Items, [], length, IfOk};
 ghost use Rattle.cbdc_model.specs.Records.{Digest, Record};
 ghost use Rattle.cbdc_model.specs.Status.{has, status};
 ghost use Rattle.cbdc_model.specs.Replies.{refusal, reply_to as the_reply, answered, replies as replies_in};
-ghost use Rattle.shard_core.specs.Agrees.{Agrees};
+ghost use Rattle.shard_core.specs.Agrees.{HashesAgree};
 
 use crate::applying::hash_count;
 use crate::claiming::Claims;
@@ -14,7 +14,7 @@ use std::alloc::{AllocError, Global};
 
 /// What the table and the locks say of a hash.
 pub fn status_of(unspent: &Table, locks: &Locks, x: &Hash) -> Status
-    ensures { (J : Items Record) → Agrees unspent.now.hashes locks.now.held J → result ≡ status J x.now }
+    ensures { (J : Items Record) → HashesAgree unspent.now.hashes locks.now.held J → result ≡ status J x.now }
 {
     if unspent.contains(x) {
         return Status::Unspent;
@@ -50,7 +50,7 @@ fn reply_to(
     inputs: &[Hash],
     batch: &BatchId,
 ) -> Reply
-    ensures { (J : Items Record) (before : Items Digest) → Agrees unspent.now.hashes locks.now.held J → ((y : Digest) → has claimed.now y ≡ has before y)
+    ensures { (J : Items Record) (before : Items Digest) → HashesAgree unspent.now.hashes locks.now.held J → ((y : Digest) → has claimed.now y ≡ has before y)
         → result ≡ the_reply J batch.now before inputs.now }
 {
     for x in inputs {
@@ -71,7 +71,7 @@ pub fn replies_to(
     batch: &BatchId,
 ) -> Result<Vec<Reply>, AllocError>
     ensures len { IfOk result (λ v. length v.items ≡ length entries.now) }
-    ensures replies { IfOk result (λ v. (J : Items Record) → Agrees unspent.now.hashes locks.now.held J → v.items ≡ replies_in (answered J batch.now [] entries.now)) }
+    ensures replies { IfOk result (λ v. (J : Items Record) → HashesAgree unspent.now.hashes locks.now.held J → v.items ≡ replies_in (answered J batch.now [] entries.now)) }
 {
     let mut claimed = Claims::of_part(alloc, hash_count(entries))?;
     let mut replies = Vec::with_capacity(alloc, entries.len())?;

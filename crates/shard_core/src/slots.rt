@@ -1,6 +1,6 @@
 // The slots: one for each lane.
 ghost use Rattle.std.specs.Prelude.{◌≡◌, ◌↔◌, [], IsTrue, ◌+◌, ◌≤◌, ◌<◌, length, IfOk, OnOk, slice_index_or, slice_get, slice_set, replicate, Some};
-ghost use Rattle.shard_core.specs.declared.slots.Slot.TheVariants.{Idle};
+ghost use Rattle.shard_core.specs.declared.slots.LaneSlot.TheVariants.{Idle};
 
 use cbdc_types::{Decisions, LaneId, List, Part, Reply, Stamp};
 use std::alloc::{AllocError, Global};
@@ -9,7 +9,7 @@ use std::mem;
 
 /// What a shard remembers of a lane. The number is that of its last batch, 0 before the first.
 #[derive(Debug, PartialEq, Eq, Drop)]
-pub enum Slot {
+pub enum LaneSlot {
     /// No batch is remembered. The stamp is that of the lane's last record here.
     Idle(u64, Stamp),
     /// The part was locked with these replies, under this stamp.
@@ -21,14 +21,14 @@ pub enum Slot {
 /// A slot for each lane.
 #[derive(Drop)]
 pub struct Slots {
-    slots: Vec<Slot>,
+    slots: Vec<LaneSlot>,
 }
 
 impl Model for Slots {
     ghost use Rattle.std.specs.Prelude.{List};
-    ghost use Rattle.shard_core.specs.declared.slots.Slot.{Slot};
+    ghost use Rattle.shard_core.specs.declared.slots.LaneSlot.{LaneSlot};
 
-    ghost Value = { List Slot };
+    ghost Value = { List LaneSlot };
 
     ghost view = { λ s. s.slots.items };
 }
@@ -40,7 +40,7 @@ impl Slots {
     {
         let mut slots = Vec::with_capacity(alloc, lanes as usize)?;
         for _ in 0..lanes {
-            slots.push(Slot::Idle(0, Stamp(0)))?;
+            slots.push(LaneSlot::Idle(0, Stamp(0)))?;
         }
         Ok(Slots { slots })
     }
@@ -60,7 +60,7 @@ impl Slots {
     }
 
     /// The slot of a lane. Takes no memory.
-    pub fn slot(&self, lane: LaneId) -> &Slot
+    pub fn slot(&self, lane: LaneId) -> &LaneSlot
         requires { lane < length self.now }
         ensures { slice_get self.now lane ≡ Some result.now }
     {
@@ -68,7 +68,7 @@ impl Slots {
     }
 
     /// Puts a slot in the place of a lane's. Takes no memory.
-    pub fn put(&mut self, lane: LaneId, slot: Slot)
+    pub fn put(&mut self, lane: LaneId, slot: LaneSlot)
         requires { lane < length self.old }
         ensures { self.new ≡ slice_set self.old lane slot }
     {
@@ -76,11 +76,11 @@ impl Slots {
     }
 
     /// Takes out the slot of a lane, and leaves it Idle with the number 0. Takes no memory.
-    pub fn take(&mut self, lane: LaneId) -> Slot
+    pub fn take(&mut self, lane: LaneId) -> LaneSlot
         requires { lane < length self.old }
         ensures value { slice_get self.old lane ≡ Some result }
         ensures after { self.new ≡ slice_set self.old lane (Idle 0 0) }
     {
-        mem::replace(&mut self.slots[lane.0 as usize], Slot::Idle(0, Stamp(0)))
+        mem::replace(&mut self.slots[lane.0 as usize], LaneSlot::Idle(0, Stamp(0)))
     }
 }

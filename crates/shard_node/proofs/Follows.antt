@@ -21,7 +21,7 @@ use Rattle.cbdc_types.specs.declared.calls.ForgetCall.{ForgetCall}
 -- ---- Lock
 
 -- the lane is free for the batch
-pub record IsNextLock (J : List Record) (b : Batch) (part : List Entry) (cause : ℕ) (a : RepliesAt) : Type 0 where
+pub record LockFollows (J : List Record) (b : Batch) (part : List Entry) (cause : ℕ) (a : RepliesAt) : Type 0 where
   pub idle : (slot J b.lane).phase ≡ Idle
   pub number : (slot J b.lane).number < b.number
   pub is : a ≡ record { given = replies (answered J b [] part); at = next_stamp J cause }
@@ -57,7 +57,7 @@ behind m n idle p q =
       | false ↦ λ e. grind (arith, nat_tests)
     ] refl
 
-pub lock_appends : (J : List Record) (b : Batch) (part : List Entry) (cause : ℕ) (a : RepliesAt) → next_lock J b part cause ≡ Append a → IsNextLock J b part cause a
+pub lock_appends : (J : List Record) (b : Batch) (part : List Entry) (cause : ℕ) (a : RepliesAt) → next_lock J b part cause ≡ Append a → LockFollows J b part cause a
 lock_appends J b part cause a e =
     let parts = fourth _ _ _ _ _ _ _ _ _ a (again_is_none _ J b a) e in
     record { idle = idle_phase (slot J b.lane).phase parts.2; number = behind b.number (slot J b.lane).number (is_idle (slot J b.lane).phase) parts.0 parts.1; is = parts.3 }
@@ -150,7 +150,7 @@ lock_after h J c journal shard call idle number early =
 
 -- ---- Finish
 
-pub record IsNextFinish (J : List Record) (b : Batch) (ds : List Bool) (cause t : ℕ) : Type 0 where
+pub record FinishFollows (J : List Record) (b : Batch) (ds : List Bool) (cause t : ℕ) : Type 0 where
   pub locked : (slot J b.lane).phase ≡ InLock
   pub number : (slot J b.lane).number ≡ b.number
   pub fits : FitsReplies (lock_of J b) ds
@@ -188,7 +188,7 @@ same_number m n idle p q =
       | false ↦ λ e. grind (arith, nat_tests)
     ] refl
 
-pub finish_appends : (J : List Record) (b : Batch) (ds : List Bool) (cause t : ℕ) → next_finish J b ds cause ≡ Append t → IsNextFinish J b ds cause t
+pub finish_appends : (J : List Record) (b : Batch) (ds : List Bool) (cause t : ℕ) → next_finish J b ds cause ≡ Append t → FinishFollows J b ds cause t
 finish_appends J b ds cause t e =
     let parts = third _ _ _ _ _ t e in
     let phase = in_phase (slot J b.lane).phase J b ds cause t parts.2 in
@@ -205,12 +205,12 @@ fits_length [] (d ∷ ds) fits = absurd fits
 fits_length (a ∷ es) [] fits = absurd fits
 fits_length (a ∷ es) (d ∷ ds) fits = ap (λ n. suc n) (fits_length es ds fits.1)
 
-pub finish_after : (h : Header) (J : List Record) (c : FinishCall) (t : ℕ) → IsShard h.shape h.node → IsFinishCall h c → IsNextFinish J c.batch c.decisions c.cause t → t ≤ 2 ^ 62 + 2 ^ 20 → After h J (Finish t c.batch c.decisions)
+pub finish_after : (h : Header) (J : List Record) (c : FinishCall) (t : ℕ) → IsShard h.shape h.node → IsFinishCall h c → FinishFollows J c.batch c.decisions c.cause t → t ≤ 2 ^ 62 + 2 ^ 20 → After h J (Finish t c.batch c.decisions)
 finish_after h J c t shard call next late = ((((omega (arith, next.is)), late), call.batch, shard, call.size), (omega (arith, next.is), next.locked, next.number, next.fits))
 
 -- ---- Forget
 
-pub record IsNextForget (J : List Record) (b : Batch) (cause t : ℕ) : Type 0 where
+pub record ForgetFollows (J : List Record) (b : Batch) (cause t : ℕ) : Type 0 where
   pub finished : (slot J b.lane).phase ≡ InFinish
   pub number : (slot J b.lane).number ≡ b.number
   pub is : t ≡ next_stamp J cause
@@ -230,11 +230,11 @@ forget_phase InDiscard J b cause t e = cc
 neither : (m n : ℕ) → nat_lt m n ≡ false → nat_lt n m ≡ false → n ≡ m
 neither m n p q = grind (arith, nat_tests)
 
-pub forget_appends : (J : List Record) (b : Batch) (cause t : ℕ) → next_forget J b cause ≡ Append t → IsNextForget J b cause t
+pub forget_appends : (J : List Record) (b : Batch) (cause t : ℕ) → next_forget J b cause ≡ Append t → ForgetFollows J b cause t
 forget_appends J b cause t e =
     let parts = third _ _ _ _ _ t e in
     let phase = forget_phase (slot J b.lane).phase J b cause t parts.2 in
     record { finished = phase.0; number = neither b.number (slot J b.lane).number parts.0 parts.1; is = phase.1 }
 
-pub forget_after : (h : Header) (J : List Record) (c : ForgetCall) (t : ℕ) → IsShard h.shape h.node → IsForgetCall h c → IsNextForget J c.batch c.cause t → t ≤ 2 ^ 62 + 2 ^ 20 → After h J (Forget t c.batch)
+pub forget_after : (h : Header) (J : List Record) (c : ForgetCall) (t : ℕ) → IsShard h.shape h.node → IsForgetCall h c → ForgetFollows J c.batch c.cause t → t ≤ 2 ^ 62 + 2 ^ 20 → After h J (Forget t c.batch)
 forget_after h J c t shard call next late = ((((omega (arith, next.is)), late), call.batch, shard), (omega (arith, next.is), next.finished, next.number))

@@ -13,9 +13,9 @@ use Rattle.cbdc_model.specs.Sights.{IsBrokenSince}
 use Rattle.outside.specs.declared.disk.Disk.{Ghosts}
 use Rattle.gate_journal.specs.Shown.{disk_of}
 use Rattle.record_log.specs.declared.log.RecordLog.{RecordLog}
-use Rattle.record_log.specs.Logs.{HasRoom, IsUntouched}
+use Rattle.record_log.specs.Logs.{HasLogRoom, IsUntouched}
 use Rattle.shard_core.specs.declared.core_state.ShardCore.{ShardCore}
-use Rattle.shard_core.specs.Stands.{Stands}
+use Rattle.shard_core.specs.Stands.{ShardStands}
 use Rattle.node_journal.proofs.Journals.{in_grammar}
 use Rattle.node_journal.proofs.Kept.{lock_few, kept_small}
 use Rattle.shard_node.specs.Parts.{HaveDecisions, IsShardOf, IsShardOpened}
@@ -28,8 +28,8 @@ all_at P (y ∷ xs) (suc i) x is all = all_at P xs i x is (All-tail P y xs all)
 module _ {D : Type 0} {G : Ghosts D} where
   -- with memory for its unfinished batches
   pub opened_shard : (old new : RecordLog D G) (core : ShardCore) (memory : Vec (Vec Bool)) (count kept : ℕ) → IsShardOpened {D = D} {G = G} (record { log = old; core = core })
-      → ((K : List Record) → Stands core K → kept ≡ min (kept_room core.header.shape K) 18446744073709551615) → IsUntouched old new → new.records.items ≡ old.records.items → new.header ≡ old.header
-      → length memory.items ≡ old.header.shape.coordinators * old.header.shape.lanes → All (λ m. old.header.shape.batch ≤ vec_capacity m) memory.items → HasRoom new (kept / 34 + 1) 1057
+      → ((K : List Record) → ShardStands core K → kept ≡ min (kept_room core.header.shape K) 18446744073709551615) → IsUntouched old new → new.records.items ≡ old.records.items → new.header ≡ old.header
+      → length memory.items ≡ old.header.shape.coordinators * old.header.shape.lanes → All (λ m. old.header.shape.batch ≤ vec_capacity m) memory.items → HasLogRoom new (kept / 34 + 1) 1057
       → count ≤ G.count (disk_of new.journal) → IsShardOf {D = D} {G = G} (record { log = new; core = core; decisions = memory; flight = None; opened = count })
   opened_shard old new core memory count kept is counted untouched records header lanes room has since =
       let J : List Record = reverse old.records.items in
@@ -44,7 +44,7 @@ module _ {D : Type 0} {G : Ghosts D} where
       let free : used_of (reverse new.records.items) + kept_room new.header.shape (reverse new.records.items) ≤ G.limit (disk_of new.journal) = omega (arith, ap used_of same, kept_now, is.room, ap G.limit untouched.disk) in
       record {
         header = played.header ∙ sym header;
-        stands = subst (λ (l : List Record). Stands core l) (sym same) played.stands;
+        stands = subst (λ (l : List Record). ShardStands core l) (sym same) played.stands;
         journal = subst (λ (h : Header). IsJournal h (reverse new.records.items)) (sym header) (subst (λ (l : List Record). IsJournal old.header l) (sym same) played.journal);
         shard = subst (λ (h : Header). IsShard h.shape h.node) (sym header) played.kind;
         limits = subst (λ (h : Header). IsWithinLimits h.shape) (sym header) is.limits;

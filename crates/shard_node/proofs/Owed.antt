@@ -11,7 +11,7 @@ use Rattle.cbdc_model.specs.Records.{Shape, Record, Finish, Forget}
 use Rattle.cbdc_model.specs.Next.{Plan, RepliesAt, Kept, Append, Refuse, next_lock, next_finish, next_forget, next_stamp}
 use Rattle.cbdc_model.specs.Room.{need_of}
 use Rattle.cbdc_model.specs.Due.{Due, Answers, Writes, unless_broken, if_early, if_room, stamp_by, lock_by, lock_record, lock_due, finish_due, forget_due, used_of, last_early, last_late}
-use Rattle.shard_core.specs.Plans.{replies_at}
+use Rattle.shard_core.specs.Plans.{core_replies}
 
 not_past : (bound n : ℕ) → n ≤ bound → nat_lt bound n ≡ false
 not_past bound n le = grind (arith, nat_tests)
@@ -58,16 +58,16 @@ broken_answers o since due e = ap (λ (x : Option ℕ). unless_broken x due) e
 
 -- ---- Lock
 
-pub lock_kept : (K : Shape) (capacity : ℕ) (c : LockCall) (J : List Record) (o : Option ℕ) (r : Replied) → o ≡ None → Kept (replies_at r) ≡ next_lock J c.batch c.part c.cause → lock_due K capacity c o J ≡ Answers (Ok r)
+pub lock_kept : (K : Shape) (capacity : ℕ) (c : LockCall) (J : List Record) (o : Option ℕ) (r : Replied) → o ≡ None → Kept (core_replies r) ≡ next_lock J c.batch c.part c.cause → lock_due K capacity c o J ≡ Answers (Ok r)
 lock_kept K capacity c J o r none e = ap (λ (x : Option ℕ). lock_due K capacity c x J) none ∙ ap (λ (p : Plan RepliesAt). lock_by p K capacity J c) (sym e)
 
 pub lock_refused : (K : Shape) (capacity : ℕ) (c : LockCall) (J : List Record) (o : Option ℕ) (why : Refused) → o ≡ None → Refuse why ≡ next_lock J c.batch c.part c.cause → lock_due K capacity c o J ≡ Answers (Err (Refuses why))
 lock_refused K capacity c J o why none e = ap (λ (x : Option ℕ). lock_due K capacity c x J) none ∙ ap (λ (p : Plan RepliesAt). lock_by p K capacity J c) (sym e)
 
-pub lock_late : (K : Shape) (capacity : ℕ) (c : LockCall) (J : List Record) (r : Replied) → next_lock J c.batch c.part c.cause ≡ Append (replies_at r) → 2 ^ 62 < r.stamp → lock_due K capacity c None J ≡ Answers (Err (ClockEnd r.stamp))
+pub lock_late : (K : Shape) (capacity : ℕ) (c : LockCall) (J : List Record) (r : Replied) → next_lock J c.batch c.part c.cause ≡ Append (core_replies r) → 2 ^ 62 < r.stamp → lock_due K capacity c None J ≡ Answers (Err (ClockEnd r.stamp))
 lock_late K capacity c J r e lt = ap (λ (p : Plan RepliesAt). lock_by p K capacity J c) e ∙ late_is last_early r.stamp _ lt
 
-pub lock_full : (K : Shape) (capacity : ℕ) (c : LockCall) (J : List Record) (r : Replied) → next_lock J c.batch c.part c.cause ≡ Append (replies_at r) → r.stamp ≤ 2 ^ 62
+pub lock_full : (K : Shape) (capacity : ℕ) (c : LockCall) (J : List Record) (r : Replied) → next_lock J c.batch c.part c.cause ≡ Append (core_replies r) → r.stamp ≤ 2 ^ 62
     → capacity < used_of J + need_of K J (lock_record J c) → lock_due K capacity c None J ≡ Answers (Err (Full (used_of J) (need_of K J (lock_record J c)) capacity))
 lock_full K capacity c J r e le lt =
     let over : nat_lt capacity (used_of J + need_of K J (lock_record J c)) ≡ true = past capacity (used_of J + need_of K J (lock_record J c)) lt in
@@ -76,7 +76,7 @@ lock_full K capacity c J r e le lt =
     full : (used need : ℕ) (due : Due Replied) → nat_lt capacity (used + need) ≡ true → if_room used need capacity due ≡ Answers (Err (Full used need capacity))
     full used need due over = rw over refl
 
-pub lock_writes : (K : Shape) (capacity : ℕ) (c : LockCall) (J : List Record) (r : Replied) → next_lock J c.batch c.part c.cause ≡ Append (replies_at r) → r.stamp ≤ 2 ^ 62
+pub lock_writes : (K : Shape) (capacity : ℕ) (c : LockCall) (J : List Record) (r : Replied) → next_lock J c.batch c.part c.cause ≡ Append (core_replies r) → r.stamp ≤ 2 ^ 62
     → used_of J + need_of K J (lock_record J c) ≤ capacity → lock_due K capacity c None J ≡ Writes r (lock_record J c)
 lock_writes K capacity c J r e le room =
     let within : nat_lt capacity (used_of J + need_of K J (lock_record J c)) ≡ false = not_past capacity (used_of J + need_of K J (lock_record J c)) room in

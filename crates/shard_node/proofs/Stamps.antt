@@ -17,28 +17,28 @@ use Rattle.outside.specs.declared.disk.Disk.{Ghosts}
 use Rattle.gate_journal.specs.Shown.{disk_of, gate_of, broken_of}
 use Rattle.record_log.specs.Bodies.{body_of}
 use Rattle.record_log.specs.declared.log.RecordLog.{RecordLog}
-use Rattle.record_log.specs.Logs.{HasRoom}
+use Rattle.record_log.specs.Logs.{HasLogRoom}
 use Rattle.record_log.proofs.LogSizes.{size_is}
 use Rattle.shard_core.proofs.Applies.{Yes, No, same_nat}
 use Rattle.shard_node.specs.declared.parts.Parts.{Parts}
 use Rattle.cbdc_model.specs.Calls.{IsFinishCall, IsForgetCall}
 use Rattle.node_journal.specs.Nodes.{sight}
-use Rattle.shard_node.specs.Parts.{HasRecords, IsShardOf, HasWritten, HasFailed, journal_of, view_of}
+use Rattle.shard_node.specs.Parts.{HasRecords, IsShardOf, HasWritten, HasFailedAt, journal_of_parts, view_of}
 use Rattle.shard_node.proofs.Lanes.{IsLockedWith, same_room, same_lock, past_finish, past_forget, own_finish, own_forget, room_locked, room_finished, finished_room, forgotten_room}
 use Rattle.shard_node.proofs.Rooms.{kept_moves}
-use Rattle.shard_node.proofs.Follows.{IsNextFinish, IsNextForget, finish_appends, finish_after, fits_length, forget_appends, forget_after}
-use Rattle.shard_node.proofs.Keeps.{standing, wrote, failed, appends, fails}
+use Rattle.shard_node.proofs.Follows.{FinishFollows, ForgetFollows, finish_appends, finish_after, fits_length, forget_appends, forget_after}
+use Rattle.shard_node.proofs.Keeps.{parts_standing, written_is_shard, failed, parts_append, parts_fail}
 use Rattle.shard_node.proofs.Owed.{finish_writes, forget_writes}
 
 -- what a Finish and a Forget leave to be kept
-pub finish_keeps : (h : Header) (J : List Record) (c : FinishCall) (t : ℕ) → IsFinishCall h c → IsNextFinish J c.batch c.decisions c.cause t
+pub finish_keeps : (h : Header) (J : List Record) (c : FinishCall) (t : ℕ) → IsFinishCall h c → FinishFollows J c.batch c.decisions c.cause t
     → kept_room h.shape (Finish t c.batch c.decisions ∷ J) + (42 + length c.decisions) ≡ kept_room h.shape J
 finish_keeps h J c t call next =
     let N : List Record = Finish t c.batch c.decisions ∷ J in
     let moves = kept_moves J N c.batch.lane (h.shape.coordinators * h.shape.lanes) (λ l apart. same_room J N l (past_finish J t c.batch c.decisions l apart)) call.batch.0 in
     omega (arith, moves, room_locked J c.batch next.locked next.number, finished_room J t c.batch c.decisions, fits_length (lock_of J c.batch) c.decisions next.fits)
 
-pub forget_keeps : (h : Header) (J : List Record) (c : ForgetCall) (t : ℕ) → IsForgetCall h c → IsNextForget J c.batch c.cause t → kept_room h.shape (Forget t c.batch ∷ J) + 34 ≡ kept_room h.shape J
+pub forget_keeps : (h : Header) (J : List Record) (c : ForgetCall) (t : ℕ) → IsForgetCall h c → ForgetFollows J c.batch c.cause t → kept_room h.shape (Forget t c.batch ∷ J) + 34 ≡ kept_room h.shape J
 forget_keeps h J c t call next =
     let N : List Record = Forget t c.batch ∷ J in
     let moves = kept_moves J N c.batch.lane (h.shape.coordinators * h.shape.lanes) (λ l apart. same_room J N l (past_forget J t c.batch l apart)) call.batch.0 in
@@ -46,38 +46,38 @@ forget_keeps h J c t call next =
 
 module _ {D : Type 0} {G : Ghosts D} where
   -- where room is kept there is memory for a record
-  room_for : (log : RecordLog D G) (kept n : ℕ) → HasRecords log kept → 34 ≤ kept → n ≤ 1057 → HasRoom log 1 n
+  room_for : (log : RecordLog D G) (kept n : ℕ) → HasRecords log kept → 34 ≤ kept → n ≤ 1057 → HasLogRoom log 1 n
   room_for log kept n has some small = record { records = omega (arith, has.room.records, has.enough, some); body = omega (arith, has.room.body, small); row = omega (arith, has.room.row, small) }
 
-  one_less : (log : RecordLog D G) (kept : ℕ) (has : HasRecords log kept) → 34 ≤ kept → HasRoom log ((has.count - 1) + 1) 1057
-  one_less log kept has some = let same : (has.count - 1) + 1 ≡ has.count = omega (arith, has.enough, some) in subst (λ (n : ℕ). HasRoom log n 1057) (sym same) has.room
+  one_less : (log : RecordLog D G) (kept : ℕ) (has : HasRecords log kept) → 34 ≤ kept → HasLogRoom log ((has.count - 1) + 1) 1057
+  one_less log kept has some = let same : (has.count - 1) + 1 ≡ has.count = omega (arith, has.enough, some) in subst (λ (n : ℕ). HasLogRoom log n 1057) (sym same) has.room
 
   -- ---- Finish
 
-  module _ (p : Parts D G) (c : FinishCall) (t : ℕ) (is : IsShardOf p) (call : IsFinishCall p.log.header c) (whole : broken_of p.log.journal ≡ None) (planned : next_finish (journal_of p) c.batch c.decisions c.cause ≡ Append t)
+  module _ (p : Parts D G) (c : FinishCall) (t : ℕ) (is : IsShardOf p) (call : IsFinishCall p.log.header c) (whole : broken_of p.log.journal ≡ None) (planned : next_finish (journal_of_parts p) c.batch c.decisions c.cause ≡ Append t)
       (early : t ≤ 2 ^ 62 + 2 ^ 20) where
-    finish_next : IsNextFinish (journal_of p) c.batch c.decisions c.cause t
-    finish_next = finish_appends (journal_of p) c.batch c.decisions c.cause t planned
+    finish_next : FinishFollows (journal_of_parts p) c.batch c.decisions c.cause t
+    finish_next = finish_appends (journal_of_parts p) c.batch c.decisions c.cause t planned
 
-    finish_fits : After p.log.header (journal_of p) (Finish t c.batch c.decisions)
-    finish_fits = finish_after p.log.header (journal_of p) c t is.shard call finish_next early
+    finish_fits : After p.log.header (journal_of_parts p) (Finish t c.batch c.decisions)
+    finish_fits = finish_after p.log.header (journal_of_parts p) c t is.shard call finish_next early
 
     finish_size : 9 + length (body_of (Finish t c.batch c.decisions)) ≡ 42 + length c.decisions
     finish_size = size_is p.log.header (Finish t c.batch c.decisions) is.limits finish_fits.0
 
-    finish_kept : kept_room p.log.header.shape (Finish t c.batch c.decisions ∷ journal_of p) + (42 + length c.decisions) ≡ kept_room p.log.header.shape (journal_of p)
-    finish_kept = finish_keeps p.log.header (journal_of p) c t call finish_next
+    finish_kept : kept_room p.log.header.shape (Finish t c.batch c.decisions ∷ journal_of_parts p) + (42 + length c.decisions) ≡ kept_room p.log.header.shape (journal_of_parts p)
+    finish_kept = finish_keeps p.log.header (journal_of_parts p) c t call finish_next
 
     pub finish_decisions : (m : Vec Bool) → slice_get p.decisions.items c.batch.lane ≡ Some m → length c.decisions ≤ vec_capacity m
     finish_decisions m get =
         let next = finish_next in
         let old = (is.sound whole).decisions c.batch.lane m get next.locked in
-        let batch : lock_of (journal_of p) (record { lane = c.batch.lane; number = _ }) ≡ lock_of (journal_of p) c.batch = ap (λ (n : ℕ). lock_of (journal_of p) (record { lane = c.batch.lane; number = n })) next.number in
-        omega (arith, old, ap length batch, fits_length (lock_of (journal_of p) c.batch) c.decisions next.fits)
+        let batch : lock_of (journal_of_parts p) (record { lane = c.batch.lane; number = _ }) ≡ lock_of (journal_of_parts p) c.batch = ap (λ (n : ℕ). lock_of (journal_of_parts p) (record { lane = c.batch.lane; number = n })) next.number in
+        omega (arith, old, ap length batch, fits_length (lock_of (journal_of_parts p) c.batch) c.decisions next.fits)
 
-    pub finish_memory : HasRoom p.log 1 (length (body_of (Finish t c.batch c.decisions)))
+    pub finish_memory : HasLogRoom p.log 1 (length (body_of (Finish t c.batch c.decisions)))
     finish_memory =
-        room_for p.log (kept_room p.log.header.shape (journal_of p)) (length (body_of (Finish t c.batch c.decisions))) (is.sound whole).records (omega (arith, finish_kept)) (omega (arith, finish_size, call.size.1, is.limits.batch))
+        room_for p.log (kept_room p.log.header.shape (journal_of_parts p)) (length (body_of (Finish t c.batch c.decisions))) (is.sound whole).records (omega (arith, finish_kept)) (omega (arith, finish_size, call.size.1, is.limits.batch))
 
     pub finish_room : gate_of p.log.journal + 1 + (9 + length (body_of (Finish t c.batch c.decisions))) ≤ G.limit (disk_of p.log.journal)
     finish_room = let sound = is.sound whole in omega (arith, sound.used, sound.free, finish_size, finish_kept)
@@ -86,50 +86,50 @@ module _ {D : Type 0} {G : Ghosts D} where
         → ((l : ℕ) (m : Vec Bool) → l ≢ c.batch.lane → slice_get memory.items l ≡ Some m → slice_get p.decisions.items l ≡ Some m) → IsShardOf new
     finish_wrote memory new w len others =
         let sound = is.sound whole in
-        let J = journal_of p in
+        let J = journal_of_parts p in
         let r : Record = Finish t c.batch c.decisions in
         let kept = finish_kept in
-        wrote (record p { decisions = memory }) new r (record { header = is.header; stands = is.stands; journal = is.journal; shard = is.shard; limits = is.limits; lanes = len ∙ is.lanes; opened = is.opened; room = is.room }) w finish_fits sound.used
+        written_is_shard (record p { decisions = memory }) new r (record { header = is.header; stands = is.stands; journal = is.journal; shard = is.shard; limits = is.limits; lanes = len ∙ is.lanes; opened = is.opened; room = is.room }) w finish_fits sound.used
         (omega (arith, sound.free, kept, sum_by-cons size_of r J)) (λ lane m get. elim (same_nat c.batch.lane lane) [
           | Yes e ↦ subst (λ (l : ℕ). IsLockedWith (r ∷ J) l (vec_capacity m)) e (own_finish J t c.batch c.decisions (vec_capacity m))
           | No apart ↦ same_lock J (r ∷ J) lane (vec_capacity m) (past_finish J t c.batch c.decisions lane apart) (sound.decisions lane m (others lane m (λ e. apart (sym e)) get))
         ]) (sound.records.count - 1) (one_less p.log (kept_room p.log.header.shape J) sound.records (omega (arith, kept))) (omega (arith, sound.records.enough, kept)) sound.landed
 
     -- the disk failed at it
-    pub finish_left : (memory : Vec (Vec Bool)) (new : Parts D G) → HasFailed (record p { decisions = memory }) new (Finish t c.batch c.decisions) → length memory.items ≡ length p.decisions.items → IsShardOf new
+    pub finish_left : (memory : Vec (Vec Bool)) (new : Parts D G) → HasFailedAt (record p { decisions = memory }) new (Finish t c.batch c.decisions) → length memory.items ≡ length p.decisions.items → IsShardOf new
     finish_left memory new f len =
         failed (record p { decisions = memory }) new (Finish t c.batch c.decisions)
         (record { header = is.header; stands = is.stands; journal = is.journal; shard = is.shard; limits = is.limits; lanes = len ∙ is.lanes; opened = is.opened; room = is.room }) f finish_fits
         (let sound = is.sound whole in omega (arith, sound.used, finish_room, finish_size))
 
     pub finish_done : (memory : Vec (Vec Bool)) (new : Parts D G) → HasWritten (record p { decisions = memory }) new (Finish t c.batch c.decisions)
-        → Meets false (finish_due c None (journal_of p)) (sight (view_of p)) (sight (view_of new)) (journal_of p) (Ok t)
-    finish_done memory new w = inr (Finish t c.batch c.decisions, finish_writes c (journal_of p) t planned finish_next.is early, appends (record p { decisions = memory }) new (Finish t c.batch c.decisions) w)
+        → Meets false (finish_due c None (journal_of_parts p)) (sight (view_of p)) (sight (view_of new)) (journal_of_parts p) (Ok t)
+    finish_done memory new w = inr (Finish t c.batch c.decisions, finish_writes c (journal_of_parts p) t planned finish_next.is early, parts_append (record p { decisions = memory }) new (Finish t c.batch c.decisions) w)
 
-    pub finish_failed : (memory : Vec (Vec Bool)) (new : Parts D G) (fault : NodeFault) → fault ≡ DiskFault → HasFailed (record p { decisions = memory }) new (Finish t c.batch c.decisions)
-        → Meets false (finish_due c None (journal_of p)) (sight (view_of p)) (sight (view_of new)) (journal_of p) (Err fault)
+    pub finish_failed : (memory : Vec (Vec Bool)) (new : Parts D G) (fault : NodeFault) → fault ≡ DiskFault → HasFailedAt (record p { decisions = memory }) new (Finish t c.batch c.decisions)
+        → Meets false (finish_due c None (journal_of_parts p)) (sight (view_of p)) (sight (view_of new)) (journal_of_parts p) (Err fault)
     finish_failed memory new fault e f =
-        let told : MeetsFault false (finish_due c None (journal_of p)) (sight (view_of p)) (sight (view_of new)) (journal_of p) DiskFault
-        = (t, Finish t c.batch c.decisions, finish_writes c (journal_of p) t planned finish_next.is early, fails (record p { decisions = memory }) new (Finish t c.batch c.decisions) f) in
-        subst (λ (x : NodeFault). MeetsFault false (finish_due c None (journal_of p)) (sight (view_of p)) (sight (view_of new)) (journal_of p) x) (sym e) told
+        let told : MeetsFault false (finish_due c None (journal_of_parts p)) (sight (view_of p)) (sight (view_of new)) (journal_of_parts p) DiskFault
+        = (t, Finish t c.batch c.decisions, finish_writes c (journal_of_parts p) t planned finish_next.is early, parts_fail (record p { decisions = memory }) new (Finish t c.batch c.decisions) f) in
+        subst (λ (x : NodeFault). MeetsFault false (finish_due c None (journal_of_parts p)) (sight (view_of p)) (sight (view_of new)) (journal_of_parts p) x) (sym e) told
 
   -- ---- Forget
 
-  module _ (p : Parts D G) (c : ForgetCall) (t : ℕ) (is : IsShardOf p) (call : IsForgetCall p.log.header c) (whole : broken_of p.log.journal ≡ None) (planned : next_forget (journal_of p) c.batch c.cause ≡ Append t) (early : t ≤ 2 ^ 62 + 2 ^ 20) where
-    forget_next : IsNextForget (journal_of p) c.batch c.cause t
-    forget_next = forget_appends (journal_of p) c.batch c.cause t planned
+  module _ (p : Parts D G) (c : ForgetCall) (t : ℕ) (is : IsShardOf p) (call : IsForgetCall p.log.header c) (whole : broken_of p.log.journal ≡ None) (planned : next_forget (journal_of_parts p) c.batch c.cause ≡ Append t) (early : t ≤ 2 ^ 62 + 2 ^ 20) where
+    forget_next : ForgetFollows (journal_of_parts p) c.batch c.cause t
+    forget_next = forget_appends (journal_of_parts p) c.batch c.cause t planned
 
-    forget_fits : After p.log.header (journal_of p) (Forget t c.batch)
-    forget_fits = forget_after p.log.header (journal_of p) c t is.shard call forget_next early
+    forget_fits : After p.log.header (journal_of_parts p) (Forget t c.batch)
+    forget_fits = forget_after p.log.header (journal_of_parts p) c t is.shard call forget_next early
 
     forget_size : 9 + length (body_of (Forget t c.batch)) ≡ 34
     forget_size = size_is p.log.header (Forget t c.batch) is.limits forget_fits.0
 
-    forget_kept : kept_room p.log.header.shape (Forget t c.batch ∷ journal_of p) + 34 ≡ kept_room p.log.header.shape (journal_of p)
-    forget_kept = forget_keeps p.log.header (journal_of p) c t call forget_next
+    forget_kept : kept_room p.log.header.shape (Forget t c.batch ∷ journal_of_parts p) + 34 ≡ kept_room p.log.header.shape (journal_of_parts p)
+    forget_kept = forget_keeps p.log.header (journal_of_parts p) c t call forget_next
 
-    pub forget_memory : HasRoom p.log 1 (length (body_of (Forget t c.batch)))
-    forget_memory = room_for p.log (kept_room p.log.header.shape (journal_of p)) (length (body_of (Forget t c.batch))) (is.sound whole).records (omega (arith, forget_kept)) (omega (arith, forget_size))
+    pub forget_memory : HasLogRoom p.log 1 (length (body_of (Forget t c.batch)))
+    forget_memory = room_for p.log (kept_room p.log.header.shape (journal_of_parts p)) (length (body_of (Forget t c.batch))) (is.sound whole).records (omega (arith, forget_kept)) (omega (arith, forget_size))
 
     pub forget_room : gate_of p.log.journal + 1 + (9 + length (body_of (Forget t c.batch))) ≤ G.limit (disk_of p.log.journal)
     forget_room = let sound = is.sound whole in omega (arith, sound.used, sound.free, forget_size, forget_kept)
@@ -137,25 +137,25 @@ module _ {D : Type 0} {G : Ghosts D} where
     pub forget_wrote : (new : Parts D G) → HasWritten p new (Forget t c.batch) → IsShardOf new
     forget_wrote new w =
         let sound = is.sound whole in
-        let J = journal_of p in
+        let J = journal_of_parts p in
         let r : Record = Forget t c.batch in
         let kept = forget_kept in
-        wrote p new r (standing p is) w forget_fits sound.used (omega (arith, sound.free, kept, sum_by-cons size_of r J)) (λ lane m get. elim (same_nat c.batch.lane lane) [
+        written_is_shard p new r (parts_standing p is) w forget_fits sound.used (omega (arith, sound.free, kept, sum_by-cons size_of r J)) (λ lane m get. elim (same_nat c.batch.lane lane) [
           | Yes e ↦ subst (λ (l : ℕ). IsLockedWith (r ∷ J) l (vec_capacity m)) e (own_forget J t c.batch (vec_capacity m))
           | No apart ↦ same_lock J (r ∷ J) lane (vec_capacity m) (past_forget J t c.batch lane apart) (sound.decisions lane m get)
         ]) (sound.records.count - 1) (one_less p.log (kept_room p.log.header.shape J) sound.records (omega (arith, kept))) (omega (arith, sound.records.enough, kept)) sound.landed
 
     -- the disk failed at it
-    pub forget_left : (new : Parts D G) → HasFailed p new (Forget t c.batch) → IsShardOf new
-    forget_left new f = failed p new (Forget t c.batch) (standing p is) f forget_fits (let sound = is.sound whole in omega (arith, sound.used, forget_room, forget_size))
+    pub forget_left : (new : Parts D G) → HasFailedAt p new (Forget t c.batch) → IsShardOf new
+    forget_left new f = failed p new (Forget t c.batch) (parts_standing p is) f forget_fits (let sound = is.sound whole in omega (arith, sound.used, forget_room, forget_size))
 
     pub forget_done : (new : Parts D G) → HasWritten p new (Forget t c.batch)
-        → Meets false (forget_due c None (journal_of p)) (sight (view_of p)) (sight (view_of new)) (journal_of p) (Ok t)
-    forget_done new w = inr (Forget t c.batch, forget_writes c (journal_of p) t planned forget_next.is early, appends p new (Forget t c.batch) w)
+        → Meets false (forget_due c None (journal_of_parts p)) (sight (view_of p)) (sight (view_of new)) (journal_of_parts p) (Ok t)
+    forget_done new w = inr (Forget t c.batch, forget_writes c (journal_of_parts p) t planned forget_next.is early, parts_append p new (Forget t c.batch) w)
 
-    pub forget_failed : (new : Parts D G) (fault : NodeFault) → fault ≡ DiskFault → HasFailed p new (Forget t c.batch)
-        → Meets false (forget_due c None (journal_of p)) (sight (view_of p)) (sight (view_of new)) (journal_of p) (Err fault)
+    pub forget_failed : (new : Parts D G) (fault : NodeFault) → fault ≡ DiskFault → HasFailedAt p new (Forget t c.batch)
+        → Meets false (forget_due c None (journal_of_parts p)) (sight (view_of p)) (sight (view_of new)) (journal_of_parts p) (Err fault)
     forget_failed new fault e f =
-        let told : MeetsFault false (forget_due c None (journal_of p)) (sight (view_of p)) (sight (view_of new)) (journal_of p) DiskFault
-        = (t, Forget t c.batch, forget_writes c (journal_of p) t planned forget_next.is early, fails p new (Forget t c.batch) f) in
-        subst (λ (x : NodeFault). MeetsFault false (forget_due c None (journal_of p)) (sight (view_of p)) (sight (view_of new)) (journal_of p) x) (sym e) told
+        let told : MeetsFault false (forget_due c None (journal_of_parts p)) (sight (view_of p)) (sight (view_of new)) (journal_of_parts p) DiskFault
+        = (t, Forget t c.batch, forget_writes c (journal_of_parts p) t planned forget_next.is early, parts_fail p new (Forget t c.batch) f) in
+        subst (λ (x : NodeFault). MeetsFault false (forget_due c None (journal_of_parts p)) (sight (view_of p)) (sight (view_of new)) (journal_of_parts p) x) (sym e) told

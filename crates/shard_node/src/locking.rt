@@ -5,12 +5,12 @@ ghost use Rattle.gate_journal.specs.Shown.{disk_of, broken_of};
 ghost use Rattle.cbdc_model.specs.Due.{lock_due};
 ghost use Rattle.cbdc_model.specs.Next.{next_lock, Append};
 ghost use Rattle.cbdc_model.specs.Sights.{Meets};
-ghost use Rattle.record_log.specs.Logs.{HasRoom, KeepsRoom, IsUntouched};
-ghost use Rattle.shard_core.specs.Plans.{replies_at};
-ghost use Rattle.shard_core.specs.Stands.{IsReady, IsFree};
+ghost use Rattle.record_log.specs.Logs.{HasLogRoom, KeepsRoom, IsUntouched};
+ghost use Rattle.shard_core.specs.Plans.{core_replies};
+ghost use Rattle.shard_core.specs.Stands.{IsLockReady, IsLaneFree};
 ghost use Rattle.cbdc_model.specs.Calls.{IsLockCall};
 ghost use Rattle.node_journal.specs.Nodes.{sight, HoldsJournal, LeavesBetween, broken_behind};
-ghost use Rattle.shard_node.specs.Parts.{IsShardOf, IsLockOf, journal_of, view_of};
+ghost use Rattle.shard_node.specs.Parts.{IsShardOf, IsLockOf, journal_of_parts, view_of};
 
 use crate::parts::Parts;
 use crate::writing::write;
@@ -57,7 +57,7 @@ fn take_memory<D: Disk>(
     requires lane { lane < length memory.old.items }
     requires bytes { bytes < 2 ^ 62 }
     ensures decisions { OnOk result ((m : GhostVec Bool) → slice_get memory.new.items lane ≡ Some m → entries ≤ vec_capacity m) }
-    ensures room { OnOk result (HasRoom log.new count bytes) }
+    ensures room { OnOk result (HasLogRoom log.new count bytes) }
     ensures lanes { length memory.new.items ≡ length memory.old.items }
     ensures others { (l : ℕ) (m : GhostVec Bool) → l ≢ lane → slice_get memory.new.items l ≡ Some m → slice_get memory.old.items l ≡ Some m }
     ensures keeps { KeepsRoom log.old log.new }
@@ -81,12 +81,12 @@ fn append_lock<D: Disk>(
     requires shard { IsShardOf parts.old }
     requires call { IsLockCall parts.old.log.header call.now }
     requires whole { broken_of parts.old.log.journal ≡ None }
-    requires next { next_lock (journal_of parts.old) call.now.batch call.now.part call.now.cause ≡ Append (replies_at replied) }
-    requires ready { IsReady parts.old.core call.now.part replied.replies }
-    requires free { IsFree parts.old.core call.now.batch.lane }
+    requires next { next_lock (journal_of_parts parts.old) call.now.batch call.now.part call.now.cause ≡ Append (core_replies replied) }
+    requires ready { IsLockReady parts.old.core call.now.part replied.replies }
+    requires free { IsLaneFree parts.old.core call.now.batch.lane }
     ensures shard { IsShardOf parts.new }
-    ensures meets { Meets true (lock_due parts.old.log.header.shape (D.limit (disk_of parts.old.log.journal)) call.now None (journal_of parts.old))
-        (sight (view_of parts.old)) (sight (view_of parts.new)) (journal_of parts.old) result }
+    ensures meets { Meets true (lock_due parts.old.log.header.shape (D.limit (disk_of parts.old.log.journal)) call.now None (journal_of_parts parts.old))
+        (sight (view_of parts.old)) (sight (view_of parts.new)) (journal_of_parts parts.old) result }
     ensures broken { broken_of parts.new.log.journal ≡ broken_behind result (D.count (disk_of parts.new.log.journal)) None }
     ensures holds { HoldsJournal D.Disk (view_of parts.old) → HoldsJournal D.Disk (view_of parts.new) }
     ensures leaves { HoldsJournal D.Disk (view_of parts.old)
@@ -138,8 +138,8 @@ pub(crate) fn lock_parts<D: Disk>(
     requires shard { IsShardOf parts.old }
     requires call { IsLockCall parts.old.log.header call.now }
     ensures shard { IsShardOf parts.new }
-    ensures meets { Meets true (lock_due parts.old.log.header.shape (D.limit (disk_of parts.old.log.journal)) call.now (broken_of parts.old.log.journal) (journal_of parts.old))
-        (sight (view_of parts.old)) (sight (view_of parts.new)) (journal_of parts.old) result }
+    ensures meets { Meets true (lock_due parts.old.log.header.shape (D.limit (disk_of parts.old.log.journal)) call.now (broken_of parts.old.log.journal) (journal_of_parts parts.old))
+        (sight (view_of parts.old)) (sight (view_of parts.new)) (journal_of_parts parts.old) result }
     ensures broken { broken_of parts.new.log.journal ≡ broken_behind result (D.count (disk_of parts.new.log.journal)) (broken_of parts.old.log.journal) }
     ensures holds { HoldsJournal D.Disk (view_of parts.old) → HoldsJournal D.Disk (view_of parts.new) }
     ensures leaves { HoldsJournal D.Disk (view_of parts.old)

@@ -7,8 +7,8 @@ ghost use Rattle.cbdc_model.specs.After.{After, IsJournal};
 ghost use Rattle.cbdc_model.specs.Grammar.{IsShard};
 ghost use Rattle.cbdc_model.specs.Status.{status};
 ghost use Rattle.cbdc_model.specs.Fates.{fate};
-ghost use Rattle.shard_core.specs.Counts.{Counts};
-ghost use Rattle.shard_core.specs.Remembers.{told};
+ghost use Rattle.shard_core.specs.Counts.{CountsUnspent};
+ghost use Rattle.shard_core.specs.Remembers.{told_fate};
 ghost use Rattle.cbdc_model.specs.Calls.{IsLockCall, IsFinishCall, IsForgetCall};
 ghost use Rattle.node_journal.specs.Nodes.{sight, HoldsJournal, LeavesBetween, broken_behind};
 
@@ -119,14 +119,14 @@ impl<D: Disk> ShardNode<D> {
 
     /// How many hashes are unspent here. Takes no memory.
     pub fn unspent_len(&self) -> u64
-        ensures { Counts self.now.journal result }
+        ensures { CountsUnspent self.now.journal result }
     {
         self.parts.core.unspent_len()
     }
 
     /// What the shard remembers of a transaction. Takes no memory.
     pub fn check_tx(&self, id: &Hash) -> Option<Remembered>
-        ensures { told result ≡ fate self.now.header.shape self.now.journal id.now }
+        ensures { told_fate result ≡ fate self.now.header.shape self.now.journal id.now }
     {
         self.parts.core.check_tx(id)
     }

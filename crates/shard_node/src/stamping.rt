@@ -6,10 +6,10 @@ ghost use Rattle.cbdc_model.specs.Due.{finish_due, forget_due};
 ghost use Rattle.cbdc_model.specs.Next.{next_finish, next_forget, Append};
 ghost use Rattle.cbdc_model.specs.Sights.{Meets};
 ghost use Rattle.shard_core.specs.Admitted.{IsFinishable};
-ghost use Rattle.shard_core.specs.Stands.{IsDone};
+ghost use Rattle.shard_core.specs.Stands.{IsLanePast};
 ghost use Rattle.cbdc_model.specs.Calls.{IsFinishCall, IsForgetCall};
 ghost use Rattle.node_journal.specs.Nodes.{sight, HoldsJournal, LeavesBetween, broken_behind};
-ghost use Rattle.shard_node.specs.Parts.{IsShardOf, journal_of, view_of};
+ghost use Rattle.shard_node.specs.Parts.{IsShardOf, journal_of_parts, view_of};
 
 use crate::parts::Parts;
 use crate::writing::write;
@@ -51,11 +51,11 @@ fn append_finish<D: Disk>(
     requires shard { IsShardOf parts.old }
     requires call { IsFinishCall parts.old.log.header call.now }
     requires whole { broken_of parts.old.log.journal ≡ None }
-    requires next { next_finish (journal_of parts.old) call.now.batch call.now.decisions call.now.cause ≡ Append stamp }
+    requires next { next_finish (journal_of_parts parts.old) call.now.batch call.now.decisions call.now.cause ≡ Append stamp }
     requires locked { IsFinishable parts.old.core call.now.batch call.now.decisions }
     ensures shard { IsShardOf parts.new }
-    ensures meets { Meets false (finish_due call.now None (journal_of parts.old))
-        (sight (view_of parts.old)) (sight (view_of parts.new)) (journal_of parts.old) result }
+    ensures meets { Meets false (finish_due call.now None (journal_of_parts parts.old))
+        (sight (view_of parts.old)) (sight (view_of parts.new)) (journal_of_parts parts.old) result }
     ensures broken { broken_of parts.new.log.journal ≡ broken_behind result (D.count (disk_of parts.new.log.journal)) None }
     ensures holds { HoldsJournal D.Disk (view_of parts.old) → HoldsJournal D.Disk (view_of parts.new) }
     ensures leaves { HoldsJournal D.Disk (view_of parts.old)
@@ -90,11 +90,11 @@ fn append_forget<D: Disk>(
     requires shard { IsShardOf parts.old }
     requires call { IsForgetCall parts.old.log.header call.now }
     requires whole { broken_of parts.old.log.journal ≡ None }
-    requires next { next_forget (journal_of parts.old) call.now.batch call.now.cause ≡ Append stamp }
-    requires done { IsDone parts.old.core call.now.batch.lane }
+    requires next { next_forget (journal_of_parts parts.old) call.now.batch call.now.cause ≡ Append stamp }
+    requires done { IsLanePast parts.old.core call.now.batch.lane }
     ensures shard { IsShardOf parts.new }
-    ensures meets { Meets false (forget_due call.now None (journal_of parts.old))
-        (sight (view_of parts.old)) (sight (view_of parts.new)) (journal_of parts.old) result }
+    ensures meets { Meets false (forget_due call.now None (journal_of_parts parts.old))
+        (sight (view_of parts.old)) (sight (view_of parts.new)) (journal_of_parts parts.old) result }
     ensures broken { broken_of parts.new.log.journal ≡ broken_behind result (D.count (disk_of parts.new.log.journal)) None }
     ensures holds { HoldsJournal D.Disk (view_of parts.old) → HoldsJournal D.Disk (view_of parts.new) }
     ensures leaves { HoldsJournal D.Disk (view_of parts.old)
@@ -122,8 +122,8 @@ pub(crate) fn finish_parts<D: Disk>(
     requires shard { IsShardOf parts.old }
     requires call { IsFinishCall parts.old.log.header call.now }
     ensures shard { IsShardOf parts.new }
-    ensures meets { Meets false (finish_due call.now (broken_of parts.old.log.journal) (journal_of parts.old))
-        (sight (view_of parts.old)) (sight (view_of parts.new)) (journal_of parts.old) result }
+    ensures meets { Meets false (finish_due call.now (broken_of parts.old.log.journal) (journal_of_parts parts.old))
+        (sight (view_of parts.old)) (sight (view_of parts.new)) (journal_of_parts parts.old) result }
     ensures broken { broken_of parts.new.log.journal ≡ broken_behind result (D.count (disk_of parts.new.log.journal)) (broken_of parts.old.log.journal) }
     ensures holds { HoldsJournal D.Disk (view_of parts.old) → HoldsJournal D.Disk (view_of parts.new) }
     ensures leaves { HoldsJournal D.Disk (view_of parts.old)
@@ -147,8 +147,8 @@ pub(crate) fn forget_parts<D: Disk>(
     requires shard { IsShardOf parts.old }
     requires call { IsForgetCall parts.old.log.header call.now }
     ensures shard { IsShardOf parts.new }
-    ensures meets { Meets false (forget_due call.now (broken_of parts.old.log.journal) (journal_of parts.old))
-        (sight (view_of parts.old)) (sight (view_of parts.new)) (journal_of parts.old) result }
+    ensures meets { Meets false (forget_due call.now (broken_of parts.old.log.journal) (journal_of_parts parts.old))
+        (sight (view_of parts.old)) (sight (view_of parts.new)) (journal_of_parts parts.old) result }
     ensures broken { broken_of parts.new.log.journal ≡ broken_behind result (D.count (disk_of parts.new.log.journal)) (broken_of parts.old.log.journal) }
     ensures holds { HoldsJournal D.Disk (view_of parts.old) → HoldsJournal D.Disk (view_of parts.new) }
     ensures leaves { HoldsJournal D.Disk (view_of parts.old)

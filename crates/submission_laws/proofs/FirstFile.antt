@@ -15,7 +15,7 @@ use Rattle.ledger_laws.proofs.Moves.{none_of}
 use Rattle.ledger_laws.proofs.Lookups.{true_false, not_true}
 use Rattle.ledger_laws.proofs.Counts.{count}
 use Rattle.ledger_laws.proofs.Members.{In, in_count}
-use Rattle.sentinel.specs.FirstRefusal.{IsSound}
+use Rattle.sentinel.specs.FirstRefusal.{IsSoundTx}
 use Rattle.submissions.specs.SoundTest.{sound_by}
 use Rattle.run_laws.specs.Between.{BeginsWave}
 use Rattle.submission_laws.specs.Sent.{IsSent}
@@ -41,8 +41,8 @@ one_in x y (inr h) = absurd h
 pub same_file : (f g : List FullTx) → Some f ≡ Some g → f ≡ g
 same_file f g e = cc
 
-pub sound_at : (xs : List FullTx) (j : ℕ) (t : FullTx) → slice_get xs j ≡ Some t → All IsGood xs → IsSound t (all_good (tx_id t))
-sound_at xs j t e all = subst (λ u. IsSound u (all_good (tx_id u))) (get_or_from_slice_get xs j t t e) (all j t (slice_get_within xs j t e))
+pub sound_at : (xs : List FullTx) (j : ℕ) (t : FullTx) → slice_get xs j ≡ Some t → All IsGood xs → IsSoundTx t (all_good (tx_id t))
+sound_at xs j t e all = subst (λ u. IsSoundTx u (all_good (tx_id u))) (get_or_from_slice_get xs j t t e) (all j t (slice_get_within xs j t e))
 
 module _ (K : Shape) (seed n : ℕ) (some : 0 < K.shards) (lanes : 0 < K.lanes) (some_lane : 0 < K.coordinators * K.lanes) (clean : Clean (mint_of seed n) (all_submissions seed n)) where
   abbrev E : ℕ → List Record

@@ -19,7 +19,7 @@ use Rattle.ledger_laws.proofs.Ledger.{steady}
 use Rattle.run_laws.proofs.LastRecords.{prepare_stands}
 use Rattle.run_laws.proofs.NewRecords.{still_found}
 use Rattle.run_laws.proofs.WaveTurns.{one_batch}
-use Rattle.sentinel.specs.FirstRefusal.{IsSound}
+use Rattle.sentinel.specs.FirstRefusal.{IsSoundTx}
 use Rattle.submissions.specs.Checks.{VerdictsOf}
 use Rattle.submissions.specs.SoundTest.{sound_by}
 use Rattle.submissions.proofs.Telling.{is_sound_law}
@@ -48,7 +48,7 @@ some_pair p q e = cc
 
 -- what is told of a sound submission is what is decided at its turn
 pub told_as : (K : Shape) (verdicts : VerdictsOf) (sound : FullTx → Bool) (E X : ℕ → List Record) (earlier : List (List FullTx)) (file : List FullTx) (j : ℕ) (t : FullTx) (b : Batch) (o : Outcome)
-    → IsSound t (verdicts (tx_id t)) → decided_at K E X (lane_at K j) (turn K sound earlier file j) ≡ Some (b, o) → (r : Report) → IsReport K verdicts sound E X earlier file j t r → r ≡ Decided b o
+    → IsSoundTx t (verdicts (tx_id t)) → decided_at K E X (lane_at K j) (turn K sound earlier file j) ≡ Some (b, o) → (r : Report) → IsReport K verdicts sound E X earlier file j t r → r ≡ Decided b o
 told_as K verdicts sound E X earlier file j t b o is_sound at (Refused why) first = absurd (is_sound why first.applies)
 told_as K verdicts sound E X earlier file j t b o is_sound at (Decided c q) is = let s = some_pair (c, q) (b, o) (sym is.1 ∙ at) in λ i. Decided (s i).0 (s i).1
 

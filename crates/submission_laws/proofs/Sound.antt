@@ -8,7 +8,7 @@ use Rattle.base_types.specs.declared.faults.Refusal.TheVariants.{NoInputs, NoOut
 use Rattle.cbdc_model.specs.Records.{Digest}
 use Rattle.cbdc_model.specs.Coins.{Input, Output, FullTx, tx_id, genesis_id}
 use Rattle.sentinel.specs.declared.verifier.Verdict.TheVariants.{Good}
-use Rattle.sentinel.specs.FirstRefusal.{IsSound}
+use Rattle.sentinel.specs.FirstRefusal.{IsSoundTx}
 use Rattle.workload.specs.Generator.{coin, coin_value, low_half, high_half, program, mint_of, minted_of, joined_of, splits_of, joins_of, split_of, join_of, join_by}
 use Rattle.submission_laws.specs.Files.{all_good}
 
@@ -52,7 +52,7 @@ module _ (seed n i : ℕ) where
   small : coin_value seed i ≤ 101
   small = omega arith
 
-  split_sound : (genesis : Digest) → IsSound (split_of seed n genesis i) (λ index. Good)
+  split_sound : (genesis : Digest) → IsSoundTx (split_of seed n genesis i) (λ index. Good)
   split_sound genesis NoInputs e = cc
   split_sound genesis NoOutputs e = cc
   split_sound genesis WitnessCount ne = ne refl
@@ -85,7 +85,7 @@ module _ (seed n i : ℕ) where
   split_sound genesis (BadWitness k) least = let bad = least.holds.1 in cc
   split_sound genesis (Unverified k) least = let absent = least.holds.1 in cc
 
-  join_sound : (split : Digest) → IsSound (join_by seed n i split) (λ index. Good)
+  join_sound : (split : Digest) → IsSoundTx (join_by seed n i split) (λ index. Good)
   join_sound split NoInputs e = cc
   join_sound split NoOutputs e = cc
   join_sound split WitnessCount ne = ne refl
@@ -127,7 +127,7 @@ module _ (seed n i : ℕ) where
   join_sound split (Unverified k) least = let absent = least.holds.1 in cc
 
 abbrev pub IsGood : FullTx → Type 0
-IsGood t = IsSound t (all_good (tx_id t))
+IsGood t = IsSoundTx t (all_good (tx_id t))
 
 pub splits_sound : (seed n : ℕ) → All IsGood (splits_of seed n)
 splits_sound seed n = All-map IsGood (split_of seed n (genesis_id (mint_of seed n))) (range_with_len 0 (minted_of n)) (λ k d lt. split_sound seed n _ (genesis_id (mint_of seed n)))

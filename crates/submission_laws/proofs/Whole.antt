@@ -25,7 +25,7 @@ use Rattle.ledger_laws.proofs.Members.{In, in_contains, contains_in, count_in}
 use Rattle.submissions.specs.SoundTest.{sound_by}
 use Rattle.audit.specs.declared.verdict.Totals.{Totals}
 use Rattle.audit.specs.Laws.{AllAfter}
-use Rattle.audit.specs.Verdicts.{IsSound}
+use Rattle.audit.specs.Verdicts.{IsSoundHistory}
 use Rattle.audit.proofs.Ordered.{ordered_rows}
 use Rattle.printed_lines.specs.Unspent.{IsUnspentCount}
 use Rattle.submission_laws.specs.Sent.{IsSent}
@@ -528,7 +528,7 @@ module _ (K : Shape) (seed n : ℕ) (some : 0 < K.shards) (lanes : 0 < K.lanes) 
 
   -- ---- the totals
 
-  module _ (told : List Row) (totals : Totals) (are : (node : ℕ) → journal node (reverse told) ≡ X node) (in_order : IsOrdered (reverse told)) (sound : IsSound K (mint_of seed n) (all_submissions seed n) told totals) where
+  module _ (told : List Row) (totals : Totals) (are : (node : ℕ) → journal node (reverse told) ≡ X node) (in_order : IsOrdered (reverse told)) (sound : IsSoundHistory K (mint_of seed n) (all_submissions seed n) told totals) where
     same_rows : reverse told ≡ history_of K (mint_of seed n) headline.later
     same_rows = ordered_rows K (mint_of seed n) X headline.later (reverse told) (all_after K (mint_of seed n) (all_submissions seed n) headline.later kept_rows) headline.history in_order are
 

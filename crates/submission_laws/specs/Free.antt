@@ -4,7 +4,7 @@ use Rattle.cbdc_model.specs.Records.{Digest, Shape, Batch, Record, Won}
 use Rattle.cbdc_model.specs.Status.{has}
 use Rattle.cbdc_model.specs.Coins.{Output, FullTx, compact, tx_id}
 use Rattle.cbdc_model.specs.World.{KeptJournals, IsUnspent}
-use Rattle.sentinel.specs.FirstRefusal.{IsSound}
+use Rattle.sentinel.specs.FirstRefusal.{IsSoundTx}
 use Rattle.submissions.specs.Checks.{VerdictsOf}
 use Rattle.submissions.specs.SoundTest.{sound_by}
 use Rattle.printed_lines.specs.declared.report.Report.{Report}
@@ -16,7 +16,7 @@ use Rattle.submission_laws.specs.Sent.{IsSent}
 
 -- no other sound submission of the file spends an input of the one at place j
 abbrev pub IsUncontended : VerdictsOf → List FullTx → ℕ → FullTx → Type 0
-IsUncontended verdicts file j t = (i : ℕ) (u : FullTx) → slice_get file i ≡ Some u → i ≢ j → IsSound u (verdicts (tx_id u))
+IsUncontended verdicts file j t = (i : ℕ) (u : FullTx) → slice_get file i ≡ Some u → i ≢ j → IsSoundTx u (verdicts (tx_id u))
     → (x : Digest) → has (compact t).inputs x ≡ true → has (compact u).inputs x ≡ false
 
 -- it is committed, in some batch, and so told

@@ -5,7 +5,7 @@ use Rattle.cbdc_model.specs.Ranges.{home_of}
 use Rattle.cbdc_model.specs.Coins.{FullTx, tx_id}
 use Rattle.cbdc_model.specs.Waves.{has_prepare}
 use Rattle.cbdc_model.specs.Places.{PlaceIn, sized_onto, place_of}
-use Rattle.sentinel.specs.FirstRefusal.{IsSound}
+use Rattle.sentinel.specs.FirstRefusal.{IsSoundTx}
 use Rattle.submissions.specs.Checks.{VerdictsOf}
 use Rattle.submissions.specs.SoundTest.{sound_by}
 use Rattle.printed_lines.specs.Decided.{added}
@@ -17,7 +17,7 @@ pub record IsSent (verdicts : VerdictsOf) (files : List (List FullTx)) (k j : �
   pub file : List FullTx
   pub file_is : slice_get files k ≡ Some file
   pub tx_is : slice_get file j ≡ Some t
-  pub sound : IsSound t (verdicts (tx_id t))
+  pub sound : IsSoundTx t (verdicts (tx_id t))
 
 -- the place of the q-th transaction of a lane's new Prepares joined, by the journals E at entry and X at exit
 abbrev pub new_place : Shape → (ℕ → List Record) → (ℕ → List Record) → ℕ → ℕ → Option PlaceIn

@@ -8,7 +8,7 @@ use Rattle.cbdc_model.specs.World.{KeptJournals}
 use Rattle.cbdc_model.specs.Waves.{Waves}
 use Rattle.submissions.specs.SoundTest.{sound_by}
 use Rattle.audit.specs.declared.verdict.Totals.{Totals}
-use Rattle.audit.specs.Verdicts.{IsSound}
+use Rattle.audit.specs.Verdicts.{IsSoundHistory}
 use Rattle.printed_lines.specs.Unspent.{IsUnspentCount}
 use Rattle.submission_laws.specs.Sent.{IsSent}
 use Rattle.submission_laws.specs.Free.{IsSubmissionConfirmed}
@@ -28,7 +28,7 @@ totals_of seed n = record { coins = left_of n; value = value_out (mint_of seed n
 pub record IsWorkloadWhole (K : Shape) (seed n : ℕ) (X : ℕ → List Record) : Type 0 where
   pub confirmed : (k j : ℕ) (t : FullTx) (it : IsSent all_good (files_of seed n) k j t) → IsSubmissionConfirmed K all_good (files_of seed n) (made_for K seed n) X k it.file j t
   pub unspent : (m : ℕ) → IsUnspentCount K X m → m ≡ left_of n
-  pub totals : (rows : List Row) (totals : Totals) → ((node : ℕ) → journal node (reverse rows) ≡ X node) → IsOrdered (reverse rows) → IsSound K (mint_of seed n) (all_submissions seed n) rows totals
+  pub totals : (rows : List Row) (totals : Totals) → ((node : ℕ) → journal node (reverse rows) ≡ X node) → IsOrdered (reverse rows) → IsSoundHistory K (mint_of seed n) (all_submissions seed n) rows totals
       → totals ≡ totals_of seed n
 
 -- so it is behind every run of the two files over the ledger of the mint

@@ -14,7 +14,7 @@ use Rattle.cbdc_types.specs.declared.tx.CompactTx.{CompactTx}
 use Rattle.cbdc_model.specs.Records.{Shape, Compact}
 use Rattle.cbdc_model.specs.Coins.{FullTx, compact, tx_id}
 use Rattle.cbdc_model.specs.Waves.{sent_to}
-use Rattle.sentinel.specs.FirstRefusal.{IsSound, IsFirstRefusal}
+use Rattle.sentinel.specs.FirstRefusal.{IsSoundTx, IsFirstRefusal}
 use Rattle.std.specs.List.{AllZip}
 use Rattle.std.specs.Option.{IsSomeAnd}
 use Rattle.std.specs.Prelude.{MatchOption}
@@ -33,7 +33,7 @@ use Rattle.submissions.proofs.Shares.{sent_if, sent_more}
 abbrev IsGiven : VerdictsOf → FullTx → ℕ → List CompactTx → List CompactTx → Judgement → Type 0
 IsGiven verdicts t at before after (Refused r) = IsFirstRefusal t (verdicts (tx_id t)) r × (after ≡ before)
 IsGiven verdicts t at before after (Sound lane place) =
-    IsSound t (verdicts (tx_id t)) × (lane ≡ at) × (place ≡ length before) × (after ≡ before ++ compact t ∷ [])
+    IsSoundTx t (verdicts (tx_id t)) × (lane ≡ at) × (place ≡ length before) × (after ≡ before ++ compact t ∷ [])
 
 abbrev IsJudged : VerdictsOf → FullTx → ℕ → List CompactTx → List CompactTx → Checked → Type 0
 IsJudged verdicts t at before after c = (c.id ≡ tx_id t) × IsGiven verdicts t at before after c.judgement

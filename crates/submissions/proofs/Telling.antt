@@ -7,7 +7,7 @@ use Rattle.std.proofs.lemmas.Bool.Decides.{Decides-eqb, Decides-ltb, Decides-lik
 use Rattle.base_types.specs.declared.faults.Refusal.TheVariants.{NoInputs, NoOutputs, WitnessCount, RepeatedInput, ZeroInput, ZeroOutput, InputOverflow, OutputOverflow, Unbalanced, BadWitness, Unverified}
 use Rattle.cbdc_model.specs.Coins.{FullTx, tx_id}
 use Rattle.sentinel.specs.declared.verifier.Verdict.TheVariants.{Bad, Absent}
-use Rattle.sentinel.specs.FirstRefusal.{Verdicts, HasAt, HasVerdict, Repeats, input_sum, output_sum, IsSound}
+use Rattle.sentinel.specs.FirstRefusal.{Verdicts, HasAt, HasVerdict, Repeats, input_sum, output_sum, IsSoundTx}
 use Rattle.submissions.specs.SoundTest.{is_bad, is_absent, is_sound, IsSoundLaw, SoundTestLaw, OneTestLaw}
 use Rattle.submissions.proofs.Parts.{no_place, none_has, no_repeats, positive_decides, items_decide, not_bad_decides, not_absent_decides, no_verdict}
 
@@ -37,7 +37,7 @@ module _ (t : FullTx) (v : Verdicts) where
     none_bad : (i : ℕ) → ¬ (HasVerdict Bad t.inputs v i)
     none_absent : (i : ℕ) → ¬ (HasVerdict Absent t.inputs v i)
 
-  sound_from : Passes → IsSound t v
+  sound_from : Passes → IsSoundTx t v
   sound_from p NoInputs = p.inputs
   sound_from p NoOutputs = p.outputs
   sound_from p WitnessCount = λ unlike. unlike p.witnesses
@@ -50,7 +50,7 @@ module _ (t : FullTx) (v : Verdicts) where
   sound_from p (BadWitness i) = λ least. p.none_bad i least.holds
   sound_from p (Unverified i) = λ least. p.none_absent i least.holds
 
-  passes_from : IsSound t v → Passes
+  passes_from : IsSoundTx t v → Passes
   passes_from none = record {
     inputs = none NoInputs;
     outputs = none NoOutputs;
@@ -65,7 +65,7 @@ module _ (t : FullTx) (v : Verdicts) where
     none_absent = no_place (HasVerdict Absent t.inputs v) (λ i. none (Unverified i));
   }
 
-  told : Decides (is_sound t v) (IsSound t v)
+  told : Decides (is_sound t v) (IsSoundTx t v)
   told = Decides-like (is_sound t v)
       (λ ((((((((((a, b), c), d), e), f), g), h), i), j), k). sound_from (record {
         inputs = a;

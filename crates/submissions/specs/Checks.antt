@@ -7,7 +7,7 @@ use Rattle.cbdc_model.specs.Coins.{FullTx, compact, tx_id}
 use Rattle.cbdc_model.specs.Waves.{sent_to}
 use Rattle.base_types.specs.declared.faults.Refusal.{Refusal}
 use Rattle.sentinel.specs.declared.verifier.Verdict.{Verdict}
-use Rattle.sentinel.specs.FirstRefusal.{IsSound, IsFirstRefusal}
+use Rattle.sentinel.specs.FirstRefusal.{IsSoundTx, IsFirstRefusal}
 use Rattle.submissions.specs.declared.Checked.{Checked}
 use Rattle.submissions.specs.declared.Judgement.{Judgement}
 use Rattle.submissions.specs.declared.Judgement.TheVariants.{Refused, Sound}
@@ -23,7 +23,7 @@ VerdictsOf = List ℕ → ℕ → Verdict
 
 -- a test that says yes exactly for sound transactions
 abbrev pub TellsSound : VerdictsOf → (FullTx → Bool) → Type 0
-TellsSound verdicts sound = (t : FullTx) → (sound t ≡ true) ↔ IsSound t (verdicts (tx_id t))
+TellsSound verdicts sound = (t : FullTx) → (sound t ≡ true) ↔ IsSoundTx t (verdicts (tx_id t))
 
 -- nothing in any list
 abbrev pub AllEmpty : List (Vec CompactTx) → Type 0
@@ -31,7 +31,7 @@ AllEmpty lanes = (lane : ℕ) (list : Vec CompactTx) → slice_get lanes lane �
 
 -- what a sentinel says of a transaction by itself: it is sound, or the first reason to refuse it
 abbrev pub IsRefusal : VerdictsOf → FullTx → Option Refusal → Type 0
-IsRefusal verdicts t None = IsSound t (verdicts (tx_id t))
+IsRefusal verdicts t None = IsSoundTx t (verdicts (tx_id t))
 IsRefusal verdicts t (Some r) = IsFirstRefusal t (verdicts (tx_id t)) r
 
 abbrev pub IsJudged : VerdictsOf → FullTx → Judged → Type 0
@@ -40,7 +40,7 @@ IsJudged verdicts t j = (j.id ≡ tx_id t) × IsRefusal verdicts t j.refusal
 -- what a sentinel makes of a transaction by itself: the first reason to refuse it; or it is sound, and this is its compact form
 abbrev pub IsRuling : VerdictsOf → FullTx → Ruling → Type 0
 IsRuling verdicts t (ruling.Refused r) = IsFirstRefusal t (verdicts (tx_id t)) r
-IsRuling verdicts t (ruling.Sound k) = IsSound t (verdicts (tx_id t)) × (k ≡ compact t)
+IsRuling verdicts t (ruling.Sound k) = IsSoundTx t (verdicts (tx_id t)) × (k ≡ compact t)
 
 -- `IsRuling`, `IsRuled`: what a sentinel makes of a transaction by itself: its id, and the first reason to refuse it or, where it is sound, its
 -- compact form
@@ -71,7 +71,7 @@ AreSent K verdicts file lanes =
 
 -- the compact form of a sound one of these transactions
 abbrev pub IsSentFrom : VerdictsOf → List FullTx → CompactTx → Type 0
-IsSentFrom verdicts file k = (t : FullTx) × Contains file t × IsSound t (verdicts (tx_id t)) × (k ≡ compact t)
+IsSentFrom verdicts file k = (t : FullTx) × Contains file t × IsSoundTx t (verdicts (tx_id t)) × (k ≡ compact t)
 
 -- each lane has such forms alone
 abbrev pub AreSentFrom : VerdictsOf → List FullTx → List (Vec CompactTx) → Type 0
@@ -81,7 +81,7 @@ AreSentFrom verdicts file lanes = (lane : ℕ) (list : Vec CompactTx) → slice_
 abbrev pub IsSaid : Shape → VerdictsOf → List FullTx → ℕ → FullTx → Judgement → Type 0
 IsSaid K verdicts file j t (Refused r) = IsFirstRefusal t (verdicts (tx_id t)) r
 IsSaid K verdicts file j t (Sound lane place) =
-    IsSound t (verdicts (tx_id t)) × (lane ≡ j % (K.coordinators * K.lanes))
+    IsSoundTx t (verdicts (tx_id t)) × (lane ≡ j % (K.coordinators * K.lanes))
     × ((sound : FullTx → Bool) → TellsSound verdicts sound → place ≡ length (sent_to K sound (take j file) lane))
 
 -- as many as there are submissions, each with its id and what is said of it

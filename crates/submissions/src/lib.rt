@@ -9,7 +9,7 @@ mod sound;
 ghost use Rattle.std.specs.Prelude.{◌≡◌, ◌+◌, ◌%◌, ◌<◌, ℕ, List, length, IfOk, IfErr};
 ghost use Rattle.std.specs.List.{AllZip};
 ghost use Rattle.cbdc_model.specs.Coins.{FullTx as Full, tx_id as spec_id};
-ghost use Rattle.sentinel.specs.FirstRefusal.{IsSound};
+ghost use Rattle.sentinel.specs.FirstRefusal.{IsSoundTx};
 ghost use Rattle.submissions.specs.Checks.{VerdictsOf, AllEmpty, IsJudged, IsRuled, IsDealt, IsDealtAt, AreSubmitted};
 
 use cbdc_types::{CompactTx, FullTx, Hash, Refusal, Shape};
@@ -90,7 +90,7 @@ pub fn judge<V: Verifier>(tx: &FullTx, verifier: &V) -> Judged
 /// What a sentinel makes of a transaction. Memory runs out only for one that is sound.
 pub fn rule<V: Verifier>(alloc: Global, tx: &FullTx, verifier: &V) -> Result<Ruled, AllocError>
     ensures ruled { IfOk result (IsRuled (V.verdict_of verifier.now) tx.now) }
-    ensures sound { IfErr result (λ _. IsSound tx.now (V.verdict_of verifier.now (spec_id tx.now))) }
+    ensures sound { IfErr result (λ _. IsSoundTx tx.now (V.verdict_of verifier.now (spec_id tx.now))) }
 {
     let id = tx_id(tx);
     match check(tx, &id, verifier) {

@@ -9,7 +9,7 @@ use Rattle.cbdc_model.specs.Due.{open_batch}
 use Rattle.cbdc_model.specs.Grammar.{IsInGrammar}
 use Rattle.cbdc_model.specs.After.{IsJournal}
 use Rattle.cbdc_model.specs.Sights.{Sight}
-use Rattle.coord_log.specs.OpenLanes.{open_phase, batch_in, open_lane}
+use Rattle.coord_log.specs.OpenLanes.{open_phase_of, open_lane_in, open_lane}
 use Rattle.lane_driver.specs.Told.{IsLane}
 use Rattle.recovery.specs.Open.{phase_of, HasOutcomes, IsLaneOpen, IsBatchUnfinished}
 use Rattle.run_laws.specs.Open.{IsOpenBy}
@@ -47,7 +47,7 @@ module _ (h : Header) (J : List Record) (j : IsJournal h J) (lane : ℕ) (is_lan
     early : slot_stamp J lane < 2 ^ 63
     early = subst (λ t. t < 2 ^ 63) (sym last.stamp) (stamp_fits h last.last last_grammar)
 
-  pub is_open : (p : OpenPhase) → (slot J lane).phase ≡ phase_of p → IsLaneOpen h (λ l. (slot J l).phase) (λ l. txs_of J (open_batch J l)) (batch_in J lane p)
+  pub is_open : (p : OpenPhase) → (slot J lane).phase ≡ phase_of p → IsLaneOpen h (λ l. (slot J l).phase) (λ l. txs_of J (open_batch J l)) (open_lane_in J lane p)
   is_open p e =
       let has = stands p e in
       let prepare = prepare_stands J b has.0 in
@@ -67,28 +67,28 @@ module _ (h : Header) (J : List Record) (j : IsJournal h J) (lane : ℕ) (is_lan
   pub is_idle : h.node < h.shape.coordinators → open_lane J lane ≡ None → (slot J lane).phase ≡ Idle
   is_idle lt none = by (slot J lane).phase refl none
     where
-      by : (p : Phase) → (slot J lane).phase ≡ p → option_map (batch_in J lane) (open_phase p) ≡ None → (slot J lane).phase ≡ Idle
+      by : (p : Phase) → (slot J lane).phase ≡ p → option_map (open_lane_in J lane) (open_phase_of p) ≡ None → (slot J lane).phase ≡ Idle
       by Idle e n = e
       by InLock e n = absurd (no_shard (λ i. absurd (let z : InLock ≡ Idle = sym e ∙ i in cc)) lt (subst IsShardPhase (sym e) tt))
       by InFinish e n = absurd (no_shard (λ i. absurd (let z : InFinish ≡ Idle = sym e ∙ i in cc)) lt (subst IsShardPhase (sym e) tt))
-      by InPrepare e n = absurd (let z : Some (batch_in J lane Prepared) ≡ None = n in cc)
-      by InCommit e n = absurd (let z : Some (batch_in J lane Committed) ≡ None = n in cc)
-      by InDiscard e n = absurd (let z : Some (batch_in J lane Discarded) ≡ None = n in cc)
+      by InPrepare e n = absurd (let z : Some (open_lane_in J lane Prepared) ≡ None = n in cc)
+      by InCommit e n = absurd (let z : Some (open_lane_in J lane Committed) ≡ None = n in cc)
+      by InDiscard e n = absurd (let z : Some (open_lane_in J lane Discarded) ≡ None = n in cc)
 
 -- what is told of a lane is its batch in the phase of its slot
-pub told_open : (J : List Record) (lane : ℕ) (o : OpenLane) → open_lane J lane ≡ Some o → (p : OpenPhase) × (o ≡ batch_in J lane p) × ((slot J lane).phase ≡ phase_of p)
+pub told_open : (J : List Record) (lane : ℕ) (o : OpenLane) → open_lane J lane ≡ Some o → (p : OpenPhase) × (o ≡ open_lane_in J lane p) × ((slot J lane).phase ≡ phase_of p)
 told_open J lane o told = by (slot J lane).phase refl told
   where
     same : (a c : OpenLane) → Some a ≡ Some c → c ≡ a
     same a c e = cc
 
-    by : (p : Phase) → (slot J lane).phase ≡ p → option_map (batch_in J lane) (open_phase p) ≡ Some o → (p : OpenPhase) × (o ≡ batch_in J lane p) × ((slot J lane).phase ≡ phase_of p)
+    by : (p : Phase) → (slot J lane).phase ≡ p → option_map (open_lane_in J lane) (open_phase_of p) ≡ Some o → (p : OpenPhase) × (o ≡ open_lane_in J lane p) × ((slot J lane).phase ≡ phase_of p)
     by Idle e n = absurd (let z : None ≡ Some o = n in cc)
     by InLock e n = absurd (let z : None ≡ Some o = n in cc)
     by InFinish e n = absurd (let z : None ≡ Some o = n in cc)
-    by InPrepare e n = (Prepared, same (batch_in J lane Prepared) o n, e)
-    by InCommit e n = (Committed, same (batch_in J lane Committed) o n, e)
-    by InDiscard e n = (Discarded, same (batch_in J lane Discarded) o n, e)
+    by InPrepare e n = (Prepared, same (open_lane_in J lane Prepared) o n, e)
+    by InCommit e n = (Committed, same (open_lane_in J lane Committed) o n, e)
+    by InDiscard e n = (Discarded, same (open_lane_in J lane Discarded) o n, e)
 
 pub told_lane : (J : List Record) (lane : ℕ) (o : OpenLane) → open_lane J lane ≡ Some o → o.batch.lane ≡ lane
 told_lane J lane o told = ap (λ x. x.batch.lane) (told_open J lane o told).1
@@ -107,7 +107,7 @@ unfinished K lane log shards o told by =
     let t = told_open log.seen lane o told in
     subst (λ x. IsBatchUnfinished x.phase K x log shards) (sym t.1) (at t.0 (subst (λ p. IsOpenBy p K (open_batch log.seen lane) log shards) t.2 by))
   where
-    at : (p : OpenPhase) → IsOpenBy (phase_of p) K (open_batch log.seen lane) log shards → IsBatchUnfinished p K (batch_in log.seen lane p) log shards
+    at : (p : OpenPhase) → IsOpenBy (phase_of p) K (open_batch log.seen lane) log shards → IsBatchUnfinished p K (open_lane_in log.seen lane p) log shards
     at Prepared h = h.1
     at Committed h = h.2
     at Discarded h = h.2

@@ -18,7 +18,7 @@ use Rattle.cbdc_model.specs.Sights.{Sight}
 use Rattle.lane_laws.specs.Resuming.{IsTakenUp}
 use Rattle.lane_driver.specs.declared.fault.LaneFault.{LaneFault}
 use Rattle.lane_driver.specs.Told.{KeepNodes}
-use Rattle.coord_log.specs.OpenLanes.{batch_in, open_lane}
+use Rattle.coord_log.specs.OpenLanes.{open_lane_in, open_lane}
 use Rattle.recovery.specs.declared.resumed.ResumedBatch.{ResumedBatch}
 use Rattle.recovery.specs.Open.{phase_of, IsBatchResumed, IsBatchUnfinished, HasItsOutcomes, IsResumeStopped}
 use Rattle.run_laws.specs.Runs.{seen_by, IsTurn}
@@ -75,7 +75,7 @@ module _ (K : Shape) (lane : ℕ) (logs shards logs' shards' : ℕ → Sight) (s
       go n (inr (b, other)) = ap (λ s. s.flight) (elsewhere n other)
 
   module _ (o : OpenLane) (told : open_lane log.seen lane ≡ Some o) where
-    its : (p : OpenPhase) × (o ≡ batch_in log.seen lane p) × ((slot log.seen lane).phase ≡ phase_of p)
+    its : (p : OpenPhase) × (o ≡ open_lane_in log.seen lane p) × ((slot log.seen lane).phase ≡ phase_of p)
     its = told_open log.seen lane o told
 
     batch_is : o.batch ≡ open_batch log.seen lane

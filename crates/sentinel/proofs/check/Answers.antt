@@ -3,7 +3,7 @@ use Rattle.std.proofs.lemmas.Bool.{cases_lt}
 use Rattle.std.proofs.lemmas.Result.{err_from_is_err_and}
 use Rattle.base_types.specs.declared.faults.Refusal.TheVariants.{InputOverflow, OutputOverflow}
 use Rattle.sentinel.specs.FirstRefusal.{input_sum, output_sum}
-use Rattle.sentinel.proofs.Ranks.{below_first, below_next, first_at, last_at}
+use Rattle.sentinel.proofs.Ranks.{below_first, below_next, first_refusal_at, last_at}
 use Rattle.sentinel.proofs.check.Goals as goal
 
 pub returns-in_err-has_inputs : goal.returns-in_err-has_inputs
@@ -11,70 +11,70 @@ returns-in_err-has_inputs g c =
     let t = c.args.tx.now in
     let v = g.V.Verifier.verdict_of c.args.verifier.now c.args.id.now in
     let p = err_from_is_err_and c.from_residual.result c.from_residual.ensures.1 in
-    rw (p.1, p.2) (first_at t v 0 c.in_err-has_inputs.field-0.0 (below_first t v) (c.in_err-has_inputs.ensures v))
+    rw (p.1, p.2) (first_refusal_at t v 0 c.in_err-has_inputs.field-0.0 (below_first t v) (c.in_err-has_inputs.ensures v))
 
 pub returns-in_err-has_outputs : goal.returns-in_err-has_outputs
 returns-in_err-has_outputs g c =
     let t = c.args.tx.now in
     let v = g.V.Verifier.verdict_of c.args.verifier.now c.args.id.now in
     let p = err_from_is_err_and c.from_residual-in_err-has_outputs.result c.from_residual-in_err-has_outputs.ensures.1 in
-    rw (p.1, p.2) (first_at t v 1 c.in_err-has_outputs.field-0.0 (below_next t v 0 (below_first t v) (c.in_ok-has_inputs.ensures v)) (c.in_err-has_outputs.ensures v))
+    rw (p.1, p.2) (first_refusal_at t v 1 c.in_err-has_outputs.field-0.0 (below_next t v 0 (below_first t v) (c.in_ok-has_inputs.ensures v)) (c.in_err-has_outputs.ensures v))
 
 pub returns-in_err-has_witnesses : goal.returns-in_err-has_witnesses
 returns-in_err-has_witnesses g c =
     let t = c.args.tx.now in
     let v = g.V.Verifier.verdict_of c.args.verifier.now c.args.id.now in
     let p = err_from_is_err_and c.from_residual-in_err-has_witnesses.result c.from_residual-in_err-has_witnesses.ensures.1 in
-    rw (p.1, p.2) (first_at t v 2 c.in_err-has_witnesses.field-0.0 (below_next t v 1 (below_next t v 0 (below_first t v) (c.in_ok-has_inputs.ensures v)) (c.in_ok-has_outputs.ensures v)) (c.in_err-has_witnesses.ensures v))
+    rw (p.1, p.2) (first_refusal_at t v 2 c.in_err-has_witnesses.field-0.0 (below_next t v 1 (below_next t v 0 (below_first t v) (c.in_ok-has_inputs.ensures v)) (c.in_ok-has_outputs.ensures v)) (c.in_err-has_witnesses.ensures v))
 
 pub returns-in_err-repeats : goal.returns-in_err-repeats
 returns-in_err-repeats g c =
     let t = c.args.tx.now in
     let v = g.V.Verifier.verdict_of c.args.verifier.now c.args.id.now in
     let p = err_from_is_err_and c.from_residual-in_err-repeats.result c.from_residual-in_err-repeats.ensures.1 in
-    rw (p.1, p.2) (first_at t v 3 c.in_err-repeats.field-0.0 (below_next t v 2 (below_next t v 1 (below_next t v 0 (below_first t v) (c.in_ok-has_inputs.ensures v)) (c.in_ok-has_outputs.ensures v)) (c.in_ok-has_witnesses.ensures v)) (c.in_err-repeats.ensures v))
+    rw (p.1, p.2) (first_refusal_at t v 3 c.in_err-repeats.field-0.0 (below_next t v 2 (below_next t v 1 (below_next t v 0 (below_first t v) (c.in_ok-has_inputs.ensures v)) (c.in_ok-has_outputs.ensures v)) (c.in_ok-has_witnesses.ensures v)) (c.in_err-repeats.ensures v))
 
 pub returns-in_err-has_zero_input : goal.returns-in_err-has_zero_input
 returns-in_err-has_zero_input g c =
     let t = c.args.tx.now in
     let v = g.V.Verifier.verdict_of c.args.verifier.now c.args.id.now in
     let p = err_from_is_err_and c.from_residual-in_err-has_zero_input.result c.from_residual-in_err-has_zero_input.ensures.1 in
-    rw (p.1, p.2) (first_at t v 4 c.in_err-has_zero_input.field-0.0 (below_next t v 3 (below_next t v 2 (below_next t v 1 (below_next t v 0 (below_first t v) (c.in_ok-has_inputs.ensures v)) (c.in_ok-has_outputs.ensures v)) (c.in_ok-has_witnesses.ensures v)) (c.in_ok-repeats.ensures v)) (c.in_err-has_zero_input.ensures v))
+    rw (p.1, p.2) (first_refusal_at t v 4 c.in_err-has_zero_input.field-0.0 (below_next t v 3 (below_next t v 2 (below_next t v 1 (below_next t v 0 (below_first t v) (c.in_ok-has_inputs.ensures v)) (c.in_ok-has_outputs.ensures v)) (c.in_ok-has_witnesses.ensures v)) (c.in_ok-repeats.ensures v)) (c.in_err-has_zero_input.ensures v))
 
 pub returns-in_err-has_zero_output : goal.returns-in_err-has_zero_output
 returns-in_err-has_zero_output g c =
     let t = c.args.tx.now in
     let v = g.V.Verifier.verdict_of c.args.verifier.now c.args.id.now in
     let p = err_from_is_err_and c.from_residual-in_err-has_zero_output.result c.from_residual-in_err-has_zero_output.ensures.1 in
-    rw (p.1, p.2) (first_at t v 5 c.in_err-has_zero_output.field-0.0 (below_next t v 4 (below_next t v 3 (below_next t v 2 (below_next t v 1 (below_next t v 0 (below_first t v) (c.in_ok-has_inputs.ensures v)) (c.in_ok-has_outputs.ensures v)) (c.in_ok-has_witnesses.ensures v)) (c.in_ok-repeats.ensures v)) (c.in_ok-has_zero_input.ensures v)) (c.in_err-has_zero_output.ensures v))
+    rw (p.1, p.2) (first_refusal_at t v 5 c.in_err-has_zero_output.field-0.0 (below_next t v 4 (below_next t v 3 (below_next t v 2 (below_next t v 1 (below_next t v 0 (below_first t v) (c.in_ok-has_inputs.ensures v)) (c.in_ok-has_outputs.ensures v)) (c.in_ok-has_witnesses.ensures v)) (c.in_ok-repeats.ensures v)) (c.in_ok-has_zero_input.ensures v)) (c.in_err-has_zero_output.ensures v))
 
 pub returns-in_err-fits_inputs : goal.returns-in_err-fits_inputs
 returns-in_err-fits_inputs g c =
     let t = c.args.tx.now in
     let v = g.V.Verifier.verdict_of c.args.verifier.now c.args.id.now in
     let p = err_from_is_err_and c.from_residual-in_err-fits_inputs.result c.from_residual-in_err-fits_inputs.ensures.1 in
-    rw (p.1, p.2) (first_at t v 6 c.in_err-fits_inputs.field-0.0 (below_next t v 5 (below_next t v 4 (below_next t v 3 (below_next t v 2 (below_next t v 1 (below_next t v 0 (below_first t v) (c.in_ok-has_inputs.ensures v)) (c.in_ok-has_outputs.ensures v)) (c.in_ok-has_witnesses.ensures v)) (c.in_ok-repeats.ensures v)) (c.in_ok-has_zero_input.ensures v)) (c.in_ok-has_zero_output.ensures v)) (c.in_err-fits_inputs.ensures v))
+    rw (p.1, p.2) (first_refusal_at t v 6 c.in_err-fits_inputs.field-0.0 (below_next t v 5 (below_next t v 4 (below_next t v 3 (below_next t v 2 (below_next t v 1 (below_next t v 0 (below_first t v) (c.in_ok-has_inputs.ensures v)) (c.in_ok-has_outputs.ensures v)) (c.in_ok-has_witnesses.ensures v)) (c.in_ok-repeats.ensures v)) (c.in_ok-has_zero_input.ensures v)) (c.in_ok-has_zero_output.ensures v)) (c.in_err-fits_inputs.ensures v))
 
 pub returns-in_err-fits_outputs : goal.returns-in_err-fits_outputs
 returns-in_err-fits_outputs g c =
     let t = c.args.tx.now in
     let v = g.V.Verifier.verdict_of c.args.verifier.now c.args.id.now in
     let p = err_from_is_err_and c.from_residual-in_err-fits_outputs.result c.from_residual-in_err-fits_outputs.ensures.1 in
-    rw (p.1, p.2) (first_at t v 7 c.in_err-fits_outputs.field-0.0 (below_next t v 6 (below_next t v 5 (below_next t v 4 (below_next t v 3 (below_next t v 2 (below_next t v 1 (below_next t v 0 (below_first t v) (c.in_ok-has_inputs.ensures v)) (c.in_ok-has_outputs.ensures v)) (c.in_ok-has_witnesses.ensures v)) (c.in_ok-repeats.ensures v)) (c.in_ok-has_zero_input.ensures v)) (c.in_ok-has_zero_output.ensures v)) (c.in_ok-fits_inputs.ensures v)) (c.in_err-fits_outputs.ensures v))
+    rw (p.1, p.2) (first_refusal_at t v 7 c.in_err-fits_outputs.field-0.0 (below_next t v 6 (below_next t v 5 (below_next t v 4 (below_next t v 3 (below_next t v 2 (below_next t v 1 (below_next t v 0 (below_first t v) (c.in_ok-has_inputs.ensures v)) (c.in_ok-has_outputs.ensures v)) (c.in_ok-has_witnesses.ensures v)) (c.in_ok-repeats.ensures v)) (c.in_ok-has_zero_input.ensures v)) (c.in_ok-has_zero_output.ensures v)) (c.in_ok-fits_inputs.ensures v)) (c.in_err-fits_outputs.ensures v))
 
 pub returns-in_err-balances : goal.returns-in_err-balances
 returns-in_err-balances g c =
     let t = c.args.tx.now in
     let v = g.V.Verifier.verdict_of c.args.verifier.now c.args.id.now in
     let p = err_from_is_err_and c.from_residual-in_err-balances.result c.from_residual-in_err-balances.ensures.1 in
-    rw (p.1, p.2) (first_at t v 8 c.in_err-balances.field-0.0 (below_next t v 7 (below_next t v 6 (below_next t v 5 (below_next t v 4 (below_next t v 3 (below_next t v 2 (below_next t v 1 (below_next t v 0 (below_first t v) (c.in_ok-has_inputs.ensures v)) (c.in_ok-has_outputs.ensures v)) (c.in_ok-has_witnesses.ensures v)) (c.in_ok-repeats.ensures v)) (c.in_ok-has_zero_input.ensures v)) (c.in_ok-has_zero_output.ensures v)) (c.in_ok-fits_inputs.ensures v)) (c.in_ok-fits_outputs.ensures v)) (c.in_err-balances.ensures v))
+    rw (p.1, p.2) (first_refusal_at t v 8 c.in_err-balances.field-0.0 (below_next t v 7 (below_next t v 6 (below_next t v 5 (below_next t v 4 (below_next t v 3 (below_next t v 2 (below_next t v 1 (below_next t v 0 (below_first t v) (c.in_ok-has_inputs.ensures v)) (c.in_ok-has_outputs.ensures v)) (c.in_ok-has_witnesses.ensures v)) (c.in_ok-repeats.ensures v)) (c.in_ok-has_zero_input.ensures v)) (c.in_ok-has_zero_output.ensures v)) (c.in_ok-fits_inputs.ensures v)) (c.in_ok-fits_outputs.ensures v)) (c.in_err-balances.ensures v))
 
 pub returns-in_err-has_bad : goal.returns-in_err-has_bad
 returns-in_err-has_bad g c =
     let t = c.args.tx.now in
     let v = g.V.Verifier.verdict_of c.args.verifier.now c.args.id.now in
     let p = err_from_is_err_and c.from_residual-in_err-has_bad.result c.from_residual-in_err-has_bad.ensures.1 in
-    rw (p.1, p.2) (first_at t v 9 c.in_err-has_bad.field-0.0 (below_next t v 8 (below_next t v 7 (below_next t v 6 (below_next t v 5 (below_next t v 4 (below_next t v 3 (below_next t v 2 (below_next t v 1 (below_next t v 0 (below_first t v) (c.in_ok-has_inputs.ensures v)) (c.in_ok-has_outputs.ensures v)) (c.in_ok-has_witnesses.ensures v)) (c.in_ok-repeats.ensures v)) (c.in_ok-has_zero_input.ensures v)) (c.in_ok-has_zero_output.ensures v)) (c.in_ok-fits_inputs.ensures v)) (c.in_ok-fits_outputs.ensures v)) (c.in_ok-balances.ensures v)) (c.in_err-has_bad.ensures))
+    rw (p.1, p.2) (first_refusal_at t v 9 c.in_err-has_bad.field-0.0 (below_next t v 8 (below_next t v 7 (below_next t v 6 (below_next t v 5 (below_next t v 4 (below_next t v 3 (below_next t v 2 (below_next t v 1 (below_next t v 0 (below_first t v) (c.in_ok-has_inputs.ensures v)) (c.in_ok-has_outputs.ensures v)) (c.in_ok-has_witnesses.ensures v)) (c.in_ok-repeats.ensures v)) (c.in_ok-has_zero_input.ensures v)) (c.in_ok-has_zero_output.ensures v)) (c.in_ok-fits_inputs.ensures v)) (c.in_ok-fits_outputs.ensures v)) (c.in_ok-balances.ensures v)) (c.in_err-has_bad.ensures))
 
 pub balances-requires-clause-ins : goal.balances-requires-clause-ins
 balances-requires-clause-ins g c =

@@ -6,7 +6,7 @@ use Rattle.cbdc_types.specs.declared.answer.UnsoundKind.TheVariants.{Cause}
 use Rattle.cbdc_model.specs.Records.{Record, journal}
 use Rattle.cbdc_model.specs.History.{committed, newly_won}
 use Rattle.audit.specs.declared.place.Place.{Place}
-use Rattle.audit.specs.Rows.{read, newest_first, IsPlace}
+use Rattle.audit.specs.Rows.{read, newest_first, IsRecordPlace}
 use Rattle.audit.specs.Knowing.{Knows}
 use Rattle.audit.specs.Walks.{AllCaused}
 use Rattle.audit.specs.Spending.{IsFirstWrong}
@@ -58,7 +58,7 @@ places-preserved c =
     let k = known_next c.args.shape.now (read c.args.journals.now) c.args.history.now c.places.at (get_or c.args.history.now c.places.at no_place) no_place c.record_at-r.result.now c.note.new.self
     c.places-test.true refl c.record_at-r.ensures
     (c.in_ok-note.ensures (read c.args.journals.now) (newest_first (read c.args.journals.now) (take c.places.at c.args.history.now))
-    (All-get_or (IsPlace (read c.args.journals.now)) c.args.history.now c.places.at no_place c.places-test.true c.requires.places) (sym c.record_at-r.ensures) c.places.invariant.0)
+    (All-get_or (IsRecordPlace (read c.args.journals.now)) c.args.history.now c.places.at no_place c.places-test.true c.requires.places) (sym c.record_at-r.ensures) c.places.invariant.0)
     ((c.in_ok-is_caused.ensures J c.places.invariant.0).0 c.if-not-branch.false) c.places.invariant.1 in (
       k.0,
       k.1,

@@ -1,8 +1,8 @@
 use Rattle.std.proofs.Common.{◌≡◌, ◌∙◌, ◌⊎◌, ◌+◌, ◌-◌, ◌≤◌, ◌++◌, inl, inr, sym, ap, subst, length, take, drop, get_or, refl}
 use Rattle.std.proofs.lemmas.List.Elements.{All-push, All-get_or, All-same}
 use Rattle.audit.specs.declared.place.Place.{Place}
-use Rattle.audit.specs.Rows.{read, rows_at, IsPlace}
-use Rattle.audit.specs.Merges.{Merged}
+use Rattle.audit.specs.Rows.{read, rows_at, IsRecordPlace}
+use Rattle.audit.specs.Merges.{MergedUpTo}
 use Rattle.audit.proofs.Places.{left_step, right_step, joined, all_joined}
 use Rattle.audit.proofs.merging.merge_two.Goals as goal
 use Rattle.audit.proofs.merging.merge_two.Goals.{then-places-test+else-j-b, else-places-test}
@@ -13,21 +13,21 @@ no_place = record { node = 0; index = 0 }
 pub places-preserved-then-goes_above : goal.places-preserved-then-goes_above
 unfolding no_place
 places-preserved-then-goes_above c = (
-  subst (λ v. Merged (rows_at (read c.args.journals.now) c.args.a.now) (rows_at (read c.args.journals.now) c.args.b.now) (rows_at (read c.args.journals.now) v) (c.places.i + 1) c.places.j) (sym c.in_ok-push.ensures.items)
+  subst (λ v. MergedUpTo (rows_at (read c.args.journals.now) c.args.a.now) (rows_at (read c.args.journals.now) c.args.b.now) (rows_at (read c.args.journals.now) v) (c.places.i + 1) c.places.j) (sym c.in_ok-push.ensures.items)
       (left_step (read c.args.journals.now) c.args.a.now c.args.b.now c.places.places.items c.places.i c.places.j (get_or c.args.a.now c.places.i no_place) (get_or c.args.b.now c.places.j no_place) no_place
       c.places.invariant.0 c.places-test.true c.if-j-b.true refl refl (sym c.if-goes_above.ensures)),
-  All-same (IsPlace (read c.args.journals.now)) _ _ c.in_ok-push.ensures.items
-      (All-push (IsPlace (read c.args.journals.now)) c.places.places.items _ c.places.invariant.1 (All-get_or (IsPlace (read c.args.journals.now)) c.args.a.now c.places.i no_place c.places-test.true c.requires.left)),
+  All-same (IsRecordPlace (read c.args.journals.now)) _ _ c.in_ok-push.ensures.items
+      (All-push (IsRecordPlace (read c.args.journals.now)) c.places.places.items _ c.places.invariant.1 (All-get_or (IsRecordPlace (read c.args.journals.now)) c.args.a.now c.places.i no_place c.places-test.true c.requires.left)),
 )
 
 pub places-preserved : goal.places-preserved
 unfolding no_place
 places-preserved c = (
-  subst (λ v. Merged (rows_at (read c.args.journals.now) c.args.a.now) (rows_at (read c.args.journals.now) c.args.b.now) (rows_at (read c.args.journals.now) v) c.places.i (c.places.j + 1)) (sym c.in_ok-push-2.ensures.items)
+  subst (λ v. MergedUpTo (rows_at (read c.args.journals.now) c.args.a.now) (rows_at (read c.args.journals.now) c.args.b.now) (rows_at (read c.args.journals.now) v) c.places.i (c.places.j + 1)) (sym c.in_ok-push-2.ensures.items)
       (right_step (read c.args.journals.now) c.args.a.now c.args.b.now c.places.places.items c.places.i c.places.j (get_or c.args.a.now c.places.i no_place) (get_or c.args.b.now c.places.j no_place) no_place
       c.places.invariant.0 c.places-test.true c.if-j-b.true refl refl (sym c.if-goes_above.ensures)),
-  All-same (IsPlace (read c.args.journals.now)) _ _ c.in_ok-push-2.ensures.items
-      (All-push (IsPlace (read c.args.journals.now)) c.places.places.items _ c.places.invariant.1 (All-get_or (IsPlace (read c.args.journals.now)) c.args.b.now c.places.j no_place c.if-j-b.true c.requires.right)),
+  All-same (IsRecordPlace (read c.args.journals.now)) _ _ c.in_ok-push-2.ensures.items
+      (All-push (IsRecordPlace (read c.args.journals.now)) c.places.places.items _ c.places.invariant.1 (All-get_or (IsRecordPlace (read c.args.journals.now)) c.args.b.now c.places.j no_place c.if-j-b.true c.requires.right)),
 )
 
 ends : (c : goal.In_ok-extend_from_slice-2) → (length c.args.a.now ≤ c.places.i) ⊎ (length c.args.b.now ≤ c.places.j)

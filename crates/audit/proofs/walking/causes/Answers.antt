@@ -2,7 +2,7 @@ use Rattle.std.proofs.Common.{◌≡◌, ℕ, Bool, true, false, List, get_or, t
 use Rattle.std.proofs.lemmas.List.Elements.{All-get_or}
 use Rattle.cbdc_model.specs.Records.{Record, journal}
 use Rattle.audit.specs.declared.place.Place.{Place}
-use Rattle.audit.specs.Rows.{read, newest_first, IsPlace}
+use Rattle.audit.specs.Rows.{read, newest_first, IsRecordPlace}
 use Rattle.audit.proofs.Steps.{known_next, first_uncaused}
 use Rattle.audit.proofs.walking.causes.Goals as goal
 
@@ -30,5 +30,5 @@ places-preserved c =
     known_next c.args.shape.now (read c.args.journals.now) c.args.history.now c.places.at (get_or c.args.history.now c.places.at no_place) no_place c.record_at-r.result.now c.note.new.self
     c.places-test.true refl c.record_at-r.ensures
     (c.in_ok-note.ensures (read c.args.journals.now) (newest_first (read c.args.journals.now) (take c.places.at c.args.history.now))
-    (All-get_or (IsPlace (read c.args.journals.now)) c.args.history.now c.places.at no_place c.places-test.true c.requires) (sym c.record_at-r.ensures) c.places.invariant.0)
+    (All-get_or (IsRecordPlace (read c.args.journals.now)) c.args.history.now c.places.at no_place c.places-test.true c.requires) (sym c.record_at-r.ensures) c.places.invariant.0)
     ((c.in_ok-is_caused.ensures J c.places.invariant.0).0 c.if-not-branch.false) c.places.invariant.1

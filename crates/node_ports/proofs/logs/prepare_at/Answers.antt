@@ -3,7 +3,7 @@ use Rattle.std.proofs.Common.{true, None, sym}
 use Rattle.std.proofs.lemmas.List.Elements.{All-weaker}
 use Rattle.cbdc_model.specs.Grammar.{IsCompact}
 use Rattle.cbdc_model.specs.Due.{prepare_due}
-use Rattle.coord_log.specs.Logs.{IsShort}
+use Rattle.coord_log.specs.Logs.{HasShortLists}
 use Rattle.node_ports.proofs.Owed.{still_node}
 use Rattle.node_ports.proofs.Coordinators.{told_alone, later_of, prepare_named, prepare_phase, prepare_txs, prepare_rest}
 use Rattle.node_ports.proofs.logs.prepare_at.Goals as goal
@@ -22,7 +22,7 @@ prepare-requires-clause-limit g c =
 
 pub prepare-requires-clause-short : goal.prepare-requires-clause-short
 prepare-requires-clause-short g c =
-    All-weaker IsCompact IsShort (λ t is. (is.inputs.0, is.outputs.0)) c.args.txs.now c.requires.limits
+    All-weaker IsCompact HasShortLists (λ t is. (is.inputs.0, is.outputs.0)) c.args.txs.now c.requires.limits
 
 pub returns-clause-told : goal.returns-clause-told
 returns-clause-told g c =

@@ -3,7 +3,7 @@ use Rattle.std.proofs.Common.{◌≡◌, ◌&&◌, Bool, true, false, List, ◌�
 use Rattle.std.proofs.lemmas.Grind.{common_steps}
 use Rattle.cbdc_model.specs.Ranges.{on_shard, is_empty}
 use Rattle.cbdc_model.specs.Outcomes.{won_at}
-use Rattle.plain_check.proofs.Finished.{Decides, decides_elsewhere, decides_here, decides_not}
+use Rattle.plain_check.proofs.Finished.{TellsDecisions, decides_elsewhere, decides_here, decides_not}
 use Rattle.plain_check.proofs.alikes.+are_decided.Goals.{else-are_elsewhere-via-then-are_elsewhere+else-are_elsewhere-2, else-are_elsewhere-via-else-are_elsewhere}
 use Rattle.plain_check.proofs.alikes.+are_decided.Goals as goal
 
@@ -34,7 +34,7 @@ returns-else-d-won_at t c =
           grind (arith, common_steps, w.if-are_elsewhere-2.false, w.are_elsewhere-then-are_elsewhere.ensures, w.as_slice-then-are_elsewhere.ensures)
       | else-are_elsewhere-via-else-are_elsewhere w ↦ grind (arith, common_steps, w.if-are_elsewhere.false, c.are_elsewhere.ensures, c.as_slice.ensures)
     ] in
-    subst (λ told. Decides c.args.shards c.args.shard c.args.txs.now c.args.outcomes.now c.args.ds.now told) (sym c.if-d-won_at.false)
+    subst (λ told. TellsDecisions c.args.shards c.args.shard c.args.txs.now c.args.outcomes.now c.args.ds.now told) (sym c.if-d-won_at.false)
     (decides_not c.args.shards c.args.shard c.args.txs.now c.in-Some.t.now c.in-Some.others.now c.args.outcomes.now c.args.ds.now c.in-Some.ensures.cases.0 some
     (λ d rest is same. differ d rest is same c.in-Some-split_first.ensures.cases.0 c.if-d-won_at.false c.won_at.ensures))
   where

@@ -4,7 +4,7 @@ use Rattle.std.proofs.lemmas.Grind.{common_steps}
 use Rattle.std.proofs.lemmas.Option.{slice_get-get_or}
 use Rattle.plain_check.specs.Journals.{journals_in}
 use Rattle.plain_check.specs.Summaries.{AreTold, AreAllTold}
-use Rattle.plain_check.proofs.Submitted.{EachTold, pushed_is, told_more, all_told}
+use Rattle.plain_check.proofs.Submitted.{EachFileTold, pushed_is, one_file_more, all_files_told}
 use Rattle.plain_check.proofs.reporting.reports_of.Goals as goal
 
 pub files-preserved : goal.files-preserved
@@ -23,7 +23,7 @@ files-preserved g c =
     let so = c.files.invariant.count in
     record {
       count = grind (arith, common_steps, pushed, so);
-      told = subst (λ l. EachTold K verdicts E X files l) (sym pushed) (told_more K verdicts E X files c.files.all.items c.files.k own c.in_ok-reports.reports so here told c.files.invariant.told);
+      told = subst (λ l. EachFileTold K verdicts E X files l) (sym pushed) (one_file_more K verdicts E X files c.files.all.items c.files.k own c.in_ok-reports.reports so here told c.files.invariant.told);
     }
 
 pub returns : goal.returns
@@ -34,4 +34,4 @@ returns g c =
     let X = journals_in c.args.exit.now in
     let end : c.files.k ≡ length c.args.files.now = omega (arith, c.files-test.false, c.files.auto.k-end) in
     subst (λ l. AreAllTold K verdicts E X c.args.files.now l) (sym c.from_vec.ensures)
-    (all_told K verdicts E X c.args.files.now c.files.all.items c.files.k c.files.invariant.count end c.files.invariant.told)
+    (all_files_told K verdicts E X c.args.files.now c.files.all.items c.files.k c.files.invariant.count end c.files.invariant.told)

@@ -1,7 +1,7 @@
 use Rattle.std.proofs.Common.{◌≡◌, ◌∙◌, List, sym, subst, arith}
 use Rattle.std.specs.Prelude.{All}
 use Rattle.audit.specs.declared.place.Place.{Place}
-use Rattle.audit.specs.Rows.{read, rows_at, IsPlace}
+use Rattle.audit.specs.Rows.{read, rows_at, IsRecordPlace}
 use Rattle.rack_ledgers.specs.Caused.{listed_journals, AreMerged}
 use Rattle.rack_ledgers.proofs.Histories.{lent_all, lent_count, all_rise, are_merged, walked}
 use Rattle.rack_ledgers.proofs.caused.first_uncaused.Goals as goal
@@ -15,8 +15,8 @@ merge-requires g c =
 pub causes-requires : goal.causes-requires
 causes-requires g c =
     let slices : c.deref.result.now ≡ c.deref-2.result.now = c.deref.ensures.value ∙ sym c.deref-2.ensures.value in
-    subst (λ (l : List Place). All (IsPlace (read c.deref-2.result.now)) l) (sym c.as_slice-3.ensures)
-    (subst (λ s. All (IsPlace (read s)) c.in_ok-history.history) slices c.in_ok-history.ensures.places)
+    subst (λ (l : List Place). All (IsRecordPlace (read c.deref-2.result.now)) l) (sym c.as_slice-3.ensures)
+    (subst (λ s. All (IsRecordPlace (read s)) c.in_ok-history.history) slices c.in_ok-history.ensures.places)
 
 pub returns : goal.returns
 returns g c =

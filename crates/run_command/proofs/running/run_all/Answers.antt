@@ -1,7 +1,7 @@
 use Rattle.rack_runs.proofs.Turned.{not_turned, turns_leave}
 use Rattle.std.proofs.Common.{◌≤◌, inl, inr, refl, sym, subst}
 use Rattle.input_files.specs.Contents.{AreRead, all_txs}
-use Rattle.sentinel.specs.Files.{told}
+use Rattle.sentinel.specs.Files.{file_verdict}
 use Rattle.command_answers.specs.Scene.{disks_in}
 use Rattle.rack_runs.specs.Runs.{file_turns}
 use Rattle.run_command.proofs.Inputs.{no_inputs_fault}
@@ -37,7 +37,7 @@ returns-in-Err-run_on-clause-why g c = inr (
 pub returns-in-Err-run_on-clause-untouched : goal.returns-in-Err-run_on-clause-untouched
 returns-in-Err-run_on-clause-untouched g c before =
     absurd (not_turned g.R.Disk.Disk (disks_in g.R.Rack c.args.rack.now) (disks_in g.R.Rack c.run_on.new.rack)
-    (file_turns (told c.in-Ok.inputs.verdicts) c.deref.result.now) c.in-Err-run_on.fault c.in-Err-run_on.ensures.stopped before)
+    (file_turns (file_verdict c.in-Ok.inputs.verdicts) c.deref.result.now) c.in-Err-run_on.fault c.in-Err-run_on.ensures.stopped before)
 
 pub returns-in-Err-run_on-clause-left : goal.returns-in-Err-run_on-clause-left
 returns-in-Err-run_on-clause-left g c = inr (
@@ -46,5 +46,5 @@ returns-in-Err-run_on-clause-left g c = inr (
   c.in-Ok.inputs.verdicts,
   c.in-Ok.ensures.verdicts,
   turns_leave g.R.Disk.Disk (disks_in g.R.Rack c.args.rack.now) (disks_in g.R.Rack c.run_on.new.rack)
-      (file_turns (told c.in-Ok.inputs.verdicts) c.deref.result.now) c.in-Err-run_on.fault c.in-Err-run_on.ensures.stopped,
+      (file_turns (file_verdict c.in-Ok.inputs.verdicts) c.deref.result.now) c.in-Err-run_on.fault c.in-Err-run_on.ensures.stopped,
 )

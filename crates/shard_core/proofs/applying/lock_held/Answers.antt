@@ -2,13 +2,13 @@ use Rattle.std.proofs.Common.{◌≡◌, Some, if◌then◌else◌, Bool, true, 
 use Rattle.cbdc_model.specs.Records.{Digest, is_held}
 use Rattle.cbdc_model.specs.Status.{has}
 use Rattle.shard_core.specs.Agrees.{holder_in}
-use Rattle.shard_core.proofs.Moves.{cut, not_step, if_step, held_more, held_same, held_count, held_count_same}
+use Rattle.shard_core.proofs.Moves.{drop_at, not_step, if_step, held_more, held_same, held_count, held_count_same}
 use Rattle.shard_core.proofs.applying.lock_held.Goals as goal
 use Rattle.shard_core.proofs.applying.lock_held.Goals.{then-is_held, else-is_held}
 
 pub lock_all-requires : goal.lock_all-requires
 lock_all-requires c =
-    let p = cut c.args.entries.now c.loop-answered.answered-index c.answered-item.result c.loop-answered-test.true c.answered-item.is in
+    let p = drop_at c.args.entries.now c.loop-answered.answered-index c.answered-item.result c.loop-answered-test.true c.answered-item.is in
     let held : is_held c.answered-item.result.reply ≡ true = sym c.is_held.ensures ∙ c.if-is_held.true in
     let n = held_count c.args.entries.now c.loop-answered.answered-index c.answered-item.result p held in
     let room = c.loop-answered.invariant.room in
@@ -17,7 +17,7 @@ lock_all-requires c =
 pub loop-answered-preserved : goal.loop-answered-preserved
 loop-answered-preserved c =
     let i = c.loop-answered.invariant in
-    let p = cut c.args.entries.now c.loop-answered.answered-index c.answered-item.result c.loop-answered-test.true c.answered-item.is in
+    let p = drop_at c.args.entries.now c.loop-answered.answered-index c.answered-item.result c.loop-answered-test.true c.answered-item.is in
     elim c.if-is_held.branch [
       | then-is_held w ↦
           let held : is_held c.answered-item.result.reply ≡ true = sym c.is_held.ensures ∙ w.if-is_held.true in

@@ -2,7 +2,7 @@ use Rattle.std.proofs.Common.{◌≡◌, refl, None, if◌then◌else◌, ◌<�
 use Rattle.cbdc_model.specs.Records.{Digest}
 use Rattle.cbdc_model.specs.Status.{has}
 use Rattle.shard_table.specs.Entries.{lookup}
-use Rattle.shard_core.proofs.Moves.{cut, cut_bool, or_step, if_step, returned_more, returned_same, inputs_in_more}
+use Rattle.shard_core.proofs.Moves.{drop_at, cut_bool, or_step, if_step, returned_more, returned_same, inputs_in_more}
 use Rattle.shard_core.proofs.applying.return_others.Goals as goal
 use Rattle.shard_core.proofs.applying.return_others.Goals.{then-is_returned, else-is_returned}
 
@@ -11,9 +11,9 @@ loop-at-preserved c =
     let i = c.loop-at.invariant in
     let l : c.loop-at.at < length c.args.entries.now = c.loop-at-test.true in
     let dl : c.loop-at.at < length c.args.decisions.now = let q = c.requires.decisions in omega (arith, q) in
-    let p = cut c.args.entries.now c.loop-at.at c.index-entries-at.result l c.index-entries-at.is in
+    let p = drop_at c.args.entries.now c.loop-at.at c.index-entries-at.result l c.index-entries-at.is in
     let rl : c.loop-at.at < length c.args.replies.now = let q = c.requires.replies in omega (arith, q) in
-    let o = cut c.args.replies.now c.loop-at.at c.index-replies-at.result rl c.index-replies-at.is in
+    let o = drop_at c.args.replies.now c.loop-at.at c.index-replies-at.result rl c.index-replies-at.is in
     let d = cut_bool c.args.decisions.now c.loop-at.at (get_or c.args.decisions.now c.loop-at.at false) dl refl in
     elim c.if-is_returned.branch [
       | then-is_returned w ↦

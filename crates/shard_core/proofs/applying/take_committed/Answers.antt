@@ -2,7 +2,7 @@ use Rattle.std.proofs.Common.{◌≡◌, None, if◌then◌else◌, ◌<◌, Boo
 use Rattle.cbdc_model.specs.Records.{Digest}
 use Rattle.cbdc_model.specs.Status.{has}
 use Rattle.shard_table.specs.Entries.{lookup}
-use Rattle.shard_core.proofs.Moves.{cut, cut_bool, not_step, if_step, inputs_more, inputs_same}
+use Rattle.shard_core.proofs.Moves.{drop_at, cut_bool, not_step, if_step, inputs_more, inputs_same}
 use Rattle.shard_core.proofs.applying.take_committed.Goals as goal
 use Rattle.shard_core.proofs.applying.take_committed.Goals.{then-decisions-at, else-decisions-at}
 
@@ -11,7 +11,7 @@ loop-at-preserved c =
     let i = c.loop-at.invariant in
     let l : c.loop-at.at < length c.args.entries.now = c.loop-at-test.true in
     let dl : c.loop-at.at < length c.args.decisions.now = let q = c.requires in omega (arith, q) in
-    let p = cut c.args.entries.now c.loop-at.at c.index-entries-at.result l c.index-entries-at.is in
+    let p = drop_at c.args.entries.now c.loop-at.at c.index-entries-at.result l c.index-entries-at.is in
     elim c.if-decisions-at.branch [
       | then-decisions-at w ↦
           let xs : w.as_slice.result.now ≡ c.index-entries-at.result.inputs = w.as_slice.ensures in

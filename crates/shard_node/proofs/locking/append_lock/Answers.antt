@@ -1,9 +1,9 @@
 use Rattle.std.proofs.Common.{arith, sym, subst}
-use Rattle.shard_node.proofs.Keeps.{stays}
-use Rattle.shard_node.proofs.Locks.{HasTaken, size_exact, kept_exact, lock_full_is, taken_shard, lock_memory, lock_room, lock_wrote, lock_done, lock_left, lock_failed}
+use Rattle.shard_node.proofs.Keeps.{parts_stay}
+use Rattle.shard_node.proofs.Locks.{HasTakenMemory, size_exact, kept_exact, lock_full_is, taken_shard, lock_memory, lock_room, lock_wrote, lock_done, lock_left, lock_failed}
 use Rattle.node_journal.specs.Nodes.{HoldsJournal, LeavesBetween}
 use Rattle.shard_node.specs.Parts.{view_of}
-use Rattle.node_journal.proofs.Leaving.{still, shown_same}
+use Rattle.node_journal.proofs.Leaving.{leaves_as_it_was, shown_same}
 use Rattle.shard_node.proofs.locking.append_lock.Goals as goal
 
 pub overflow_add-later-2 : goal.overflow_add-later-2
@@ -23,7 +23,7 @@ returns-then-need-capacity-clause-meets g c =
     let kept = kept_exact c.args.parts.now c.args.call.now c.args.replied c.requires.shard c.requires.call c.requires.whole c.requires.next (omega arith) c.in-Ok.next c.in-Ok.ensures c.kept_room.result c.kept_room.ensures in (
       lock_full_is c.args.parts.now c.args.call.now c.args.replied c.requires.shard c.requires.call c.requires.whole c.requires.next (omega arith) c.in-Ok.next c.in-Ok.ensures
           c.size_of_record-size.result c.len.result c.kept_room.result size.0 c.len.ensures kept.0 c.used-used.result c.capacity-capacity.result c.used-used.ensures c.capacity-capacity.ensures c.if-need-capacity.true,
-      stays c.args.parts.now,
+      parts_stay c.args.parts.now,
     )
 
 pub take_memory-requires-clause-bytes : goal.take_memory-requires-clause-bytes
@@ -34,7 +34,7 @@ take_memory-requires-clause-bytes g c =
 
 pub returns-in-Err-clause-shard : goal.returns-in-Err-clause-shard
 returns-in-Err-clause-shard g c =
-    let taken : HasTaken c.args.parts.now c.take_memory.new.log c.take_memory.new.memory c.args.call.now.batch.lane =
+    let taken : HasTakenMemory c.args.parts.now c.take_memory.new.log c.take_memory.new.memory c.args.call.now.batch.lane =
     record { lanes = c.take_memory.ensures.lanes; others = c.take_memory.ensures.others; keeps = c.take_memory.ensures.keeps; untouched = c.take_memory.ensures.untouched; records = c.take_memory.ensures.records; header = c.take_memory.ensures.header } in
     taken_shard c.args.parts.now c.args.call.now c.args.replied c.requires.shard c.requires.call c.requires.whole c.requires.next c.take_memory.new.log c.take_memory.new.memory taken
 
@@ -42,7 +42,7 @@ pub returns-in-Err-write-clause-shard : goal.returns-in-Err-write-clause-shard
 returns-in-Err-write-clause-shard g c =
     let size = size_exact c.args.parts.now c.args.call.now c.args.replied c.requires.shard c.requires.call c.requires.whole c.requires.next (omega arith) c.in-Ok.next c.in-Ok.ensures c.size_of_record-size.result c.size_of_record-size.ensures in
     let kept = kept_exact c.args.parts.now c.args.call.now c.args.replied c.requires.shard c.requires.call c.requires.whole c.requires.next (omega arith) c.in-Ok.next c.in-Ok.ensures c.kept_room.result c.kept_room.ensures in
-    let taken : HasTaken c.args.parts.now c.take_memory.new.log c.take_memory.new.memory c.args.call.now.batch.lane =
+    let taken : HasTakenMemory c.args.parts.now c.take_memory.new.log c.take_memory.new.memory c.args.call.now.batch.lane =
     record { lanes = c.take_memory.ensures.lanes; others = c.take_memory.ensures.others; keeps = c.take_memory.ensures.keeps; untouched = c.take_memory.ensures.untouched; records = c.take_memory.ensures.records; header = c.take_memory.ensures.header } in
     lock_left c.args.parts.now c.args.call.now c.args.replied c.requires.shard c.requires.call c.requires.whole c.requires.next (omega arith) c.in-Ok.next c.in-Ok.ensures
     c.size_of_record-size.result c.len.result c.kept_room.result size.0 c.len.ensures kept.0 c.used-used.result c.capacity-capacity.result c.used-used.ensures c.capacity-capacity.ensures c.if-need-capacity.false
@@ -52,7 +52,7 @@ pub write-requires-clause-memory : goal.write-requires-clause-memory
 write-requires-clause-memory g c =
     let size = size_exact c.args.parts.now c.args.call.now c.args.replied c.requires.shard c.requires.call c.requires.whole c.requires.next (omega arith) c.in-Ok.next c.in-Ok.ensures c.size_of_record-size.result c.size_of_record-size.ensures in
     let kept = kept_exact c.args.parts.now c.args.call.now c.args.replied c.requires.shard c.requires.call c.requires.whole c.requires.next (omega arith) c.in-Ok.next c.in-Ok.ensures c.kept_room.result c.kept_room.ensures in
-    let taken : HasTaken c.args.parts.now c.take_memory.new.log c.take_memory.new.memory c.args.call.now.batch.lane =
+    let taken : HasTakenMemory c.args.parts.now c.take_memory.new.log c.take_memory.new.memory c.args.call.now.batch.lane =
     record { lanes = c.take_memory.ensures.lanes; others = c.take_memory.ensures.others; keeps = c.take_memory.ensures.keeps; untouched = c.take_memory.ensures.untouched; records = c.take_memory.ensures.records; header = c.take_memory.ensures.header } in
     lock_memory c.args.parts.now c.args.call.now c.args.replied c.requires.shard c.requires.call c.requires.whole c.requires.next (omega arith) c.in-Ok.next c.in-Ok.ensures
     c.size_of_record-size.result c.len.result c.kept_room.result size.0 c.len.ensures kept.0 c.used-used.result c.capacity-capacity.result c.used-used.ensures c.capacity-capacity.ensures c.if-need-capacity.false
@@ -62,7 +62,7 @@ pub write-requires-clause-room : goal.write-requires-clause-room
 write-requires-clause-room g c =
     let size = size_exact c.args.parts.now c.args.call.now c.args.replied c.requires.shard c.requires.call c.requires.whole c.requires.next (omega arith) c.in-Ok.next c.in-Ok.ensures c.size_of_record-size.result c.size_of_record-size.ensures in
     let kept = kept_exact c.args.parts.now c.args.call.now c.args.replied c.requires.shard c.requires.call c.requires.whole c.requires.next (omega arith) c.in-Ok.next c.in-Ok.ensures c.kept_room.result c.kept_room.ensures in
-    let taken : HasTaken c.args.parts.now c.take_memory.new.log c.take_memory.new.memory c.args.call.now.batch.lane =
+    let taken : HasTakenMemory c.args.parts.now c.take_memory.new.log c.take_memory.new.memory c.args.call.now.batch.lane =
     record { lanes = c.take_memory.ensures.lanes; others = c.take_memory.ensures.others; keeps = c.take_memory.ensures.keeps; untouched = c.take_memory.ensures.untouched; records = c.take_memory.ensures.records; header = c.take_memory.ensures.header } in
     lock_room c.args.parts.now c.args.call.now c.args.replied c.requires.shard c.requires.call c.requires.whole c.requires.next (omega arith) c.in-Ok.next c.in-Ok.ensures
     c.size_of_record-size.result c.len.result c.kept_room.result size.0 c.len.ensures kept.0 c.used-used.result c.capacity-capacity.result c.used-used.ensures c.capacity-capacity.ensures c.if-need-capacity.false
@@ -72,7 +72,7 @@ pub returns-in-Ok-write-clause-shard : goal.returns-in-Ok-write-clause-shard
 returns-in-Ok-write-clause-shard g c =
     let size = size_exact c.args.parts.now c.args.call.now c.args.replied c.requires.shard c.requires.call c.requires.whole c.requires.next (omega arith) c.in-Ok.next c.in-Ok.ensures c.size_of_record-size.result c.size_of_record-size.ensures in
     let kept = kept_exact c.args.parts.now c.args.call.now c.args.replied c.requires.shard c.requires.call c.requires.whole c.requires.next (omega arith) c.in-Ok.next c.in-Ok.ensures c.kept_room.result c.kept_room.ensures in
-    let taken : HasTaken c.args.parts.now c.take_memory.new.log c.take_memory.new.memory c.args.call.now.batch.lane =
+    let taken : HasTakenMemory c.args.parts.now c.take_memory.new.log c.take_memory.new.memory c.args.call.now.batch.lane =
     record { lanes = c.take_memory.ensures.lanes; others = c.take_memory.ensures.others; keeps = c.take_memory.ensures.keeps; untouched = c.take_memory.ensures.untouched; records = c.take_memory.ensures.records; header = c.take_memory.ensures.header } in
     lock_wrote c.args.parts.now c.args.call.now c.args.replied c.requires.shard c.requires.call c.requires.whole c.requires.next (omega arith) c.in-Ok.next c.in-Ok.ensures
     c.size_of_record-size.result c.len.result c.kept_room.result size.0 c.len.ensures kept.0 c.used-used.result c.capacity-capacity.result c.used-used.ensures c.capacity-capacity.ensures c.if-need-capacity.false
@@ -82,7 +82,7 @@ pub returns-in-Ok-write-clause-meets : goal.returns-in-Ok-write-clause-meets
 returns-in-Ok-write-clause-meets g c =
     let size = size_exact c.args.parts.now c.args.call.now c.args.replied c.requires.shard c.requires.call c.requires.whole c.requires.next (omega arith) c.in-Ok.next c.in-Ok.ensures c.size_of_record-size.result c.size_of_record-size.ensures in
     let kept = kept_exact c.args.parts.now c.args.call.now c.args.replied c.requires.shard c.requires.call c.requires.whole c.requires.next (omega arith) c.in-Ok.next c.in-Ok.ensures c.kept_room.result c.kept_room.ensures in
-    let taken : HasTaken c.args.parts.now c.take_memory.new.log c.take_memory.new.memory c.args.call.now.batch.lane =
+    let taken : HasTakenMemory c.args.parts.now c.take_memory.new.log c.take_memory.new.memory c.args.call.now.batch.lane =
     record { lanes = c.take_memory.ensures.lanes; others = c.take_memory.ensures.others; keeps = c.take_memory.ensures.keeps; untouched = c.take_memory.ensures.untouched; records = c.take_memory.ensures.records; header = c.take_memory.ensures.header } in
     lock_done c.args.parts.now c.args.call.now c.args.replied c.requires.shard c.requires.call c.requires.whole c.requires.next (omega arith) c.in-Ok.next c.in-Ok.ensures
     c.size_of_record-size.result c.len.result c.kept_room.result size.0 c.len.ensures kept.0 c.used-used.result c.capacity-capacity.result c.used-used.ensures c.capacity-capacity.ensures c.if-need-capacity.false
@@ -92,7 +92,7 @@ pub returns-in-Err-write-clause-meets : goal.returns-in-Err-write-clause-meets
 returns-in-Err-write-clause-meets g c =
     let size = size_exact c.args.parts.now c.args.call.now c.args.replied c.requires.shard c.requires.call c.requires.whole c.requires.next (omega arith) c.in-Ok.next c.in-Ok.ensures c.size_of_record-size.result c.size_of_record-size.ensures in
     let kept = kept_exact c.args.parts.now c.args.call.now c.args.replied c.requires.shard c.requires.call c.requires.whole c.requires.next (omega arith) c.in-Ok.next c.in-Ok.ensures c.kept_room.result c.kept_room.ensures in
-    let taken : HasTaken c.args.parts.now c.take_memory.new.log c.take_memory.new.memory c.args.call.now.batch.lane =
+    let taken : HasTakenMemory c.args.parts.now c.take_memory.new.log c.take_memory.new.memory c.args.call.now.batch.lane =
     record { lanes = c.take_memory.ensures.lanes; others = c.take_memory.ensures.others; keeps = c.take_memory.ensures.keeps; untouched = c.take_memory.ensures.untouched; records = c.take_memory.ensures.records; header = c.take_memory.ensures.header } in
     lock_failed c.args.parts.now c.args.call.now c.args.replied c.requires.shard c.requires.call c.requires.whole c.requires.next (omega arith) c.in-Ok.next c.in-Ok.ensures
     c.size_of_record-size.result c.len.result c.kept_room.result size.0 c.len.ensures kept.0 c.used-used.result c.capacity-capacity.result c.used-used.ensures c.capacity-capacity.ensures c.if-need-capacity.false
@@ -112,10 +112,10 @@ pub returns-in-Err-clause-leaves : goal.returns-in-Err-clause-leaves
 returns-in-Err-clause-leaves g c = λ holds.
     let seen = shown_same c.args.parts.now.log c.take_memory.new.log c.args.parts.now.opened c.args.parts.now.flight c.take_memory.ensures.untouched c.take_memory.ensures.records c.take_memory.ensures.header in
     subst (λ v. LeavesBetween g.D.Disk (view_of c.args.parts.now) v) (sym seen)
-    (still g.D.Disk (view_of c.args.parts.now) (g.met.D.Disk.only_now c.args.parts.now.log.journal.disk) holds)
+    (leaves_as_it_was g.D.Disk (view_of c.args.parts.now) (g.met.D.Disk.only_now c.args.parts.now.log.journal.disk) holds)
 
 pub returns-then-stamp-gt-LAST_LOCK-clause-leaves : goal.returns-then-stamp-gt-LAST_LOCK-clause-leaves
-returns-then-stamp-gt-LAST_LOCK-clause-leaves g c = still g.D.Disk (view_of c.args.parts.now) (g.met.D.Disk.only_now c.args.parts.now.log.journal.disk)
+returns-then-stamp-gt-LAST_LOCK-clause-leaves g c = leaves_as_it_was g.D.Disk (view_of c.args.parts.now) (g.met.D.Disk.only_now c.args.parts.now.log.journal.disk)
 
 pub returns-then-need-capacity-clause-leaves : goal.returns-then-need-capacity-clause-leaves
-returns-then-need-capacity-clause-leaves g c = still g.D.Disk (view_of c.args.parts.now) (g.met.D.Disk.only_now c.args.parts.now.log.journal.disk)
+returns-then-need-capacity-clause-leaves g c = leaves_as_it_was g.D.Disk (view_of c.args.parts.now) (g.met.D.Disk.only_now c.args.parts.now.log.journal.disk)

@@ -1,7 +1,7 @@
 use Rattle.std.proofs.Common.{◌≡◌, ◌∙◌, arith}
 use Rattle.shard_node.proofs.Stamps.{finish_decisions, finish_memory, finish_room, finish_wrote, finish_done, finish_left, finish_failed}
 use Rattle.shard_node.specs.Parts.{view_of}
-use Rattle.node_journal.proofs.Leaving.{still}
+use Rattle.node_journal.proofs.Leaving.{leaves_as_it_was}
 use Rattle.shard_node.proofs.stamping.append_finish.Goals as goal
 
 pub take_decisions-decisions-requires-clause-room : goal.take_decisions-decisions-requires-clause-room
@@ -40,7 +40,7 @@ returns-in-Err-clause-meets g c =
     finish_failed c.args.parts.now c.args.call.now c.args.stamp c.requires.shard c.requires.call c.requires.whole c.requires.next (omega arith) c.take_decisions-decisions.new.memory c.write.new.parts c.in-Err.fault c.in-Err.ensures.fault (rw same at c.in-Err.ensures.failed)
 
 pub returns-then-stamp-gt-LAST_STAMP-clause-leaves : goal.returns-then-stamp-gt-LAST_STAMP-clause-leaves
-returns-then-stamp-gt-LAST_STAMP-clause-leaves g c = still g.D.Disk (view_of c.args.parts.now) (g.met.D.Disk.only_now c.args.parts.now.log.journal.disk)
+returns-then-stamp-gt-LAST_STAMP-clause-leaves g c = leaves_as_it_was g.D.Disk (view_of c.args.parts.now) (g.met.D.Disk.only_now c.args.parts.now.log.journal.disk)
 
 pub returns-in-Ok-clause-leaves : goal.returns-in-Ok-clause-leaves
 returns-in-Ok-clause-leaves g c = c.write.ensures.leaves

@@ -1,7 +1,7 @@
 use Rattle.std.proofs.Common.{arith}
 use Rattle.shard_node.proofs.Stamps.{forget_memory, forget_room, forget_wrote, forget_done, forget_left, forget_failed}
 use Rattle.shard_node.specs.Parts.{view_of}
-use Rattle.node_journal.proofs.Leaving.{still}
+use Rattle.node_journal.proofs.Leaving.{leaves_as_it_was}
 use Rattle.shard_node.proofs.stamping.append_forget.Goals as goal
 
 pub write-requires-clause-memory : goal.write-requires-clause-memory
@@ -23,7 +23,7 @@ pub returns-in-Err-clause-meets : goal.returns-in-Err-clause-meets
 returns-in-Err-clause-meets g c = forget_failed c.args.parts.now c.args.call.now c.args.stamp c.requires.shard c.requires.call c.requires.whole c.requires.next (omega arith) c.write.new.parts c.in-Err.fault c.in-Err.ensures.fault c.in-Err.ensures.failed
 
 pub returns-then-stamp-gt-LAST_STAMP-clause-leaves : goal.returns-then-stamp-gt-LAST_STAMP-clause-leaves
-returns-then-stamp-gt-LAST_STAMP-clause-leaves g c = still g.D.Disk (view_of c.args.parts.now) (g.met.D.Disk.only_now c.args.parts.now.log.journal.disk)
+returns-then-stamp-gt-LAST_STAMP-clause-leaves g c = leaves_as_it_was g.D.Disk (view_of c.args.parts.now) (g.met.D.Disk.only_now c.args.parts.now.log.journal.disk)
 
 pub returns-in-Ok-clause-leaves : goal.returns-in-Ok-clause-leaves
 returns-in-Ok-clause-leaves g c = c.write.ensures.leaves

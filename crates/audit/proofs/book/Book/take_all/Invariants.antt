@@ -1,7 +1,7 @@
 use Rattle.std.proofs.Common.{take, Some, true}
 use Rattle.cbdc_model.specs.Book.{Book, take_all}
-use Rattle.audit.specs.Keeping.{Keeps, IsLeft}
+use Rattle.audit.specs.Keeping.{HasBook, HasRest}
 use Rattle.audit.proofs.book.Book.take_all.Given as goal
 
 abbrev pub invariant-coins : goal.invariant-coins
-invariant-coins l = (b : Book) → Keeps l.initial.self b → IsLeft true l.self (take_all (Some b) (take l.at l.coins))
+invariant-coins l = (b : Book) → HasBook l.initial.self b → HasRest true l.self (take_all (Some b) (take l.at l.coins))

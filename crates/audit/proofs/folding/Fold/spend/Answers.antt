@@ -2,7 +2,7 @@ use Rattle.std.proofs.Common.{◌≡◌, ◌+◌, Some, None, refl, subst, arith
 use Rattle.std.specs.Prelude.{MatchOption}
 use Rattle.cbdc_model.specs.Book.{spend}
 use Rattle.cbdc_model.specs.History.{first_with}
-use Rattle.audit.specs.Keeping.{IsLeft}
+use Rattle.audit.specs.Keeping.{HasRest}
 use Rattle.audit.proofs.Indexing.{first_has_id}
 use Rattle.audit.proofs.Spendings.{spent_more, not_left}
 use Rattle.audit.proofs.folding.Fold.spend.Goals as goal
@@ -25,7 +25,7 @@ returns-then-not-branch c = λ mint forms index h.
           c.in-Some.tx.now,
           first,
           not_left c.spend.new.self (spend h.left c.in-Some.tx.now)
-              (subst (λ t. IsLeft t c.spend.new.self (spend h.left c.in-Some.tx.now)) c.if-not-branch.true (c.in_ok-spend.ensures h.left h.keeps)),
+              (subst (λ t. HasRest t c.spend.new.self (spend h.left c.in-Some.tx.now)) c.if-not-branch.true (c.in_ok-spend.ensures h.left h.keeps)),
         ),
       ),
     )
@@ -36,7 +36,7 @@ returns c = λ mint forms index h.
     = subst (λ o. MatchOption o (first_with c.args.handed.now c.args.form.now ≡ None) (λ t. first_with c.args.handed.now c.args.form.now ≡ Some t.now)) c.in-Some.is (c.first_with.ensures index) in
     let count : c.in-Some-checked_add.committed ≡ c.args.self.now.committed + 1 = grind arith in
     spent_more mint c.args.handed.now forms c.args.form.now c.in-Some.tx.now c.args.self.now (record { book = c.spend.new.self; committed = c.in-Some-checked_add.committed }) h first
-    (λ b k. subst (λ t. IsLeft t c.spend.new.self (spend b c.in-Some.tx.now)) c.if-not-branch.false (c.in_ok-spend.ensures b k)) count
+    (λ b k. subst (λ t. HasRest t c.spend.new.self (spend b c.in-Some.tx.now)) c.if-not-branch.false (c.in_ok-spend.ensures b k)) count
 
 pub spend-requires : goal.spend-requires
 spend-requires c =

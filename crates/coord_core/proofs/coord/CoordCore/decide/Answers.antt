@@ -1,6 +1,6 @@
 use Rattle.std.proofs.Common.{arith, ◌≡◌, suc, max, ap, sym, ◌∙◌, length, refl}
 use Rattle.cbdc_model.specs.Deciding.{decided, reply_cause}
-use Rattle.coord_core.specs.Decided.{combined}
+use Rattle.coord_core.specs.Decided.{combined_outcomes}
 use Rattle.coord_core.proofs.Walks.{latest-ge, length-combined, slot_is, rises_within}
 use Rattle.coord_core.proofs.Deciding.{decided_is, latest_is}
 use Rattle.coord_core.proofs.coord.CoordCore.decide.Goals as goal
@@ -11,7 +11,7 @@ returns-clause-decided c = λ txs masks are.
     let stamp : c.commit_stamp-stamp.result ≡ suc (max c.args.self.now.last (reply_cause K c.args.replies.now)) =
     c.commit_stamp-stamp.ensures.value ∙ ap suc (latest_is K c.args.self.now.last c.args.replies.now are.rising) in
     let outcomes : c.outcomes.result ≡ decided K txs c.args.replies.now =
-    c.outcomes.ensures.value ∙ ap (λ ms. combined ms c.args.replies.now) masks ∙ decided_is K txs c.args.replies.now are in
+    c.outcomes.ensures.value ∙ ap (λ ms. combined_outcomes ms c.args.replies.now) masks ∙ decided_is K txs c.args.replies.now are in
     rw (stamp, outcomes, c.number.ensures.value) refl
 
 pub returns-clause-next : goal.returns-clause-next

@@ -10,16 +10,16 @@ use Rattle.cbdc_model.specs.Sights.{IsSameNode}
 use Rattle.std.proofs.lemmas.List.{length-map}
 use Rattle.coord_core.specs.Masks.{mask_of}
 use Rattle.coord_core.proofs.Walks.{length-combined}
-use Rattle.coord_core.specs.Decided.{latest, combined, AreRepliesTo}
+use Rattle.coord_core.specs.Decided.{latest_reply, combined_outcomes, AreRepliesTo}
 use Rattle.coord_core.specs.Hashes.{AllNameBatches}
-use Rattle.coord_core.specs.Lanes.{IsOwn, lane_at, open_batch as core_batch}
+use Rattle.coord_core.specs.Lanes.{IsOwnLane, coord_lane, core_batch}
 use Rattle.coord_log.specs.Logs.{commit_due}
 use Rattle.node_journal.specs.Nodes.{NodeOf, sight, HoldsJournal, LeavesBetween}
 use Rattle.node_journal.specs.Shown.{shown}
-use Rattle.coord_log.proofs.Owed.{told_ok, told_err, breaks_err, own_lane, own_phase, batch_is}
+use Rattle.coord_log.proofs.Owed.{told_ok, told_err, breaks_err, own_lane, own_phase, core_batch_is}
 use Rattle.coord_log.proofs.Deciding.{commit_owed, commit_late, decide_owed, decide_late, decide_ready, told_is}
-use Rattle.node_journal.proofs.Leaving.{still}
-use Rattle.coord_log.proofs.Flying.{same_lane, kept_own, flown_own}
+use Rattle.node_journal.proofs.Leaving.{leaves_as_it_was}
+use Rattle.coord_log.proofs.Flying.{is_itself, kept_own, flown_own}
 use Rattle.coord_log.proofs.log.CoordLog.decide.Goals as goal
 
 pub write-requires : goal.write-requires
@@ -28,17 +28,17 @@ write-requires g c =
     let core = c.self.inside.core in
     let sound = c.self.invariant in
     let whole : broken_of c.self.inside.log.journal ≡ None = sym c.is_broken.ensures ∙ c.in-None.is in
-    let own : IsOwn c.self.inside.core.header c.args.lane = own_lane l core c.self.inside.opened c.self.inside.flight c.args.self.now c.args.lane c.self.view_is sound.on.header c.requires.own in
+    let own : IsOwnLane c.self.inside.core.header c.args.lane = own_lane l core c.self.inside.opened c.self.inside.flight c.args.self.now c.args.lane c.self.view_is sound.on.header c.requires.own in
     let phase = own_phase l c.self.inside.opened c.self.inside.flight c.args.self.now c.args.lane InPrepare c.self.view_is c.requires.prepared in
-    let late : suc (latest c.self.inside.core.last c.args.replies.now) ≤ last_late = omega (arith, c.commit_stamp-stamp.ensures.value, c.stamp.view_is, c.if-stamp-gt-LAST_STAMP.false) in
+    let late : suc (latest_reply c.self.inside.core.last c.args.replies.now) ≤ last_late = omega (arith, c.commit_stamp-stamp.ensures.value, c.stamp.view_is, c.if-stamp-gt-LAST_STAMP.false) in
     let shape : c.args.self.now.header ≡ c.self.inside.core.header = ap (λ x. x.header) (sym c.self.view_is) ∙ sym sound.on.header in
     let N : Header → Type 0 = λ h. AllNameBatches h.shape c.args.replies.now in
     let named = subst N shape c.requires.named in
     let O : Header → Type 0 = λ h. All (λ o. IsOutcome h.shape o) (outcomes_in (Some c.decide-next.result)) in
     let outcomes = subst O sound.on.header (c.decide-next.ensures.outcomes named) in
     let R : Record → Type 0 = λ x. All (λ o. IsOutcome c.self.inside.log.header.shape o) (outcomes_in (Some x)) in
-    decide_ready l core c.decide-next.new.self c.self.inside.flight c.args.lane (suc (latest c.self.inside.core.last c.args.replies.now))
-    (combined (lane_at c.self.inside.core c.args.lane).masks c.args.replies.now) c.decide-next.result c.decide-next.ensures.whole c.decide-next.ensures.same c.decide-next.ensures.others
+    decide_ready l core c.decide-next.new.self c.self.inside.flight c.args.lane (suc (latest_reply c.self.inside.core.last c.args.replies.now))
+    (combined_outcomes (coord_lane c.self.inside.core c.args.lane).masks c.args.replies.now) c.decide-next.result c.decide-next.ensures.whole c.decide-next.ensures.same c.decide-next.ensures.others
     sound.on whole (sound.ready whole) own phase (omega arith) late c.decide-next.ensures.«record» (subst R c.decide-next.ensures.«record» outcomes) (c.decide-next.ensures.next late)
 
 pub returns-then-stamp-gt-LAST_STAMP-clause-meets : goal.returns-then-stamp-gt-LAST_STAMP-clause-meets
@@ -59,7 +59,7 @@ returns-in-Err-clause-meets g c = λ are.
     let core = c.self.inside.core in
     let sound = c.self.invariant in
     let whole : broken_of c.self.inside.log.journal ≡ None = sym c.is_broken.ensures ∙ c.in-None.is in
-    let own : IsOwn c.self.inside.core.header c.args.lane = own_lane l core c.self.inside.opened c.self.inside.flight c.args.self.now c.args.lane c.self.view_is sound.on.header c.requires.own in
+    let own : IsOwnLane c.self.inside.core.header c.args.lane = own_lane l core c.self.inside.opened c.self.inside.flight c.args.self.now c.args.lane c.self.view_is sound.on.header c.requires.own in
     let phase = own_phase l c.self.inside.opened c.self.inside.flight c.args.self.now c.args.lane InPrepare c.self.view_is c.requires.prepared in
     let shape : c.args.self.now.header.shape ≡ c.self.inside.core.header.shape = ap (λ x. x.header.shape) (sym c.self.view_is) ∙ ap (λ h. h.shape) (sym sound.on.header) in
     let J : List Record → Type 0 = λ x. AreRepliesTo c.args.self.now.header.shape (txs_of x (open_batch x c.args.lane)) c.args.replies.now in
@@ -79,7 +79,7 @@ returns-clause-meets g c = λ are.
     let core = c.self.inside.core in
     let sound = c.self.invariant in
     let whole : broken_of c.self.inside.log.journal ≡ None = sym c.is_broken.ensures ∙ c.in-None.is in
-    let own : IsOwn c.self.inside.core.header c.args.lane = own_lane l core c.self.inside.opened c.self.inside.flight c.args.self.now c.args.lane c.self.view_is sound.on.header c.requires.own in
+    let own : IsOwnLane c.self.inside.core.header c.args.lane = own_lane l core c.self.inside.opened c.self.inside.flight c.args.self.now c.args.lane c.self.view_is sound.on.header c.requires.own in
     let phase = own_phase l c.self.inside.opened c.self.inside.flight c.args.self.now c.args.lane InPrepare c.self.view_is c.requires.prepared in
     let shape : c.args.self.now.header.shape ≡ c.self.inside.core.header.shape = ap (λ x. x.header.shape) (sym c.self.view_is) ∙ ap (λ h. h.shape) (sym sound.on.header) in
     let J : List Record → Type 0 = λ x. AreRepliesTo c.args.self.now.header.shape (txs_of x (open_batch x c.args.lane)) c.args.replies.now in
@@ -93,13 +93,13 @@ returns-clause-meets g c = λ are.
 pub returns-clause-appended : goal.returns-clause-appended
 returns-clause-appended g c =
     let core = c.self.inside.core in
-    let own : IsOwn c.self.inside.core.header c.args.lane = own_lane c.self.inside.log core c.self.inside.opened c.self.inside.flight c.args.self.now c.args.lane c.self.view_is c.self.invariant.on.header c.requires.own in
+    let own : IsOwnLane c.self.inside.core.header c.args.lane = own_lane c.self.inside.log core c.self.inside.opened c.self.inside.flight c.args.self.now c.args.lane c.self.view_is c.self.invariant.on.header c.requires.own in
     let journal : reverse c.self.inside.log.records.items ≡ c.args.self.now.journal = ap (λ x. x.journal) c.self.view_is in
-    let os : List Outcome = combined (lane_at c.self.inside.core c.args.lane).masks c.args.replies.now in
-    let made : c.decide-next.result ≡ Commit c.commit_stamp-stamp.result (core_batch c.self.inside.core c.args.lane) (combined (lane_at c.self.inside.core c.args.lane).masks c.args.replies.now) =
-    c.decide-next.ensures.«record» ∙ ap (λ t. Commit t (core_batch c.self.inside.core c.args.lane) (combined (lane_at c.self.inside.core c.args.lane).masks c.args.replies.now)) (sym c.commit_stamp-stamp.ensures.value) in
+    let os : List Outcome = combined_outcomes (coord_lane c.self.inside.core c.args.lane).masks c.args.replies.now in
+    let made : c.decide-next.result ≡ Commit c.commit_stamp-stamp.result (core_batch c.self.inside.core c.args.lane) (combined_outcomes (coord_lane c.self.inside.core c.args.lane).masks c.args.replies.now) =
+    c.decide-next.ensures.«record» ∙ ap (λ t. Commit t (core_batch c.self.inside.core c.args.lane) (combined_outcomes (coord_lane c.self.inside.core c.args.lane).masks c.args.replies.now)) (sym c.commit_stamp-stamp.ensures.value) in
     let is = told_is c.decide-next.result c.commit_stamp-stamp.result (core_batch c.self.inside.core c.args.lane) (open_batch (reverse c.self.inside.log.records.items) c.args.lane) os c.tell.new.out.items
-    made (batch_is core (reverse c.self.inside.log.records.items) c.args.lane c.self.invariant.on.stands own) c.tell.ensures in
+    made (core_batch_is core (reverse c.self.inside.log.records.items) c.args.lane c.self.invariant.on.stands own) c.tell.ensures in
     (c.in-Ok.ensures.told c.self.inside.opened).seen ∙ ap (λ x. x ∷ reverse c.self.inside.log.records.items) is
     ∙ ap (λ x. Commit c.commit_stamp-stamp.result (open_batch x c.args.lane) c.tell.new.out.items ∷ x) journal
 
@@ -113,14 +113,14 @@ pub returns-clause-count : goal.returns-clause-count
 returns-clause-count g c =
     let core = c.self.inside.core in
     let sound = c.self.invariant in
-    let own : IsOwn c.self.inside.core.header c.args.lane = own_lane c.self.inside.log core c.self.inside.opened c.self.inside.flight c.args.self.now c.args.lane c.self.view_is sound.on.header c.requires.own in
+    let own : IsOwnLane c.self.inside.core.header c.args.lane = own_lane c.self.inside.log core c.self.inside.opened c.self.inside.flight c.args.self.now c.args.lane c.self.view_is sound.on.header c.requires.own in
     let phase = own_phase c.self.inside.log c.self.inside.opened c.self.inside.flight c.args.self.now c.args.lane InPrepare c.self.view_is c.requires.prepared in
     let J : List Record → Type 0 = λ x. length c.tell.new.out.items ≡ length (txs_of x (open_batch x c.args.lane)) in
     let txs = txs_of (reverse c.self.inside.log.records.items) (open_batch (reverse c.self.inside.log.records.items) c.args.lane) in
-    let told : c.tell.new.out.items ≡ combined (lane_at c.self.inside.core c.args.lane).masks c.args.replies.now = c.tell.ensures ∙ ap (λ x. outcomes_in (Some x)) c.decide-next.ensures.«record» in
-    let masks : length (lane_at c.self.inside.core c.args.lane).masks ≡ length (txs_of (reverse c.self.inside.log.records.items) (open_batch (reverse c.self.inside.log.records.items) c.args.lane)) =
+    let told : c.tell.new.out.items ≡ combined_outcomes (coord_lane c.self.inside.core c.args.lane).masks c.args.replies.now = c.tell.ensures ∙ ap (λ x. outcomes_in (Some x)) c.decide-next.ensures.«record» in
+    let masks : length (coord_lane c.self.inside.core c.args.lane).masks ≡ length (txs_of (reverse c.self.inside.log.records.items) (open_batch (reverse c.self.inside.log.records.items) c.args.lane)) =
     ap length (sound.on.stands.masks c.args.lane own phase) ∙ length-map txs (λ t. mask_of c.self.inside.core.header.shape.shards t) in
-    subst J (ap (λ x. x.journal) c.self.view_is) (ap length told ∙ length-combined (lane_at c.self.inside.core c.args.lane).masks c.args.replies.now ∙ masks)
+    subst J (ap (λ x. x.journal) c.self.view_is) (ap length told ∙ length-combined (coord_lane c.self.inside.core c.args.lane).masks c.args.replies.now ∙ masks)
 
 pub returns-in-Some-clause-fault : goal.returns-in-Some-clause-fault
 returns-in-Some-clause-fault g c =
@@ -157,10 +157,10 @@ pub returns-in-Err-clause-as_before : goal.returns-in-Err-clause-as_before
 returns-in-Err-clause-as_before g c = (c.in-Err.ensures.told c.self.inside.opened).1.seen ∙ ap (λ x. x.journal) c.self.view_is
 
 pub returns-in-Some-clause-leaves : goal.returns-in-Some-clause-leaves
-returns-in-Some-clause-leaves g c = still g.D.Disk c.args.self.now (g.met.D.Disk.only_now c.args.self.now.disk)
+returns-in-Some-clause-leaves g c = leaves_as_it_was g.D.Disk c.args.self.now (g.met.D.Disk.only_now c.args.self.now.disk)
 
 pub returns-then-stamp-gt-LAST_STAMP-clause-leaves : goal.returns-then-stamp-gt-LAST_STAMP-clause-leaves
-returns-then-stamp-gt-LAST_STAMP-clause-leaves g c = still g.D.Disk c.args.self.now (g.met.D.Disk.only_now c.args.self.now.disk)
+returns-then-stamp-gt-LAST_STAMP-clause-leaves g c = leaves_as_it_was g.D.Disk c.args.self.now (g.met.D.Disk.only_now c.args.self.now.disk)
 
 pub returns-in-Err-clause-leaves : goal.returns-in-Err-clause-leaves
 returns-in-Err-clause-leaves g c =
@@ -183,7 +183,7 @@ returns-then-stamp-gt-LAST_STAMP-clause-own g c = kept_own c.args.lane c.args.se
 pub returns-in-Err-clause-own : goal.returns-in-Err-clause-own
 returns-in-Err-clause-own g c =
     flown_own c.args.lane c.args.self.now.flight c.write.new.flight c.decide-next.result (c.in-Err.ensures.told c.self.inside.opened).1.flight
-    (subst (λ r. is_in_lane c.args.lane r ≡ true) (sym c.decide-next.ensures.«record») (same_lane c.args.lane))
+    (subst (λ r. is_in_lane c.args.lane r ≡ true) (sym c.decide-next.ensures.«record») (is_itself c.args.lane))
 
 pub returns-clause-own : goal.returns-clause-own
 returns-clause-own g c = kept_own c.args.lane c.args.self.now.flight c.write.new.flight ((c.in-Ok.ensures.told c.self.inside.opened).flight ∙ ap (λ x. x.flight) c.self.view_is)

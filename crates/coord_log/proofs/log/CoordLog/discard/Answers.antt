@@ -2,12 +2,12 @@ use Rattle.std.proofs.Common.{◌≡◌, ◌≤◌, ℕ, suc, max, sym, ◌∙�
 use Rattle.gate_journal.specs.Shown.{broken_of}
 use Rattle.cbdc_model.specs.Due.{last_late, discard_due}
 use Rattle.cbdc_model.specs.Slots.{InCommit}
-use Rattle.coord_core.specs.Lanes.{CoordOf, IsNext, IsOwn}
+use Rattle.coord_core.specs.Lanes.{CoordOf, CoordAdmits, IsOwnLane}
 use Rattle.node_journal.specs.Nodes.{NodeOf, HoldsJournal, LeavesBetween}
 use Rattle.node_journal.specs.Shown.{shown}
 use Rattle.coord_log.specs.Inside.{IsDue}
 use Rattle.coord_log.proofs.Owed.{told_ok, told_err, breaks_err, own_lane, own_phase, discard_owed, discard_ready}
-use Rattle.node_journal.proofs.Leaving.{still}
+use Rattle.node_journal.proofs.Leaving.{leaves_as_it_was}
 use Rattle.coord_log.proofs.log.CoordLog.discard.Goals as goal
 
 pub write-requires : goal.write-requires
@@ -16,10 +16,10 @@ write-requires g c =
     let core = c.self.inside.core in
     let sound = c.self.invariant in
     let whole : broken_of c.self.inside.log.journal ≡ None = sym c.is_broken.ensures ∙ c.in-None.is in
-    let own : IsOwn c.self.inside.core.header c.args.lane = own_lane l core c.self.inside.opened c.self.inside.flight c.args.self.now c.args.lane c.self.view_is sound.on.header c.requires.own in
+    let own : IsOwnLane c.self.inside.core.header c.args.lane = own_lane l core c.self.inside.opened c.self.inside.flight c.args.self.now c.args.lane c.self.view_is sound.on.header c.requires.own in
     let phase = own_phase l c.self.inside.opened c.self.inside.flight c.args.self.now c.args.lane InCommit c.self.view_is c.requires.committed in
     let late : suc (max c.self.inside.core.last c.args.cause) ≤ last_late = omega (arith, c.after-stamp.ensures.value, c.stamp.view_is, c.if-stamp-gt-LAST_STAMP.false) in
-    let N : CoordOf → Type 0 = λ x. IsNext x c.discard-next.result in
+    let N : CoordOf → Type 0 = λ x. CoordAdmits x c.discard-next.result in
     let next = subst N c.discard-next.ensures.same (c.discard-next.ensures.next late) in
     let P : CoordOf → Type 0 = λ x. IsDue c.self.inside.log x c.self.inside.flight c.discard-next.result in
     subst P (sym c.discard-next.ensures.same)
@@ -31,7 +31,7 @@ returns-in-Err-clause-meets g c =
     let l = c.self.inside.log in
     let core = c.self.inside.core in
     let whole : broken_of c.self.inside.log.journal ≡ None = sym c.is_broken.ensures ∙ c.in-None.is in
-    let own : IsOwn c.self.inside.core.header c.args.lane = own_lane l core c.self.inside.opened c.self.inside.flight c.args.self.now c.args.lane c.self.view_is c.self.invariant.on.header c.requires.own in
+    let own : IsOwnLane c.self.inside.core.header c.args.lane = own_lane l core c.self.inside.opened c.self.inside.flight c.args.self.now c.args.lane c.self.view_is c.self.invariant.on.header c.requires.own in
     told_err false (λ broken J. discard_due c.args.lane c.args.cause broken J) l c.write.new.log c.self.inside.opened c.self.inside.flight c.write.new.flight c.args.self.now c.after-stamp.result c.discard-next.result c.in-Err.fault
     c.self.view_is
     (discard_owed core _ _ c.args.lane c.args.cause c.after-stamp.result c.discard-next.result c.self.invariant.on.stands own whole c.after-stamp.ensures.value
@@ -46,7 +46,7 @@ returns-clause-meets g c =
     let l = c.self.inside.log in
     let core = c.self.inside.core in
     let whole : broken_of c.self.inside.log.journal ≡ None = sym c.is_broken.ensures ∙ c.in-None.is in
-    let own : IsOwn c.self.inside.core.header c.args.lane = own_lane l core c.self.inside.opened c.self.inside.flight c.args.self.now c.args.lane c.self.view_is c.self.invariant.on.header c.requires.own in
+    let own : IsOwnLane c.self.inside.core.header c.args.lane = own_lane l core c.self.inside.opened c.self.inside.flight c.args.self.now c.args.lane c.self.view_is c.self.invariant.on.header c.requires.own in
     told_ok false (λ broken J. discard_due c.args.lane c.args.cause broken J) l c.write.new.log c.self.inside.opened c.self.inside.flight c.write.new.flight c.args.self.now c.after-stamp.result c.discard-next.result
     c.self.view_is
     (discard_owed core _ _ c.args.lane c.args.cause c.after-stamp.result c.discard-next.result c.self.invariant.on.stands own whole c.after-stamp.ensures.value
@@ -54,10 +54,10 @@ returns-clause-meets g c =
     (c.in-Ok.ensures.told c.self.inside.opened)
 
 pub returns-in-Some-clause-leaves : goal.returns-in-Some-clause-leaves
-returns-in-Some-clause-leaves g c = still g.D.Disk c.args.self.now (g.met.D.Disk.only_now c.args.self.now.disk)
+returns-in-Some-clause-leaves g c = leaves_as_it_was g.D.Disk c.args.self.now (g.met.D.Disk.only_now c.args.self.now.disk)
 
 pub returns-then-stamp-gt-LAST_STAMP-clause-leaves : goal.returns-then-stamp-gt-LAST_STAMP-clause-leaves
-returns-then-stamp-gt-LAST_STAMP-clause-leaves g c = still g.D.Disk c.args.self.now (g.met.D.Disk.only_now c.args.self.now.disk)
+returns-then-stamp-gt-LAST_STAMP-clause-leaves g c = leaves_as_it_was g.D.Disk c.args.self.now (g.met.D.Disk.only_now c.args.self.now.disk)
 
 pub returns-in-Err-clause-leaves : goal.returns-in-Err-clause-leaves
 returns-in-Err-clause-leaves g c =

@@ -1,5 +1,5 @@
 use Rattle.std.proofs.Common.{sym, ◌∙◌, subst}
-use Rattle.record_log.specs.Logs.{HasRoom}
+use Rattle.record_log.specs.Logs.{HasLogRoom}
 use Rattle.std.proofs.Common.{ℕ}
 use Rattle.node_journal.specs.Nodes.{NodeOf, HoldsJournal}
 use Rattle.node_journal.proofs.Leaving.{same_opened}
@@ -11,7 +11,7 @@ use Rattle.coord_log.proofs.log.CoordLog.open.Goals as goal
 pub of_parts-requires : goal.of_parts-requires
 of_parts-requires g c =
     let o = c.in-Ok.field-0 in
-    let N : ℕ → Type 0 = λ n. HasRoom c.reserve.new.self n largest in
+    let N : ℕ → Type 0 = λ n. HasLogRoom c.reserve.new.self n largest in
     opened_sound o.log c.reserve.new.self o.core c.in-Ok.ensures.opened c.records_ahead.ensures.whole c.reserve.ensures.untouched c.reserve.ensures.records c.reserve.ensures.header
     (subst N c.records_ahead.ensures.value c.in-Ok-reserve.ensures.room)
 

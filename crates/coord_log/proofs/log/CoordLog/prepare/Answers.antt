@@ -6,13 +6,13 @@ use Rattle.cbdc_model.specs.After.{IsJournal}
 use Rattle.cbdc_types.specs.declared.calls.NodeFault.TheVariants.{Full}
 use Rattle.cbdc_model.specs.Due.{Answers, Writes, last_early, prepare_due}
 use Rattle.cbdc_model.specs.Sights.{Stays}
-use Rattle.coord_core.specs.Lanes.{IsOwn, kept_of, next_batch}
+use Rattle.coord_core.specs.Lanes.{IsOwnLane, kept_of, next_core_batch}
 use Rattle.node_journal.specs.Nodes.{NodeOf, sight, HoldsJournal, LeavesBetween}
 use Rattle.node_journal.specs.Shown.{shown}
 use Rattle.coord_log.proofs.Owed.{told_ok, told_err, breaks_err, own_lane}
 use Rattle.coord_log.proofs.Preparing.{Prepares, sound_kept, room_refused, exact_size, prepare_small, prepare_ready, prepare_owed, prepare_full}
 use Rattle.node_journal.proofs.Leaving.{shown_same}
-use Rattle.node_journal.proofs.Leaving.{still, still_seen}
+use Rattle.node_journal.proofs.Leaving.{leaves_as_it_was, leaves_as_seen}
 use Rattle.coord_log.proofs.log.CoordLog.prepare.Goals as goal
 
 pub make_room-requires-clause-size : goal.make_room-requires-clause-size
@@ -20,8 +20,8 @@ make_room-requires-clause-size g c =
     let shape : c.args.self.now.header ≡ c.self.inside.log.header = ap (λ x. x.header) (sym c.self.view_is) in
     let B : Header → Type 0 = λ h. length c.args.txs.now ≤ h.shape.batch in
     let count : length c.args.txs.now ≤ c.self.inside.log.header.shape.batch = subst B shape c.requires.limit in
-    let small = prepare_small (c.self.inside.core.last + 1) (next_batch c.self.inside.core c.args.lane) c.args.txs.now c.requires.short (omega (arith, count, c.self.invariant.on.limits.batch)) in
-    let is : size_of c.in-Ok.next ≡ size_of (Prepare (c.self.inside.core.last + 1) (next_batch c.self.inside.core c.args.lane) c.args.txs.now) = ap size_of c.in-Ok.ensures.«record» in
+    let small = prepare_small (c.self.inside.core.last + 1) (next_core_batch c.self.inside.core c.args.lane) c.args.txs.now c.requires.short (omega (arith, count, c.self.invariant.on.limits.batch)) in
+    let is : size_of c.in-Ok.next ≡ size_of (Prepare (c.self.inside.core.last + 1) (next_core_batch c.self.inside.core c.args.lane) c.args.txs.now) = ap size_of c.in-Ok.ensures.«record» in
     omega (arith, small, is, c.size_of_record.ensures)
 
 pub invariant_of-self-in-Err : goal.invariant_of-self-in-Err
@@ -36,7 +36,7 @@ returns-in-Err-clause-meets g c =
     let count : length c.args.txs.now ≤ c.self.inside.log.header.shape.batch = subst B shape c.requires.limit in
     let sound = c.self.invariant in
     let whole : broken_of c.self.inside.log.journal ≡ None = sym c.is_broken.ensures ∙ c.in-None.is in
-    let own : IsOwn c.self.inside.core.header c.args.lane = own_lane c.self.inside.log c.self.inside.core c.self.inside.opened c.self.inside.flight c.args.self.now c.args.lane c.self.view_is sound.on.header c.requires.own in
+    let own : IsOwnLane c.self.inside.core.header c.args.lane = own_lane c.self.inside.log c.self.inside.core c.self.inside.opened c.self.inside.flight c.args.self.now c.args.lane c.self.view_is sound.on.header c.requires.own in
     let size : c.size_of_record.result ≡ size_of c.in-Ok.next =
     exact_size c.self.inside.core c.args.lane c.size_of_record.result c.self.inside.log.header.shape.batch c.args.txs.now c.in-Ok.next c.in-Ok.ensures.«record» c.requires.short count sound.on.limits.batch c.size_of_record.ensures in
     let p : Prepares c.self.inside.core c.prepare.new.self c.args.self.now.header.shape (reverse c.self.inside.log.records.items) (broken_of c.self.inside.log.journal) c.args.lane c.size_of_record.result
@@ -76,11 +76,11 @@ write-requires g c =
     let count : length c.args.txs.now ≤ c.self.inside.log.header.shape.batch = subst B shape c.requires.limit in
     let sound = c.self.invariant in
     let whole : broken_of c.self.inside.log.journal ≡ None = sym c.is_broken.ensures ∙ c.in-None.is in
-    let own : IsOwn c.self.inside.core.header c.args.lane = own_lane c.self.inside.log c.self.inside.core c.self.inside.opened c.self.inside.flight c.args.self.now c.args.lane c.self.view_is sound.on.header c.requires.own in
+    let own : IsOwnLane c.self.inside.core.header c.args.lane = own_lane c.self.inside.log c.self.inside.core c.self.inside.opened c.self.inside.flight c.args.self.now c.args.lane c.self.view_is sound.on.header c.requires.own in
     let size : c.size_of_record.result ≡ size_of c.in-Ok.next =
     exact_size c.self.inside.core c.args.lane c.size_of_record.result c.self.inside.log.header.shape.batch c.args.txs.now c.in-Ok.next c.in-Ok.ensures.«record» c.requires.short count sound.on.limits.batch c.size_of_record.ensures in
     let count' : length c.args.txs.now ≤ c.self.inside.core.header.shape.batch = subst B (sym sound.on.header) count in
-    let both : Prepare c.in-Prepare.stamp c.in-Prepare.batch c.in-Prepare.txs ≡ Prepare (c.self.inside.core.last + 1) (next_batch c.self.inside.core c.args.lane) c.args.txs.now = sym c.in-Prepare.is ∙ c.in-Ok.ensures.«record» in
+    let both : Prepare c.in-Prepare.stamp c.in-Prepare.batch c.in-Prepare.txs ≡ Prepare (c.self.inside.core.last + 1) (next_core_batch c.self.inside.core c.args.lane) c.args.txs.now = sym c.in-Prepare.is ∙ c.in-Ok.ensures.«record» in
     let stamp : c.in-Prepare.stamp ≡ c.self.inside.core.last + 1 = cc in
     let early : c.self.inside.core.last + 1 ≤ last_early = omega (arith, stamp, c.stamp.view_is, c.if-stamp-gt-LAST_PREPARE.false) in
     prepare_ready c.self.inside.log c.make_room.new.log c.self.inside.core c.prepare.new.self c.self.inside.flight c.args.lane c.size_of_record.result c.args.txs.now c.in-Ok.next
@@ -98,7 +98,7 @@ returns-in-Err-write-clause-meets g c =
     let count : length c.args.txs.now ≤ c.self.inside.log.header.shape.batch = subst B shape c.requires.limit in
     let sound = c.self.invariant in
     let whole : broken_of c.self.inside.log.journal ≡ None = sym c.is_broken.ensures ∙ c.in-None.is in
-    let own : IsOwn c.self.inside.core.header c.args.lane = own_lane c.self.inside.log c.self.inside.core c.self.inside.opened c.self.inside.flight c.args.self.now c.args.lane c.self.view_is sound.on.header c.requires.own in
+    let own : IsOwnLane c.self.inside.core.header c.args.lane = own_lane c.self.inside.log c.self.inside.core c.self.inside.opened c.self.inside.flight c.args.self.now c.args.lane c.self.view_is sound.on.header c.requires.own in
     let size : c.size_of_record.result ≡ size_of c.in-Ok.next =
     exact_size c.self.inside.core c.args.lane c.size_of_record.result c.self.inside.log.header.shape.batch c.args.txs.now c.in-Ok.next c.in-Ok.ensures.«record» c.requires.short count sound.on.limits.batch c.size_of_record.ensures in
     let p : Prepares c.self.inside.core c.prepare.new.self c.args.self.now.header.shape (reverse c.self.inside.log.records.items) (broken_of c.self.inside.log.journal) c.args.lane c.size_of_record.result
@@ -138,7 +138,7 @@ returns-clause-meets g c =
     let count : length c.args.txs.now ≤ c.self.inside.log.header.shape.batch = subst B shape c.requires.limit in
     let sound = c.self.invariant in
     let whole : broken_of c.self.inside.log.journal ≡ None = sym c.is_broken.ensures ∙ c.in-None.is in
-    let own : IsOwn c.self.inside.core.header c.args.lane = own_lane c.self.inside.log c.self.inside.core c.self.inside.opened c.self.inside.flight c.args.self.now c.args.lane c.self.view_is sound.on.header c.requires.own in
+    let own : IsOwnLane c.self.inside.core.header c.args.lane = own_lane c.self.inside.log c.self.inside.core c.self.inside.opened c.self.inside.flight c.args.self.now c.args.lane c.self.view_is sound.on.header c.requires.own in
     let size : c.size_of_record.result ≡ size_of c.in-Ok.next =
     exact_size c.self.inside.core c.args.lane c.size_of_record.result c.self.inside.log.header.shape.batch c.args.txs.now c.in-Ok.next c.in-Ok.ensures.«record» c.requires.short count sound.on.limits.batch c.size_of_record.ensures in
     let p : Prepares c.self.inside.core c.prepare.new.self c.args.self.now.header.shape (reverse c.self.inside.log.records.items) (broken_of c.self.inside.log.journal) c.args.lane c.size_of_record.result
@@ -166,16 +166,16 @@ returns-clause-meets g c =
     c.args.self.now (c.in-Prepare.batch, c.in-Prepare.stamp) c.in-Ok.next now (subst O (c.self.view_is ∙ sym now) owed) (c.in-Ok-write.ensures.told c.self.inside.opened)
 
 pub returns-in-Some-clause-leaves : goal.returns-in-Some-clause-leaves
-returns-in-Some-clause-leaves g c = still g.D.Disk c.args.self.now (g.met.D.Disk.only_now c.args.self.now.disk)
+returns-in-Some-clause-leaves g c = leaves_as_it_was g.D.Disk c.args.self.now (g.met.D.Disk.only_now c.args.self.now.disk)
 
 pub returns-then-stamp-gt-LAST_PREPARE-clause-leaves : goal.returns-then-stamp-gt-LAST_PREPARE-clause-leaves
-returns-then-stamp-gt-LAST_PREPARE-clause-leaves g c = still_seen g.D.Disk c.args.self.now _ c.self.view_is (g.met.D.Disk.only_now c.args.self.now.disk)
+returns-then-stamp-gt-LAST_PREPARE-clause-leaves g c = leaves_as_seen g.D.Disk c.args.self.now _ c.self.view_is (g.met.D.Disk.only_now c.args.self.now.disk)
 
 pub returns-in-Err-clause-leaves : goal.returns-in-Err-clause-leaves
 returns-in-Err-clause-leaves g c =
     let now : shown c.make_room.new.log c.self.inside.opened c.self.inside.flight ≡ c.args.self.now =
     shown_same c.self.inside.log c.make_room.new.log c.self.inside.opened c.self.inside.flight c.make_room.ensures.untouched c.make_room.ensures.records c.make_room.ensures.header ∙ c.self.view_is in
-    still_seen g.D.Disk c.args.self.now (shown c.make_room.new.log c.self.inside.opened c.self.inside.flight) now (g.met.D.Disk.only_now c.args.self.now.disk)
+    leaves_as_seen g.D.Disk c.args.self.now (shown c.make_room.new.log c.self.inside.opened c.self.inside.flight) now (g.met.D.Disk.only_now c.args.self.now.disk)
 
 pub returns-in-Err-write-clause-leaves : goal.returns-in-Err-write-clause-leaves
 returns-in-Err-write-clause-leaves g c =

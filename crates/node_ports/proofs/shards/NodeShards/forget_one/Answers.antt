@@ -4,7 +4,7 @@ use Rattle.cbdc_model.specs.Due.{forget_due}
 use Rattle.cbdc_model.specs.Sights.{Sight, Told}
 use Rattle.node_journal.specs.Nodes.{sight}
 use Rattle.node_ports.specs.Nodes.{IsNodeHeld}
-use Rattle.node_ports.proofs.Places.{old_is, turned, set_elsewhere, turned_nodes, turned_faults, turned_held}
+use Rattle.node_ports.proofs.Places.{old_is, one_turned, set_elsewhere, turned_nodes, turned_faults, turned_held}
 use Rattle.node_ports.proofs.shards.NodeShards.forget_one.Goals as goal
 
 pub forget-requires-clause-call : goal.forget-requires-clause-call
@@ -13,7 +13,7 @@ forget-requires-clause-call g c =
 
 pub returns-clause-answer : goal.returns-clause-answer
 returns-clause-answer g c =
-    turned sight c.args.self.now.nodes.items c.args.shard c.index_mut.result.now _ c.requires.place c.index_mut.ensures.value (λ a b. Told true c.args.call.now.batch.lane false (forget_due c.args.call.now) a b c.forget.result) (search rules)
+    one_turned sight c.args.self.now.nodes.items c.args.shard c.index_mut.result.now _ c.requires.place c.index_mut.ensures.value (λ a b. Told true c.args.call.now.batch.lane false (forget_due c.args.call.now) a b c.forget.result) (search rules)
 
 pub returns-clause-elsewhere : goal.returns-clause-elsewhere
 returns-clause-elsewhere g c =

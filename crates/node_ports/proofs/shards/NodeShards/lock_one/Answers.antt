@@ -8,7 +8,7 @@ use Rattle.cbdc_model.specs.Sights.{Sight, Told}
 use Rattle.lane_driver.specs.Told.{IsStamp}
 use Rattle.node_journal.specs.Nodes.{sight}
 use Rattle.node_ports.specs.Nodes.{IsNodeHeld}
-use Rattle.node_ports.proofs.Places.{old_is, turned, set_elsewhere, turned_nodes, turned_faults, turned_held}
+use Rattle.node_ports.proofs.Places.{old_is, one_turned, set_elsewhere, turned_nodes, turned_faults, turned_held}
 use Rattle.node_ports.proofs.shards.NodeShards.lock_one.Goals as goal
 
 pub lock-requires-clause-call : goal.lock-requires-clause-call
@@ -17,7 +17,7 @@ lock-requires-clause-call g c =
 
 pub returns-clause-answer : goal.returns-clause-answer
 returns-clause-answer g c =
-    turned sight c.args.self.now.nodes.items c.args.shard c.index_mut.result.now _ c.requires.place c.index_mut.ensures.value (λ a b. Told true c.args.call.now.batch.lane true (lock_due a.header.shape a.capacity c.args.call.now) a b c.lock.result) (search rules)
+    one_turned sight c.args.self.now.nodes.items c.args.shard c.index_mut.result.now _ c.requires.place c.index_mut.ensures.value (λ a b. Told true c.args.call.now.batch.lane true (lock_due a.header.shape a.capacity c.args.call.now) a b c.lock.result) (search rules)
 
 pub returns-clause-elsewhere : goal.returns-clause-elsewhere
 returns-clause-elsewhere g c =
@@ -37,4 +37,4 @@ returns-clause-holds g c =
 
 pub returns-clause-told : goal.returns-clause-told
 returns-clause-told g c =
-    turned sight c.args.self.now.nodes.items c.args.shard c.index_mut.result.now c.lock.new.self.shard.now c.requires.place c.index_mut.ensures.value (λ a b. IfOk c.lock.result (λ r. IsStamp r.stamp × All (IsReply a.header.shape) r.replies)) c.lock.ensures.replied
+    one_turned sight c.args.self.now.nodes.items c.args.shard c.index_mut.result.now c.lock.new.self.shard.now c.requires.place c.index_mut.ensures.value (λ a b. IfOk c.lock.result (λ r. IsStamp r.stamp × All (IsReply a.header.shape) r.replies)) c.lock.ensures.replied

@@ -1,7 +1,7 @@
 use Rattle.std.proofs.Common.{rules, arith, ◌∷◌, sym, ◌∙◌, ap, length, length-append}
 use Rattle.sentinel.specs.Lines.{Line}
 use Rattle.sentinel.proofs.KeyLemmas.{found_by, put_by}
-use Rattle.sentinel.proofs.ReadLemmas.{read_more, told_form, told_repeated, told_open}
+use Rattle.sentinel.proofs.ReadLemmas.{read_more, told_form, told_repeated, open_end_told}
 use Rattle.sentinel.proofs.file.VerdictFile.read.Goals as goal
 
 pub returns-in_default-read_line : goal.returns-in_default-read_line
@@ -33,4 +33,4 @@ lines-preserved c =
 
 pub returns-then-not-is_empty : goal.returns-then-not-is_empty
 returns-then-not-is_empty c =
-    rw (c.bad-then-not-is_empty.ensures, c.if-more.false) (told_open c.args.bytes.now c.lines.rest.now c.lines.line c.lines.words.entries c.lines.invariant.read c.in_default.ensures (search rules))
+    rw (c.bad-then-not-is_empty.ensures, c.if-more.false) (open_end_told c.args.bytes.now c.lines.rest.now c.lines.line c.lines.words.entries c.lines.invariant.read c.in_default.ensures (search rules))

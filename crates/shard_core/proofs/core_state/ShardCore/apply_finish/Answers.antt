@@ -1,5 +1,5 @@
 use Rattle.std.proofs.Common.{◌≡◌, ℕ, Bool, List, length, Some, slice_get, set, arith, refl, sym, ap, ◌∙◌}
-use Rattle.shard_core.specs.declared.slots.Slot.TheVariants.{Idle as Free, Locked as Taken, Finished}
+use Rattle.shard_core.specs.declared.slots.LaneSlot.TheVariants.{Idle as Free, Locked as Taken, Finished}
 use Rattle.shard_core.specs.Slots.{SlotStands}
 use Rattle.shard_core.proofs.Lanes.{finish_stands}
 use Rattle.shard_core.proofs.Applies.{set_set, set_length, known, taken_part, taken_number, parts_few, owed_at, owed_set, memory_both, paired_set, agrees_finish}

@@ -1,5 +1,5 @@
 use Rattle.std.proofs.Common.{◌≡◌, ◌<◌, length, set, arith, refl, ◌∙◌}
-use Rattle.shard_core.specs.declared.slots.Slot.TheVariants.{Idle as Free}
+use Rattle.shard_core.specs.declared.slots.LaneSlot.TheVariants.{Idle as Free}
 use Rattle.shard_core.proofs.Lanes.{forget_stands}
 use Rattle.shard_core.proofs.Applies.{set_set, set_length, past_owed, owed_free, memory_slot, paired_set, agrees_forget}
 use Rattle.shard_core.proofs.core_state.ShardCore.apply_forget.Goals as goal

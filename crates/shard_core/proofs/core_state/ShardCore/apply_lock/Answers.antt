@@ -1,6 +1,6 @@
 use Rattle.std.proofs.Common.{◌<◌, length, arith, refl, ap, sym, ◌∙◌}
 use Rattle.shard_core.specs.Moves.{hashes_in}
-use Rattle.shard_core.specs.declared.slots.Slot.TheVariants.{Locked as Taken}
+use Rattle.shard_core.specs.declared.slots.LaneSlot.TheVariants.{Locked as Taken}
 use Rattle.shard_core.proofs.Lanes.{lock_stands}
 use Rattle.shard_core.proofs.Applies.{set_length, held_few, idle_owed, owed_free, memory_both, paired_set, same_count, agrees_lock}
 use Rattle.shard_core.proofs.core_state.ShardCore.apply_lock.Goals as goal

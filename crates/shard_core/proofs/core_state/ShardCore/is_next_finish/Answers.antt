@@ -2,7 +2,7 @@ use Rattle.std.proofs.Common.{arith, sym, subst, ◌∙◌}
 use Rattle.cbdc_model.specs.Slots.{slot, Idle, InLock, InFinish}
 use Rattle.shard_core.proofs.Applies.{finish_slot, on_none}
 use Rattle.shard_core.proofs.Places.{fits_length}
-use Rattle.shard_core.specs.declared.slots.Slot.{Slot as LaneSlot}
+use Rattle.shard_core.specs.declared.slots.LaneSlot.{LaneSlot}
 use Rattle.shard_core.specs.Slots.{SlotStands}
 use Rattle.shard_core.proofs.Follow.{other_phase_finish, other_number, locked_slot}
 use Rattle.shard_core.proofs.core_state.ShardCore.is_next_finish.Goals as goal

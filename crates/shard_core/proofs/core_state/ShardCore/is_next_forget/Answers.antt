@@ -1,6 +1,6 @@
 use Rattle.std.proofs.Common.{arith, rules, sym, subst}
 use Rattle.cbdc_model.specs.Slots.{slot, Idle, InLock, InFinish}
-use Rattle.shard_core.specs.declared.slots.Slot.{Slot as LaneSlot}
+use Rattle.shard_core.specs.declared.slots.LaneSlot.{LaneSlot}
 use Rattle.shard_core.specs.Slots.{SlotStands}
 use Rattle.shard_core.proofs.Follow.{other_phase, finished_slot}
 use Rattle.shard_core.proofs.core_state.ShardCore.is_next_forget.Goals as goal

@@ -1,6 +1,6 @@
 use Rattle.std.proofs.Common.{◌≡◌, arith, refl, sym, ap, ◌∙◌}
 use Rattle.shard_core.specs.Memory.{locked_entries}
-use Rattle.shard_core.specs.declared.slots.Slot.TheVariants.{Idle as Free}
+use Rattle.shard_core.specs.declared.slots.LaneSlot.TheVariants.{Idle as Free}
 use Rattle.shard_core.proofs.Applies.{replicate_get, replicate_length, replicate_owed, idle_stand, agrees_genesis}
 use Rattle.shard_core.proofs.core_state.ShardCore.new.Goals as goal
 

@@ -1,5 +1,5 @@
 use Rattle.std.proofs.Common.{◌≡◌, replicate}
-use Rattle.shard_core.specs.declared.slots.Slot.TheVariants.{Idle}
+use Rattle.shard_core.specs.declared.slots.LaneSlot.TheVariants.{Idle}
 use Rattle.shard_core.proofs.slots.Slots.new.Given as goal
 
 -- a slot for each lane so far
