@@ -23,6 +23,7 @@ use Rattle.audit.specs.Verdicts.{IsFirstUnsound}
 abbrev pub Point : Type 0
 Point = Digest × ℕ
 
+-- whether two are the same
 abbrev pub same_kept_point : Point → Point → Bool
 same_kept_point p q = eq-value.it p.0 q.0 && nat_eq p.1 q.1
 
@@ -43,11 +44,11 @@ HasRest false m None = Unit {0}
 abbrev pub IsFormOf : FullTx → Compact → Type 0
 IsFormOf tx form = form ≡ compact tx
 
--- a transaction, where none stands
+-- what stands for a transaction that is not there
 abbrev pub no_tx : FullTx
 no_tx = record { inputs = []; outputs = []; witnesses = [] }
 
--- a node's journal of first records
+-- the index of the first transaction with this id, where one has it
 abbrev pub first_with_id : ById → Digest → Option ℕ
 first_with_id ids x = get eq-value.it ids.firsts x
 

@@ -5,7 +5,7 @@ use Rattle.cbdc_model.specs.Records.{Answered, Batch, Reply, Record, record_of, 
 use Rattle.audit.specs.Rows.{journal_in, record_at}
 use Rattle.audit.specs.declared.known.Known.{Known}
 
--- a node, a kind, a lane and a number
+-- a record's key: a node, a kind, a lane and a number
 abbrev pub Key : Type 0
 Key = ℕ × ℕ × ℕ × ℕ
 

@@ -4,12 +4,12 @@ use Rattle.cbdc_model.specs.Records.{Record, Row, journal}
 use Rattle.cbdc_model.specs.History.{goes_above}
 use Rattle.audit.specs.Rows.{journal_in}
 
--- the next row goes above the one before
+-- the row goes below the first of these, if there is one
 abbrev pub IsBelow : Row → List Row → Type 0
 IsBelow row [] = Unit {0}
 IsBelow row (next ∷ later) = goes_above next row ≡ true
 
--- `IsBelow`, `RiseAll`: the next row goes above the one before
+-- each row goes below the next
 abbrev pub RiseAll : List Row → Type 0
 RiseAll [] = Unit {0}
 RiseAll (row ∷ later) = IsBelow row later × RiseAll later

@@ -16,22 +16,23 @@ journal_in all n = slice_index_or all n []
 abbrev pub absent_record : Record
 absent_record = Done 0 (record { lane = 0; number = 0 })
 
--- a record stands there
+-- a record stands at the place
 abbrev pub IsRecordPlace : List (List Record) → Place → Type 0
 IsRecordPlace all p = p.index < length (journal_in all p.node)
 
--- `journal_in`, `record_at`, `row_at`, `rows_at`, `newest_first`, `IsRecordPlace`: the records at places of journals; the rows of places in order, and
--- the other way round
+-- the record at a place
 abbrev pub record_at : List (List Record) → Place → Record
 record_at all p = slice_index_or (journal_in all p.node) p.index absent_record
 
+-- the row at a place
 abbrev pub row_at : List (List Record) → Place → Row
 row_at all p = record { node = p.node; what = record_at all p }
 
+-- the rows at places, in order
 abbrev pub rows_at : List (List Record) → List Place → List Row
 rows_at all places = map (row_at all) places
 
--- the rows as histories of the definitions have them
+-- these rows the other way round, as histories of the definitions have them
 abbrev pub newest_first : List (List Record) → List Place → List Row
 newest_first all places = reverse (rows_at all places)
 

@@ -32,7 +32,7 @@ abbrev pub IsBatchDone : Shape → (ℕ → List Record) → Record → Type 0
 IsBatchDone K J (Prepare stamp b txs) = is_some (record_of 9 (J (home_of K b.lane)) b) ≡ true
 IsBatchDone K J other = Unit {0}
 
--- each has
+-- each Prepare's batch among these rows has its Done in these journals
 abbrev pub AllDone : Shape → (ℕ → List Record) → List Row → Type 0
 AllDone K J rows = All (λ row. IsBatchDone K J row.what) rows
 

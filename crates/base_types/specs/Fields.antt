@@ -4,11 +4,11 @@ use Rattle.base_types.specs.declared.shape.BadShape.{BadShape}
 use Rattle.base_types.specs.declared.shape.ShapeField.{ShapeField}
 use Rattle.base_types.specs.declared.shape.ShapeField.TheVariants.{Shards, Coordinators, Lanes, Batch}
 
--- from 1 to the limit
+-- a number from 1 to the limit
 abbrev pub IsTo : ℕ → ℕ → Type 0
 IsTo limit n = (1 ≤ n) × (n ≤ limit)
 
--- one that is not
+-- a number that is not
 abbrev pub IsOutside : ℕ → ℕ → Type 0
 IsOutside limit n = (n < 1) ⊎ (limit < n)
 
@@ -21,6 +21,6 @@ IsFirstBadField shards coordinators lanes batch Lanes value =
 IsFirstBadField shards coordinators lanes batch Batch value =
     IsTo 64 shards × IsTo 16 coordinators × IsTo 16 lanes × IsOutside 1024 batch × (value ≡ batch)
 
--- `IsFirstBadField`, `IsFirstBad`: the field is outside its limit, and those before it are within theirs: shards, coordinators, lanes, batch
+-- the field that is named, with its value, is outside its limit, and those before it are within theirs
 abbrev pub IsFirstBad : ℕ → ℕ → ℕ → ℕ → BadShape → Type 0
 IsFirstBad shards coordinators lanes batch bad = IsFirstBadField shards coordinators lanes batch bad.field bad.value

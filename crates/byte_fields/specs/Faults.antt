@@ -6,17 +6,17 @@ use Rattle.byte_fields.specs.declared.fault.ReadError.{ReadError}
 use Rattle.byte_fields.specs.declared.fault.ReadError.TheVariants as errors
 
 infixl 10 ◌>>=◌
+-- reading goes on behind a value, and ends with a fault
 abbrev pub ◌>>=◌ : {A B : Type 0} → Result A Fault → (A → Result B Fault) → Result B Fault
 (Ok x) >>= f = f x
 (Err e) >>= f = Err e
 
--- What a function returned is what reading gives, unless memory ran out.
+-- a function's error is the fault that reading gives, unless memory ran out
 abbrev pub Fails : {Y : Type 0} → ReadError → Result Y Fault → Type 0
 Fails errors.Memory read = Unit {0}
 Fails (errors.Bad f) read = read ≡ Err f
 
--- `fault`, `Fails`, `Gives`: a fault at the front of these bytes; reading on behind a value; what a function returned is what reading gives, unless
--- memory ran out
+-- what a function returned is what reading gives, unless memory ran out
 abbrev pub Gives : {X Y : Type 0} → (X → Y) → Result X ReadError → Result Y Fault → Type 0
 Gives view (Ok x) read = read ≡ Ok (view x)
 Gives view (Err e) read = Fails e read

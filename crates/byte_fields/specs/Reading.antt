@@ -9,16 +9,19 @@ use Rattle.byte_fields.specs.Faults.{◌>>=◌, fault}
 abbrev pub field_at : {X : Type 0} → ℕ → (List ℕ → X) → List ℕ → Result (X × List ℕ) Fault
 field_at n of bytes = if nat_lt (length bytes) n then Err (fault Cut bytes) else Ok (of (take n bytes), drop n bytes)
 
--- `number_of`, `number_at`, `hash_of`, `hash_at`: the number or the hash at the front
+-- the number that eight bytes spell
 abbrev pub number_of : List ℕ → ℕ
 number_of bytes = from_le_bytes w64 bytes
 
+-- the number at the front
 abbrev pub number_at : List ℕ → Result (ℕ × List ℕ) Fault
 number_at bytes = field_at 8 number_of bytes
 
+-- the 32 bytes of a hash
 abbrev pub hash_of : List ℕ → List ℕ
 hash_of bytes = take 32 bytes
 
+-- the hash at the front
 abbrev pub hash_at : List ℕ → Result (List ℕ × List ℕ) Fault
 hash_at bytes = field_at 32 hash_of bytes
 

@@ -49,7 +49,7 @@ decision false = 0 ∷ []
 abbrev pub byte_of : List ℕ → ℕ
 byte_of bytes = slice_index bytes 0
 
--- `byte_of`, `byte_at`, `small_at`: one byte; a number below 2^32
+-- the byte at the front
 abbrev pub byte_at : List ℕ → Result (ℕ × List ℕ) Fault
 byte_at bytes = field_at 1 byte_of bytes
 

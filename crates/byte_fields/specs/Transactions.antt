@@ -9,20 +9,23 @@ use Rattle.byte_fields.specs.declared.fault.Fault.{Fault}
 use Rattle.byte_fields.specs.Faults.{◌>>=◌, fault}
 use Rattle.byte_fields.specs.Reading.{field_at, number_of, number_at, hash_of, list_at}
 
--- `output_of`, `output_at`, `point_of`, `input_of`, `input_at`: an output is one field of 40 bytes, an input one of 80
+-- the output that 40 bytes spell
 unfoldable pub output_of : List ℕ → Output
 output_of bytes = record { program = hash_of bytes; value = number_of (drop 32 bytes) }
 
+-- the outpoint that the first 40 bytes of an input spell
 abbrev pub point_of : List ℕ → OutPoint
 point_of bytes = record { tx = hash_of bytes; index = number_of (drop 32 bytes) }
 
+-- the input that 80 bytes spell
 unfoldable pub input_of : List ℕ → Input
 input_of bytes = record { point = point_of (take 40 bytes); output = output_of (drop 40 bytes) }
 
--- an output is one field of 40 bytes, and an input one of 80
+-- the output at the front, a field of 40 bytes
 abbrev pub output_at : List ℕ → Result (Output × List ℕ) Fault
 output_at bytes = field_at 40 output_of bytes
 
+-- the input at the front, a field of 80 bytes
 abbrev pub input_at : List ℕ → Result (Input × List ℕ) Fault
 input_at bytes = field_at 80 input_of bytes
 

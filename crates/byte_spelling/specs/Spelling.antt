@@ -14,47 +14,50 @@ number n = to_le_bytes w64 n
 abbrev pub counted : {X : Type 0} → (X → List ℕ) → List X → List ℕ
 counted item xs = number (length xs) ++ flat_map item xs
 
--- the one spelling of each: program and value
+-- an output: its program and its value
 abbrev pub output : Output → List ℕ
 output o = o.program ++ number o.value
 
--- outpoint and claimed output
+-- an input: its outpoint and the output that it claims
 abbrev pub input : Input → List ℕ
 input i = i.point.tx ++ number i.point.index ++ output i.output
 
--- length and bytes
+-- a witness: its length and its bytes
 abbrev pub witness : List ℕ → List ℕ
 witness w = number (length w) ++ w
 
--- the lists of inputs, outputs and witnesses
+-- a transaction: its lists of inputs, outputs and witnesses, each counted
 abbrev pub transaction : FullTx → List ℕ
 transaction t = counted input t.inputs ++ counted output t.outputs ++ counted witness t.witnesses
 
--- what has a spelling
+-- a number that has a spelling, below 2^64
 abbrev pub FitsNumber : ℕ → Type 0
 FitsNumber n = n < 2 ^ 64
 
--- `FitsNumber`, `FitsHash`, `FitsOutput`, `FitsInput`, `FitsWitness`, `FitsList`, `FitsTransaction`: what has a spelling: numbers below 2^64,
--- hashes of 32 bytes, witnesses of at most 4,096, lists of at most 255
+-- a hash has 32 bytes
 abbrev pub FitsHash : List ℕ → Type 0
 FitsHash h = length h ≡ 32
 
+-- an output that has a spelling
 pub record FitsOutput (o : Output) : Type 0 where
   pub program : length o.program ≡ 32
   pub value : o.value < 2 ^ 64
 
+-- an input that has a spelling
 pub record FitsInput (i : Input) : Type 0 where
   pub tx : length i.point.tx ≡ 32
   pub index : i.point.index < 2 ^ 64
   pub output : FitsOutput i.output
 
+-- a witness has at most 4,096 bytes
 abbrev pub FitsWitness : List ℕ → Type 0
 FitsWitness w = length w ≤ 4096
 
--- a list of at most so many items
+-- a list of at most so many items, each of which has a spelling
 abbrev pub FitsList : {X : Type 0} → ℕ → (X → Type 0) → List X → Type 0
 FitsList limit Fits xs = (length xs ≤ limit) × AllByRecursion Fits xs
 
+-- a transaction that has a spelling: its lists have at most 255 items
 pub record FitsTransaction (t : FullTx) : Type 0 where
   pub inputs : FitsList 255 FitsInput t.inputs
   pub outputs : FitsList 255 FitsOutput t.outputs

@@ -28,12 +28,13 @@ pub record IsLockCall (h : Header) (c : LockCall) : Type 0 where
   pub places : PlacesRise 0 h.shape.batch c.part
   pub entries : All (IsPartEntry h) c.part
 
--- `IsFinishCall`, `IsForgetCall`: a batch and a cause like these, and as many decisions
+-- a batch of one of the lanes, a cause below 2^63, and 1 to as many decisions as a batch may have entries
 pub record IsFinishCall (h : Header) (c : FinishCall) : Type 0 where
   pub batch : IsBatchOf h.shape c.batch
   pub cause : c.cause < 2 ^ 63
   pub size : HasSize h.shape c.decisions
 
+-- a batch of one of the lanes, and a cause below 2^63
 pub record IsForgetCall (h : Header) (c : ForgetCall) : Type 0 where
   pub batch : IsBatchOf h.shape c.batch
   pub cause : c.cause < 2 ^ 63

@@ -36,15 +36,15 @@ if_room used need capacity due = if nat_lt capacity (used + need) then Answers (
 abbrev pub used_of : List Record → ℕ
 used_of J = 1 + sum_by size_of J
 
--- the last stamp of a Prepare and a Lock, and of the records behind them
+-- the last stamp that a Prepare or a Lock may have
 abbrev pub last_early : ℕ
 last_early = 2 ^ 62
 
--- `last_early`, `last_late`: the last stamp of a Prepare and a Lock, and of the records behind them
+-- the last stamp that the records behind them may have
 abbrev pub last_late : ℕ
 last_late = 2 ^ 62 + 2 ^ 20
 
--- Lock at a shard
+-- the Lock that a shard with this journal appends at a call
 abbrev pub lock_record : List Record → LockCall → Record
 lock_record J c = Lock (next_stamp J c.cause) c.batch (answered J c.batch [] c.part)
 
@@ -52,68 +52,72 @@ lock_record J c = Lock (next_stamp J c.cause) c.batch (answered J c.batch [] c.p
 abbrev pub replied_of : RepliesAt → Replied
 replied_of a = record { replies = a.given; stamp = a.at }
 
--- `lock_record`, `lock_by`, `lock_due`: the Lock that a call at a shard appends, and what the call is owed
+-- what a call to lock is owed, by what is planned of it: a new Lock has a stamp and room, else it is refused for these
 abbrev pub lock_by : Plan RepliesAt → Shape → ℕ → List Record → LockCall → Due Replied
 lock_by (Kept a) K capacity J c = Answers (Ok (replied_of a))
 lock_by (Refuse why) K capacity J c = Answers (Err (Refuses why))
 lock_by (Append a) K capacity J c =
     if_early last_early a.at (if_room (used_of J) (need_of K J (lock_record J c)) capacity (Writes (replied_of a) (lock_record J c)))
 
+-- what a call to lock is owed at a shard with this journal
 abbrev pub lock_due : Shape → ℕ → LockCall → Option ℕ → List Record → Due Replied
 lock_due K capacity c broken J = unless_broken broken (lock_by (next_lock J c.batch c.part c.cause) K capacity J c)
 
--- Finish and Forget at a shard: a new record has a stamp, and room was kept for it
+-- what a call to finish or to forget is owed, by what is planned of it: a new record has a stamp, and room was kept for it
 abbrev pub stamp_by : Plan ℕ → Record → Due ℕ
 stamp_by (Kept t) r = Answers (Ok t)
 stamp_by (Refuse why) r = Answers (Err (Refuses why))
 stamp_by (Append t) r = if_early last_late t (Writes t r)
 
--- `stamp_by`, `finish_due`, `forget_due`: what a call to finish or to forget is owed at a shard: a new record has a stamp, and room was kept for it
+-- what a call to finish is owed at a shard with this journal
 abbrev pub finish_due : FinishCall → Option ℕ → List Record → Due ℕ
 finish_due c broken J =
     unless_broken broken (stamp_by (next_finish J c.batch c.decisions c.cause) (Finish (next_stamp J c.cause) c.batch c.decisions))
 
+-- what a call to forget is owed at a shard with this journal
 abbrev pub forget_due : ForgetCall → Option ℕ → List Record → Due ℕ
 forget_due c broken J = unless_broken broken (stamp_by (next_forget J c.batch c.cause) (Forget (next_stamp J c.cause) c.batch))
 
--- the batch that a lane's slot names, and the one behind it
+-- the batch that a lane's slot names
 abbrev pub open_batch : List Record → ℕ → Batch
 open_batch J lane = record { lane = lane; number = (slot J lane).number }
 
--- the batch that a lane's slot names, and the one behind it
+-- the batch behind it
 abbrev pub new_batch : List Record → ℕ → Batch
 new_batch J lane = record { lane = lane; number = suc (slot J lane).number }
 
--- Prepare at a coordinator, on a lane that is Idle
+-- the Prepare of the next batch of an idle lane
 abbrev pub prepare_record : List Record → ℕ → List Compact → Record
 prepare_record J lane txs = Prepare (next_stamp J 0) (new_batch J lane) txs
 
--- `prepare_record`, `prepare_due`: the Prepare of an idle lane, and what the call is owed
+-- what a call to prepare is owed at a coordinator with this journal
 abbrev pub prepare_due : Shape → ℕ → ℕ → List Compact → Option ℕ → List Record → Due (Batch × ℕ)
 prepare_due K capacity lane txs broken J =
     unless_broken broken (if_early last_early (next_stamp J 0)
     (if_room (used_of J) (need_of K J (prepare_record J lane txs)) capacity (Writes (new_batch J lane, next_stamp J 0) (prepare_record J lane txs))))
 
--- Commit of the lane's prepared batch, by what its shards replied
+-- the Commit of the lane's prepared batch, by what its shards replied
 abbrev pub commit_record : Shape → ℕ → List ShardReplies → List Record → Record
 commit_record K lane replies J =
     Commit (next_stamp J (reply_cause K replies)) (open_batch J lane) (decided K (txs_of J (open_batch J lane)) replies)
 
--- `commit_record`, `decide_due`: the Commit of a prepared batch by what its shards replied, and what the call is owed
+-- what a call to decide is owed at a coordinator with this journal
 abbrev pub decide_due : Shape → ℕ → List ShardReplies → Option ℕ → List Record → Due ℕ
 decide_due K lane replies broken J =
     unless_broken broken (if_early last_late (next_stamp J (reply_cause K replies)) (Writes (next_stamp J (reply_cause K replies)) (commit_record K lane replies J)))
 
--- Discard and Done of the lane's open batch
+-- the Discard of the lane's open batch
 abbrev pub discard_record : ℕ → ℕ → List Record → Record
 discard_record lane cause J = Discard (next_stamp J cause) (open_batch J lane)
 
--- `discard_record`, `discard_due`, `done_record`, `done_due`: the Discard and the Done of a lane's open batch, and what the calls are owed
+-- what a call to discard is owed at a coordinator with this journal
 abbrev pub discard_due : ℕ → ℕ → Option ℕ → List Record → Due ℕ
 discard_due lane cause broken J = unless_broken broken (if_early last_late (next_stamp J cause) (Writes (next_stamp J cause) (discard_record lane cause J)))
 
+-- the Done of the lane's open batch
 abbrev pub done_record : ℕ → ℕ → List Record → Record
 done_record lane cause J = Done (next_stamp J cause) (open_batch J lane)
 
+-- what a call to end a batch is owed at a coordinator with this journal
 abbrev pub done_due : ℕ → ℕ → Option ℕ → List Record → Due ℕ
 done_due lane cause broken J = unless_broken broken (if_early last_late (next_stamp J cause) (Writes (next_stamp J cause) (done_record lane cause J)))

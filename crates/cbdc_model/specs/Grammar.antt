@@ -3,11 +3,11 @@ use Rattle.std.specs.Prelude.{◌≡◌, ℕ, ◌+◌, ◌*◌, ◌^◌, ◌<◌
 use Rattle.cbdc_model.specs.Records.{Digest, Shape, Header, Batch, Compact, Reply, Outcome, Answered, Record, Held, Missing, Taken, Won, Lacks, Blocked, Genesis, Lock, Finish, Forget, Start, Prepare, Commit, Discard, Done}
 use Rattle.cbdc_model.specs.Ranges.{shard_of, shard_node}
 
--- a Lock or a Prepare has a stamp from 1 to 2^62, the records behind them one from 1 to 2^62 + 2^20
+-- a stamp from 1 to 2^62, as a Lock or a Prepare has
 abbrev pub IsEarly : ℕ → Type 0
 IsEarly stamp = (1 ≤ stamp) × (stamp ≤ 2 ^ 62)
 
--- a stamp from 1 to 2^62 + 2^20
+-- a stamp from 1 to 2^62 + 2^20, as the records behind these have
 abbrev pub IsLater : ℕ → Type 0
 IsLater stamp = (1 ≤ stamp) × (stamp ≤ 2 ^ 62 + 2 ^ 20)
 

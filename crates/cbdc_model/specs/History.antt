@@ -22,18 +22,18 @@ minted mint = record { id = genesis_id mint; hashes = genesis_hashes mint }
 abbrev pub header_of : Shape → Digest → ℕ → Header
 header_of K genesis n = record { node = n; shape = K; genesis = genesis }
 
--- the first rows: a Start at each coordinator, and at each shard a Genesis with those of the hashes that lie there, in order
+-- the Start rows of the coordinators below a number
 abbrev pub starts : Shape → Minted → ℕ → List Row
 starts K m zero = []
 starts K m (suc n) = record { node = n; what = Start (header_of K m.id n) } ∷ starts K m n
 
--- the Genesis rows of the shards below a number
+-- the Genesis rows of the shards below a number, each with those of the mint's hashes that lie there, in order
 abbrev pub geneses : Shape → Minted → ℕ → List Row
 geneses K m zero = []
 geneses K m (suc s) =
     record { node = shard_node K s; what = Genesis (header_of K m.id (shard_node K s)) (on_shard K.shards s m.hashes) } ∷ geneses K m s
 
--- all first rows of a ledger
+-- all first rows of a ledger: a Start at each coordinator, a Genesis at each shard
 abbrev pub first_rows : Shape → Minted → List Row
 first_rows K m = geneses K m K.shards ++ starts K m K.coordinators
 

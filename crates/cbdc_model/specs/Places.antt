@@ -8,17 +8,17 @@ pub record PlaceIn : Type 0 where
   pub batch : Batch
   pub at : ℕ
 
--- the batches of a lane that journal records prepare, the oldest first, each with its number of transactions
+-- a batch that a lane's record prepares, with its number of transactions
 pub record Sized : Type 0 where
   pub batch : Batch
   pub size : ℕ
 
--- new Prepares of a lane, given the newest first, put before others
+-- the batch of a lane's Prepare put before others; other records name none
 abbrev pub sized_before : ℕ → Record → List Sized → List Sized
 sized_before lane (Prepare stamp b txs) others = if b.lane == lane then record { batch = b; size = length txs } ∷ others else others
 sized_before lane other others = others
 
--- `Sized`, `sized_before`, `sized_onto`: the batches that new Prepares of a lane name, the oldest first, each with its number of transactions
+-- the batches of a lane's new Prepares, given the newest first, put before others, the oldest first
 abbrev pub sized_onto : ℕ → List Record → List Sized → List Sized
 sized_onto lane [] others = others
 sized_onto lane (r ∷ more) others = sized_onto lane more (sized_before lane r others)

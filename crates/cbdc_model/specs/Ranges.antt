@@ -10,15 +10,15 @@ first_byte x = slice_index x 0 % 256
 unfoldable pub shard_of : ℕ → Digest → ℕ
 shard_of shards x = first_byte x * shards / 256
 
--- the node of a shard, and the node of a lane's coordinator
+-- the node of a shard
 abbrev pub shard_node : Shape → ℕ → ℕ
 shard_node K s = K.coordinators + s
 
--- the coordinator's node of a lane
+-- the node of a lane's coordinator
 abbrev pub home_of : Shape → ℕ → ℕ
 home_of K lane = lane / K.lanes
 
--- the journal of the shard that holds the hash, and of the coordinator of the lane
+-- the journal of the shard that holds the hash, in a history
 abbrev pub journal_at : Shape → List Row → Digest → List Record
 journal_at K past x = journal (shard_node K (shard_of K.shards x)) past
 

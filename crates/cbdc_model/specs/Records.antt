@@ -123,7 +123,7 @@ abbrev pub stamp_in : Option Record → ℕ
 stamp_in (Some r) = stamp_of r
 stamp_in None = 0
 
--- the transactions of a batch's Prepare, the outcomes of its Commit, the answered entries of its Lock
+-- the transactions of a batch's Prepare in a journal
 abbrev pub txs_of : List Record → Batch → List Compact
 txs_of past b = txs_in (record_of 6 past b)
 

@@ -27,7 +27,7 @@ answered past b claimed (e ∷ es) =
     let r = reply_to past b claimed e.inputs in
     record { entry = e; reply = r } ∷ answered past b (if is_held r then e.inputs ++ claimed else claimed) es
 
--- the entries without the replies, and the replies alone
+-- the entries of an answered part alone
 abbrev pub entries : List Answered → List Entry
 entries es = map (λ a. a.entry) es
 

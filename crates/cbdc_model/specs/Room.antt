@@ -35,7 +35,7 @@ size_of (Commit stamp b os) = 42 + sum_by outcome_size os
 size_of (Discard stamp b) = 34
 size_of (Done stamp b) = 34
 
--- kept for the later records of a batch: Finish and Forget of m entries, Commit, Discard and Done of n transactions
+-- the bytes kept for the later records of a batch of so many entries at a shard: its Finish and its Forget
 abbrev pub room_behind_lock : ℕ → ℕ
 room_behind_lock m = 76 + m
 

@@ -34,20 +34,20 @@ pub record Stays (old new : Sight) (found : List Record) : Type 0 where
   pub seen : new.seen ≡ found
   pub flight : new.flight ≡ old.flight
 
--- this record was
+-- this record was written behind the journal that the call found
 pub record Appends (old new : Sight) (found : List Record) (r : Record) : Type 0 where
   pub node : IsSameNode old new
   pub seen : new.seen ≡ r ∷ found
   pub flight : new.flight ≡ old.flight
 
--- the disk failed: the record may stand on it or not
+-- the disk failed at this record: it may stand on the disk or not
 pub record Fails (old new : Sight) (found : List Record) (r : Record) : Type 0 where
   pub node : IsSameNode old new
   pub seen : new.seen ≡ found
   pub flight : new.flight ≡ Some r
   pub rose : HasRisen old.faults new.faults
 
--- a fault that a call answers, where it may want memory or not
+-- a fault that a call answers, by whether it takes memory, which may run out
 abbrev pub MeetsFault : {A : Type 0} → Bool → Due A → Sight → Sight → List Record → NodeFault → Type 0
 MeetsFault {A} memory due old new found DiskFault = (a : A) × (r : Record) × (due ≡ Writes a r) × Fails old new found r
 MeetsFault memory due old new found Memory = (memory ≡ true) × Stays old new found

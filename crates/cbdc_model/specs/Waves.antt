@@ -21,7 +21,7 @@ abbrev pub IsCut : {A : Type 0} → ℕ → List A → List (List A) → Type 0
 IsCut n xs [] = xs ≡ []
 IsCut n xs (piece ∷ pieces) = (0 < length piece) × (piece ≡ take n xs) × IsCut n (drop n xs) pieces
 
--- the transactions of a lane's Prepares in a journal, the newest first
+-- the transactions of a lane's Prepare put before others; other records have none
 abbrev pub prepared_before : ℕ → Record → List (List Compact) → List (List Compact)
 prepared_before lane (Prepare stamp b txs) older = if b.lane == lane then txs ∷ older else older
 prepared_before lane other older = older
@@ -36,11 +36,11 @@ pub record Adds (of : Batch → Type 0) (I J : ℕ → List Record) : Type 0 whe
   pub grows : (n : ℕ) → IsEnd (I n) (J n)
   pub each : (n : ℕ) (newer rest : List Record) (r : Record) → J n ≡ newer ++ r ∷ rest → IsEnd (I n) rest → (b : Batch) × (is_of b r ≡ true) × of b
 
--- the batch has its Prepare, and the batch has its Done
+-- whether the batch has its Prepare
 abbrev pub has_prepare : Shape → (ℕ → List Record) → Batch → Bool
 has_prepare K J b = is_some (record_of 6 (J (home_of K b.lane)) b)
 
--- `has_prepare`, `has_done`: the batch has its Prepare, and the batch has its Done
+-- whether the batch has its Done
 abbrev pub has_done : Shape → (ℕ → List Record) → Batch → Bool
 has_done K J b = is_some (record_of 9 (J (home_of K b.lane)) b)
 

@@ -40,18 +40,18 @@ node_at w n = slice_index_or w n no_node
 abbrev pub journals : World → ℕ → List Record
 journals w n = (node_at w n).journal
 
--- the first world: a Start at each coordinator, a Genesis with its hashes at each shard, all up with nothing in flight
+-- a node's first record: a Start at a coordinator, at a shard a Genesis with those of the mint's hashes that lie there
 abbrev pub first_record : Shape → Minted → ℕ → Record
 first_record K m n =
     if nat_lt n K.coordinators
     then Start (header_of K m.id n)
     else Genesis (header_of K m.id n) (on_shard K.shards (n - K.coordinators) m.hashes)
 
--- a node as the ledger begins
+-- a node as the ledger begins: up, with its first record and nothing in flight
 abbrev pub first_node : Shape → Minted → ℕ → Node
 first_node K m n = record { journal = first_record K m n ∷ []; up = true; flight = None }
 
--- the world as the ledger begins
+-- the first world: all nodes as the ledger begins
 abbrev pub init : Shape → Minted → World
 init K m = map (first_node K m) (range_with_len 0 (K.coordinators + K.shards))
 

@@ -12,10 +12,11 @@ use Rattle.client_files.specs.declared.fault.BadFile.{BadFile}
 use Rattle.client_files.specs.declared.fault.FileFault.{FileFault}
 use Rattle.client_files.specs.declared.fault.FileFault.TheVariants.{Bad, Memory}
 
--- the bytes of a file that are read, the first 2^30, and whether it goes on behind them
+-- the bytes of a file that are read: the first 2^30
 abbrev pub front : List ℕ → List ℕ
 front c = take 1073741824 c
 
+-- whether a file goes on behind them
 abbrev pub goes_on : List ℕ → Bool
 goes_on c = nat_lt 1073741824 (length c)
 
@@ -35,12 +36,12 @@ extra true rest = Some (fault Extra rest)
 extra false [] = None
 extra false (b ∷ bs) = Some (fault Extra (b ∷ bs))
 
--- `counted_behind`, `minted_at`, `extra`, `ended_by`, `ended`: their parts: so many transactions; an output that is not zero; nothing behind the
--- items
+-- the items that were read, unless something is wrong behind them
 abbrev pub ended_by : {X : Type 0} → X → Option Fault → Result X Fault
 ended_by items None = Ok items
 ended_by items (Some f) = Err f
 
+-- the items that were read, with nothing behind them but the end
 abbrev pub ended : {X : Type 0} → Bool → X × List ℕ → Result X Fault
 ended more read = ended_by read.0 (extra more read.1)
 

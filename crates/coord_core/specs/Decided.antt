@@ -14,22 +14,22 @@ replied_outcomes s (m ∷ ms) rs [] = []
 replied_outcomes s (m ∷ ms) [] (o ∷ os) = o ∷ os
 replied_outcomes s (m ∷ ms) (r ∷ rs) (o ∷ os) = if bit_at m s == 1 then outcome_by (Some r) s o ∷ replied_outcomes s ms rs os else o ∷ replied_outcomes s ms (r ∷ rs) os
 
--- all shards' replies, the least shard's last
+-- the outcomes by all shards' replies, those of the least shard last
 abbrev pub combined_outcomes : List ℕ → List ShardReplies → List Outcome
 combined_outcomes ms [] = map (λ m. Won) ms
 combined_outcomes ms (r ∷ rs) = replied_outcomes r.shard ms r.replies (combined_outcomes ms rs)
 
--- the greatest stamp, beginning with one
+-- the greatest stamp of the replies, or the one given where that is greater
 abbrev pub latest_reply : ℕ → List ShardReplies → ℕ
 latest_reply n [] = n
 latest_reply n (r ∷ rs) = latest_reply (max n r.stamp) rs
 
--- shards rise, and are below the limit
+-- the shards rise, from the first number on, and are below the limit
 abbrev pub ShardsRise : ℕ → ℕ → List ShardReplies → Type 0
 ShardsRise low limit [] = Unit {0}
 ShardsRise low limit (r ∷ rs) = (low < suc r.shard) × (r.shard < limit) × ShardsRise (suc r.shard) limit rs
 
--- `ShardsRise`, `StampsBelow`: shards rise, and are below the limit
+-- the stamp of each shard's replies is below the limit
 abbrev pub StampsBelow : ℕ → List ShardReplies → Type 0
 StampsBelow limit [] = Unit {0}
 StampsBelow limit (r ∷ rs) = (r.stamp < limit) × StampsBelow limit rs

@@ -16,7 +16,7 @@ NamesBatch K Held = Unit {0}
 NamesBatch K (Missing x) = Unit {0}
 NamesBatch K (Taken x by) = IsBatchOf K by
 
--- `NamesBatch`, `AllNameBatches`: the batch that holds a hash is one of this shape
+-- the batches that hold hashes, in all these replies, are of this shape
 abbrev pub AllNameBatches : Shape → List ShardReplies → Type 0
 AllNameBatches K [] = Unit {0}
 AllNameBatches K (r ∷ rs) = All (NamesBatch K) r.replies × AllNameBatches K rs

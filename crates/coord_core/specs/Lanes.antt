@@ -27,6 +27,7 @@ no_lane = record { slot = record { number = 0; phase = Idle }; masks = []; room 
 abbrev pub IsOwnLane : Header → ℕ → Type 0
 IsOwnLane h lane = home_of h.shape lane ≡ h.node
 
+-- the lane at its place among the coordinator's own
 abbrev pub coord_lane : CoordOf → ℕ → CoordLaneOf
 coord_lane c lane = slice_index_or c.lanes (lane % c.header.shape.lanes) no_lane
 
@@ -38,11 +39,11 @@ with_lane c lane l = record c { lanes = slice_set c.lanes (lane % c.header.shape
 abbrev pub IsLaneUpTo : ℕ → CoordLaneOf → Type 0
 IsLaneUpTo last l = l.slot.number ≤ last
 
--- it has at most 1,024 transactions
+-- a lane's batch has at most 1,024 transactions
 abbrev pub IsSmallLane : CoordLaneOf → Type 0
 IsSmallLane l = length l.masks ≤ 1024
 
--- numbers and lists are within the limits
+-- the coordinator's numbers and lists are within the limits
 pub record IsCoordWhole (c : CoordOf) : Type 0 where
   pub limits : IsWithinLimits c.header.shape
   pub node : c.header.node < c.header.shape.coordinators
@@ -51,11 +52,11 @@ pub record IsCoordWhole (c : CoordOf) : Type 0 where
   pub numbers : All (IsLaneUpTo c.last) c.lanes
   pub small : All IsSmallLane c.lanes
 
--- the batch that a lane's slot names, and the one behind it
+-- the batch that a lane's slot names
 abbrev pub core_batch : CoordOf → ℕ → Batch
 core_batch c lane = record { lane = lane; number = (coord_lane c lane).slot.number }
 
--- the batch behind its last one
+-- the batch behind it
 abbrev pub next_core_batch : CoordOf → ℕ → Batch
 next_core_batch c lane = record { lane = lane; number = (coord_lane c lane).slot.number + 1 }
 
@@ -76,19 +77,20 @@ CoordTakes c d (Discard stamp b) = d ≡ with_slot c stamp b.lane (record { numb
 CoordTakes c d (Done stamp b) = d ≡ with_slot c stamp b.lane (record { number = b.number; phase = Idle })
 CoordTakes c d other = d ≡ c
 
--- a record of this stamp and batch may come: on a lane of this coordinator, behind the last stamp
+-- a record of this stamp and batch may come: it is on a lane of this coordinator, behind its last stamp, and the stamp is within the last bound
 abbrev pub IsLaterAt : CoordOf → ℕ → Batch → Type 0
 IsLaterAt c stamp b = IsOwnLane c.header b.lane × (c.last < stamp) × (stamp ≤ 2 ^ 62 + 2 ^ 20)
 
--- `IsLaterAt`, `IsPrepareAt`, `IsCommitAt`: a record of this stamp and batch may come: on a lane of this coordinator, behind the last stamp
+-- a Prepare of this stamp and batch may come: its lane is idle, and it is the lane's next batch
 abbrev pub IsPrepareAt : CoordOf → ℕ → Batch → Type 0
 IsPrepareAt c stamp b = IsLaterAt c stamp b × ((coord_lane c b.lane).slot.phase ≡ Idle) × (b.number ≡ (coord_lane c b.lane).slot.number + 1)
 
+-- a Commit of this stamp and batch may come, with so many outcomes: the batch is prepared, with as many transactions
 abbrev pub IsCommitAt : CoordOf → ℕ → Batch → ℕ → Type 0
 IsCommitAt c stamp b n =
     IsLaterAt c stamp b × ((coord_lane c b.lane).slot ≡ record { number = b.number; phase = InPrepare }) × (length (coord_lane c b.lane).masks ≡ n)
 
--- the record is next
+-- the record is next at this coordinator
 abbrev pub IsCoordNext : CoordOf → Record → Type 0
 IsCoordNext c (Prepare stamp b txs) = IsPrepareAt c stamp b × (length txs ≤ c.header.shape.batch)
 IsCoordNext c (Commit stamp b os) = IsCommitAt c stamp b (length os)
@@ -96,7 +98,7 @@ IsCoordNext c (Discard stamp b) = IsLaterAt c stamp b × ((coord_lane c b.lane).
 IsCoordNext c (Done stamp b) = IsLaterAt c stamp b × ((coord_lane c b.lane).slot ≡ record { number = b.number; phase = InDiscard })
 IsCoordNext c other = ⊥
 
--- it is next, and the memory to take it in is there
+-- the coordinator can take this record in: it is next, and the memory for it is there
 abbrev pub CoordAdmits : CoordOf → Record → Type 0
 CoordAdmits c (Prepare stamp b txs) = IsPrepareAt c stamp b × (length txs ≤ (coord_lane c b.lane).room) × (length txs ≤ 1024)
 CoordAdmits c other = IsCoordNext c other
@@ -105,7 +107,7 @@ CoordAdmits c other = IsCoordNext c other
 abbrev pub HasLaneRoom : CoordOf → ℕ → ℕ → Type 0
 HasLaneRoom c lane n = n ≤ (coord_lane c lane).room
 
--- a lane without a batch
+-- a lane that has had no batch
 pub record IsIdleLane (l : CoordLaneOf) : Type 0 where
   pub slot : l.slot ≡ record { number = 0; phase = Idle }
   pub masks : l.masks ≡ []
@@ -116,15 +118,15 @@ pub record IsFreshCoord (h : Header) (c : CoordOf) : Type 0 where
   pub last : c.last ≡ 0
   pub lanes : All IsIdleLane c.lanes
 
--- the bytes that are kept for a lane's batch, and for those of some lanes
+-- the bytes that are kept for a lane's batch
 abbrev pub lane_kept : CoordLaneOf → ℕ
 lane_kept l = room_in l.slot.phase 0 (length l.masks)
 
--- `lane_kept`, `kept_of`: the bytes that are kept for a lane's batch, and for those of some lanes
+-- the bytes that are kept for the batches of these lanes
 abbrev pub kept_of : List CoordLaneOf → ℕ
 kept_of ls = sum_by lane_kept ls
 
--- how many records are still to come of a batch in a phase, and of the batches of some lanes
+-- how many records are still to come of a batch in this phase
 abbrev pub ahead_in : Phase → ℕ
 ahead_in Idle = 0
 ahead_in InLock = 2
@@ -133,7 +135,7 @@ ahead_in InPrepare = 3
 ahead_in InCommit = 2
 ahead_in InDiscard = 1
 
--- `ahead_in`, `ahead_of`: how many records are still to come of a batch in a phase, and of the batches of some lanes
+-- how many records are still to come of the batches of these lanes
 abbrev pub ahead_of : List CoordLaneOf → ℕ
 ahead_of ls = sum_by (λ l. ahead_in l.slot.phase) ls
 
@@ -154,13 +156,14 @@ HasNoLessRoom old new = (lane : ℕ) → (coord_lane old lane).room ≤ (coord_l
 abbrev pub KeepsOtherRooms : CoordOf → CoordOf → ℕ → Type 0
 KeepsOtherRooms old new lane = (other : ℕ) → other % old.header.shape.lanes ≢ lane % old.header.shape.lanes → (coord_lane new other).room ≡ (coord_lane old other).room
 
--- a prepared batch has room for its outcomes: on this lane, on all lanes, on all but one
+-- where the lane's batch is prepared, there is room for its outcomes
 abbrev pub IsRoomed : CoordLaneOf → Type 0
 IsRoomed l = l.slot.phase ≡ InPrepare → length l.masks ≤ l.room
 
--- `IsRoomed`, `AllRoomed`, `OthersRoomed`: a prepared batch has room for its outcomes: on this lane, on all lanes, on all but one
+-- so it is on each lane
 abbrev pub AllRoomed : CoordOf → Type 0
 AllRoomed c = (lane : ℕ) → IsRoomed (coord_lane c lane)
 
+-- so it is on each lane but one
 abbrev pub OthersRoomed : CoordOf → ℕ → Type 0
 OthersRoomed c lane = (other : ℕ) → other % c.header.shape.lanes ≢ lane % c.header.shape.lanes → IsRoomed (coord_lane c other)

@@ -15,12 +15,12 @@ pub record CoordStands (c : CoordOf) (J : List Record) : Type 0 where
   pub slots : (lane : ℕ) → IsOwnLane c.header lane → (coord_lane c lane).slot ≡ slot J lane
   pub masks : (lane : ℕ) → IsOwnLane c.header lane → (slot J lane).phase ≡ InPrepare → (coord_lane c lane).masks ≡ masks_of c.header.shape.shards (txs_of J (slot_batch J lane))
 
--- and its prepared batches have room for their outcomes
+-- the coordinator is as this journal leaves it, and its prepared batches have room for their outcomes
 pub record IsRoomyFor (c : CoordOf) (J : List Record) : Type 0 where
   pub stands : CoordStands c J
   pub rooms : AllRoomed c
 
--- it took this record in, and stands for the journal with it
+-- the coordinator took this record in, and is as the journal with it leaves it
 pub record CoordHasTaken (old new : CoordOf) (r : Record) : Type 0 where
   pub taken : CoordTakes old new r
   pub stands : (J : List Record) → CoordStands old J → CoordStands new (r ∷ J)

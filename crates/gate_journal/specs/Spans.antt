@@ -6,5 +6,6 @@ use Rattle.gate_journal.specs.declared.bodies.Span.{Span}
 abbrev pub span_body : List ℕ → Span → List ℕ
 span_body bytes span = take span.len (drop span.at bytes)
 
+-- the span lies within the bytes
 abbrev pub IsSpanWithin : List ℕ → Span → Type 0
 IsSpanWithin bytes span = span.at + span.len ≤ length bytes

@@ -9,7 +9,7 @@ use Rattle.mem_devices.specs.Places.{disk_in, HasNoDiskOut}
 abbrev pub disk_at : PlainRack → ℕ → Option PlainDisk
 disk_at rack n = disk_in (slice_get rack.places.items n)
 
--- what its disks read as, what a crash leaves of them, their room, and how often they have failed, with all else that a disk tells
+-- what a disk in memory tells: what it reads as, what a crash leaves of it, its room, and how often it has failed
 abbrev pub plain : Ghosts PlainDisk
 plain = record {
   content = λ d. Some d.bytes.items;
@@ -22,7 +22,7 @@ plain = record {
   images_since = λ d t c. Unit {0};
 }
 
--- every disk is in its place
+-- no disk is out of its place
 abbrev pub NoPlainDiskOut : PlainRack → Type 0
 NoPlainDiskOut rack = (n : ℕ) → HasNoDiskOut (slice_get rack.places.items n)
 

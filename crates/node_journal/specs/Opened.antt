@@ -9,7 +9,7 @@ use Rattle.gate_journal.specs.Shown.{disk_of, gate_of, broken_of}
 use Rattle.node_journal.specs.Opening.{IsPlayed}
 use Rattle.node_journal.specs.declared.opening.Opened.{Opened}
 
--- its records, the newest first
+-- the records of a node that was opened, the newest first
 abbrev pub journal_of_opened : {C D : Type 0} {G : Ghosts D} → Opened C D G → List Record
 journal_of_opened o = reverse o.log.records.items
 

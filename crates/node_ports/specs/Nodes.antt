@@ -31,7 +31,7 @@ pub record IsNodeHeld {D : Type 0} (device : Ghosts D) (n : NodeOf D) : Type 0 w
   pub journal : IsJournal n.header n.journal
   pub held : HoldsJournal device n
 
--- all of them
+-- so it is with each of these nodes
 abbrev pub AreNodesHeld : {D : Type 0} → Ghosts D → List (NodeOf D) → Type 0
 AreNodesHeld device nodes = All (IsNodeHeld device) nodes
 

@@ -4,7 +4,7 @@ use Rattle.std.specs.FinMap as book
 use Rattle.cbdc_model.specs.Coins.{Coin, Output}
 use Rattle.cbdc_model.specs.Book.{Book, key}
 
--- a transaction's entry at shard s, k being its place
+-- a coin as the book has it: the output, under its outpoint
 abbrev pub coin_entry : Coin → List ℕ × Output
 coin_entry c = (key c.point, c.output)
 

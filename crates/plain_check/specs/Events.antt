@@ -9,12 +9,13 @@ use Rattle.plain_check.specs.declared.events.ShardCall.TheVariants.{Lock, Finish
 use Rattle.plain_check.specs.declared.events.Event.{Event}
 use Rattle.plain_check.specs.declared.events.Event.TheVariants.{Begin, End, Crash, Reopen, Repeat}
 
--- `call_in`, `event_in`: calls and events of the program as those of the definitions
+-- a call of the program as one of the definitions
 abbrev pub call_in : ShardCall → model.ShardCall
 call_in (Lock c) = model.Lock_call c
 call_in (Finish c) = model.Finish_call c
 call_in (Forget c) = model.Forget_call c
 
+-- an event of the program as one of the definitions
 abbrev pub event_in : Event → model.Event
 event_in (Begin n r) = model.Begin n r
 event_in (End n) = model.End n
@@ -36,7 +37,7 @@ cause_of (model.Forget_call c) = c.cause
 abbrev pub InClock : ℕ → ℕ → Type 0
 InClock last cause = (last < 2 ^ 63) × (cause < 2 ^ 63)
 
--- a call at a node is of its batch, its cause stands, and the node answers with a record that may stand in its journal
+-- a call at a node is of a batch that concerns it, its cause stands, and the node answers with a record that may stand in its journal
 abbrev pub IsCallAnswered : Shape → Digest → model.World → ℕ → model.ShardCall → Record → Type 0
 IsCallAnswered K id w n call r =
     model.IsConcerned K (model.journals w) n (model.batch_of call) × model.CauseStands K (model.journals w) n call

@@ -4,12 +4,12 @@ use Rattle.cbdc_model.specs.Records.{Digest, Shape, Answered, Record, lock_of, G
 use Rattle.cbdc_model.specs.Status.{Status, status, has, Unspent, Locked, Absent}
 use Rattle.cbdc_model.specs.Ranges.{shard_of, shard_node}
 
--- the inputs and outputs of entries
+-- the inputs and outputs of answered entries
 abbrev pub entry_hashes : List Answered → List Digest
 entry_hashes [] = []
 entry_hashes (a ∷ es) = a.entry.inputs ++ (a.entry.outputs ++ entry_hashes es)
 
--- those that a journal's Genesis and Finishes name
+-- the hashes that a journal's Genesis and Finishes name
 abbrev pub named_hashes : List Record → List Digest
 named_hashes [] = []
 named_hashes (Genesis header hs ∷ past) = hs ++ named_hashes past
@@ -22,7 +22,7 @@ named_hashes (Commit stamp b os ∷ past) = named_hashes past
 named_hashes (Discard stamp b ∷ past) = named_hashes past
 named_hashes (Done stamp b ∷ past) = named_hashes past
 
--- those of the shards below n
+-- those that the journals of the shards below n name
 abbrev pub named_below : Shape → (ℕ → List Record) → ℕ → List Digest
 named_below K J zero = []
 named_below K J (suc n) = named_hashes (J (shard_node K n)) ++ named_below K J n
@@ -33,7 +33,7 @@ is_unspent_status Unspent = true
 is_unspent_status (Locked b) = false
 is_unspent_status Absent = false
 
--- whether a hash is, at its shard
+-- whether a hash is Unspent at its shard
 abbrev pub is_unspent_at : Shape → (ℕ → List Record) → Digest → Bool
 is_unspent_at K J x = is_unspent_status (status (J (shard_node K (shard_of K.shards x))) x)
 

@@ -4,7 +4,7 @@ use Rattle.plain_check.specs.declared.slots.Phase.{Phase}
 use Rattle.plain_check.specs.declared.slots.Phase.TheVariants.{Idle, InLock, InFinish, InPrepare, InCommit, InDiscard}
 use Rattle.plain_check.specs.declared.slots.Slot.{Slot}
 
--- `phase_in`, `slot_in`: phases and slots of the program as those of the definitions
+-- a phase of the program as one of the definitions
 abbrev pub phase_in : Phase → model.Phase
 phase_in Idle = model.Idle
 phase_in InLock = model.InLock
@@ -13,5 +13,6 @@ phase_in InPrepare = model.InPrepare
 phase_in InCommit = model.InCommit
 phase_in InDiscard = model.InDiscard
 
+-- a slot of the program as one of the definitions
 abbrev pub slot_in : Slot → model.Slot
 slot_in s = record { number = s.number; phase = phase_in s.phase }

@@ -9,12 +9,12 @@ use Rattle.submissions.specs.Checks.{VerdictsOf, TellsSound}
 use Rattle.plain_check.specs.declared.stages.Stage.{Stage}
 use Rattle.plain_check.specs.declared.stages.Stage.TheVariants.{Resume, File}
 
--- what a lane gets, none past the last list
+-- the items of a list, none where there is no list
 abbrev pub items_of : Option (Vec CompactTx) → List CompactTx
 items_of None = []
 items_of (Some list) = list.items
 
--- `sent_in`, `items_of`: what a lane gets, by lists of lanes, and nothing past the last
+-- what a lane gets, by lists of lanes: nothing past the last list
 abbrev pub sent_in : List (Vec CompactTx) → ℕ → List CompactTx
 sent_in lists lane = items_of (slice_get lists lane)
 

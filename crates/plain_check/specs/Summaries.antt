@@ -20,20 +20,20 @@ pub record IsSummary (K : Shape) (E X : ℕ → List Record) (all : List (List R
   pub refused : s.refused ≡ count_in is_refused all
   pub unspent_is : s.unspent ≡ unspent
 
--- the result of each submission of which this was said
+-- the report is that of each submission of which this was said, by each test that tells sound ones
 abbrev pub Fits : Shape → VerdictsOf → (ℕ → List Record) → (ℕ → List Record) → List (List FullTx) → Checked → Report → Type 0
 Fits K verdicts E X earlier c r =
     (sound : FullTx → Bool) → TellsSound verdicts sound → (file : List FullTx) (place : ℕ) (t : FullTx)
     → IsSaid K verdicts file place t c.judgement → IsReport K verdicts sound E X earlier file place t r
 
--- `Fits`, `AllFit`: the result of each submission of which this was said
+-- so for each of these, in order
 abbrev pub AllFit : Shape → VerdictsOf → (ℕ → List Record) → (ℕ → List Record) → List (List FullTx) → List Checked → List Report → Type 0
 AllFit K verdicts E X earlier cs rs = AllZip (Fits K verdicts E X earlier) cs rs
 
--- the result of the submissions of a file, and of all files, by each test that tells sound ones
+-- the reports are those of a file's submissions, by each test that tells sound ones
 abbrev pub AreTold : Shape → VerdictsOf → (ℕ → List Record) → (ℕ → List Record) → List (List FullTx) → List FullTx → List Report → Type 0
 AreTold K verdicts E X earlier file rs = (sound : FullTx → Bool) → TellsSound verdicts sound → AreReports K verdicts sound E X earlier file rs
 
--- `AreTold`, `AreAllTold`: the results of the submissions of a file, and of all files, by each test that tells sound ones
+-- the reports are those of all files' submissions, by each test that tells sound ones
 abbrev pub AreAllTold : Shape → VerdictsOf → (ℕ → List Record) → (ℕ → List Record) → List (List FullTx) → List (List Report) → Type 0
 AreAllTold K verdicts E X files all = (sound : FullTx → Bool) → TellsSound verdicts sound → AreAllReports K verdicts sound E X files all

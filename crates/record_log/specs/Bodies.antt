@@ -10,7 +10,7 @@ use Rattle.byte_fields.specs.Records.{hashes, batch, compact, answered, outcome,
 abbrev pub magic : List ℕ
 magic = 72 ∷ 65 ∷ 77 ∷ 74 ∷ 82 ∷ 78 ∷ 76 ∷ 49 ∷ []
 
--- it and a header's numbers and genesis id
+-- the magic, a header's numbers and its genesis id
 abbrev pub header_bytes : Header → List ℕ
 header_bytes h = magic ++ number h.node ++ number h.shape.shards ++ number h.shape.coordinators ++ number h.shape.lanes ++ number h.shape.batch ++ h.genesis
 

@@ -23,7 +23,7 @@ IsFirstRecord (Commit stamp b os) = ⊥
 IsFirstRecord (Discard stamp b) = ⊥
 IsFirstRecord (Done stamp b) = ⊥
 
--- the bytes are its body
+-- the bytes are the body of this first record
 abbrev pub IsFirstBody : List ℕ → Record → Type 0
 IsFirstBody bytes r = (bytes ≡ body_of r) × IsFirstRecord r
 

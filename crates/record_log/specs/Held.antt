@@ -7,7 +7,7 @@ use Rattle.record_log.specs.Exact.{IsFirstRecord}
 use Rattle.gate_journal.specs.Rows.{row, rows, Opens, OpensWithOrWithout}
 use Rattle.gate_journal.specs.Stands.{HoldsRows}
 
--- `bodies_of`, `OpensTo`, `OpensToEither`: whole rows of these records and then a closed gate; the same with or without one in flight
+-- the bodies of these records
 abbrev pub bodies_of : List Record → List (List ℕ)
 bodies_of records = map body_of records
 

@@ -3,12 +3,13 @@ use Rattle.std.specs.Prelude.{◌≡◌, ◌+◌, ◌<◌, ◌≤◌, length, Al
 use Rattle.cbdc_model.specs.Records.{Shape, Header, Reply, Outcome, Answered, Record, Held, Missing, Taken, Won, Lacks, Blocked, Genesis, Lock, Finish, Forget, Start, Prepare, Commit, Discard, Done}
 use Rattle.cbdc_model.specs.Grammar.{IsEarly, IsLater, IsBatchOf, IsShard, AreHere, HasSize, RisesFrom}
 
--- `MayReply`, `MayDecide`, `MayEnter`, `MayStand`, `MayBegin`: what a header asks of a record besides what its spelling has already
+-- the batch that holds a hash is one of this shape
 abbrev pub MayReply : Shape → Reply → Type 0
 MayReply K Held = Unit {0}
 MayReply K (Missing x) = Unit {0}
 MayReply K (Taken x by) = IsBatchOf K by
 
+-- the shard and the batch that an outcome names are of this shape
 abbrev pub MayDecide : Shape → Outcome → Type 0
 MayDecide K Won = Unit {0}
 MayDecide K (Lacks shard x) = shard < K.shards
@@ -21,6 +22,7 @@ pub record MayEnter (h : Header) (a : Answered) : Type 0 where
   pub outputs : AreHere h.shape h.node a.entry.outputs
   pub reply : MayReply h.shape a.reply
 
+-- what a header asks of a record, besides what its spelling has already
 abbrev pub MayStand : Header → Record → Type 0
 MayStand h (Genesis header hs) = (header ≡ h) × IsShard h.shape h.node × AreHere h.shape h.node hs
 MayStand h (Lock stamp b es) =

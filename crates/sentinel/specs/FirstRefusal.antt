@@ -15,7 +15,7 @@ Verdicts = ℕ → Verdict
 abbrev pub HasAt : {X : Type 0} → (X → Type 0) → List X → ℕ → Type 0
 HasAt {X} Q xs i = (x : X) × (slice_get xs i ≡ Some x) × Q x
 
--- no earlier place has the property
+-- the place has the property, and no earlier one has
 pub record IsLeast (P : ℕ → Type 0) (i : ℕ) : Type 0 where
   pub holds : P i
   pub none_before : (k : ℕ) → k < i → ¬ P k
@@ -24,14 +24,15 @@ pub record IsLeast (P : ℕ → Type 0) (i : ℕ) : Type 0 where
 abbrev pub Repeats : List Input → ℕ → Type 0
 Repeats inputs i = HasAt (λ x. (k : ℕ) × (k < i) × HasAt (λ y. y.point ≡ x.point) inputs k) inputs i
 
--- `HasAt`, `IsLeast`, `Repeats`, `HasVerdict`, `input_sum`, `output_sum`: the item at a place has a property; no earlier place has it; an outpoint
--- stands earlier; an input has this verdict; the sums of the values
+-- the verdict on the input at this place is this one
 abbrev pub HasVerdict : Verdict → List Input → Verdicts → ℕ → Type 0
 HasVerdict verdict inputs verdicts i = (i < length inputs) × (verdicts i ≡ verdict)
 
+-- the sum of the values that the inputs claim
 abbrev pub input_sum : FullTx → ℕ
 input_sum t = sum_by (λ x. x.output.value) t.inputs
 
+-- the sum of the outputs' values
 abbrev pub output_sum : FullTx → ℕ
 output_sum t = sum_by (λ o. o.value) t.outputs
 

@@ -16,7 +16,7 @@ pub record IsLine (l : Line) : Type 0 where
   pub bytes : IsBytes l.tx
   pub place : l.index ≤ 254
 
--- `Line`, `IsLine`, `word`, `spelled`: a verdict on an input: an id, a place from 0 to 254, good or bad; its spelling before the line feed
+-- the word for a verdict
 abbrev pub word : Bool → List ℕ
 word true = codes "good"
 word false = codes "bad"
@@ -31,7 +31,7 @@ HasNoLineEnd bytes = AllByRecursion (λ b. b ≢ 10) bytes
 
 -- ---- lines one after another, the last of them first
 
--- `is_key`, `said`: what lines say of an input
+-- whether an id and a place are those of an input
 abbrev pub is_key : List ℕ → ℕ → List ℕ → ℕ → Bool
 is_key tx index other place = bytes_eq tx other && (index == place)
 

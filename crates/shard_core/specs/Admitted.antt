@@ -19,20 +19,22 @@ pub record IsFinishable (core : ShardCore) (b : Batch) (ds : List Bool) : Type 0
   pub replies : length rs ≡ length part
   pub decisions : length ds ≡ length part
 
--- the shard can take this record in: its memory is there
+-- the shard can take this Lock in: the lane is free, and the memory is there
 abbrev pub IsLockAdmitted : ShardCore → Record → Type 0
 IsLockAdmitted core (Lock stamp b es) = IsOfShardLane core b stamp × IsLaneFree core b.lane × IsLockReady core (entries es) (replies es)
 IsLockAdmitted core other = ⊥
 
--- `IsLockAdmitted`, `IsFinishAdmitted`, `IsForgetAdmitted`, `ShardAdmits`: the shard can take this record in: its memory is there
+-- the shard can take this Finish in: its batch is locked, with as many entries
 abbrev pub IsFinishAdmitted : ShardCore → Record → Type 0
 IsFinishAdmitted core (Finish stamp b ds) = IsOfShardLane core b stamp × IsFinishable core b ds
 IsFinishAdmitted core other = ⊥
 
+-- the shard can take this Forget in: its batch is not locked any more
 abbrev pub IsForgetAdmitted : ShardCore → Record → Type 0
 IsForgetAdmitted core (Forget stamp b) = IsOfShardLane core b stamp × IsLanePast core b.lane
 IsForgetAdmitted core other = ⊥
 
+-- the shard can take this record in
 abbrev pub ShardAdmits : ShardCore → Record → Type 0
 ShardAdmits core (Lock stamp b es) = IsLockAdmitted core (Lock stamp b es)
 ShardAdmits core (Finish stamp b ds) = IsFinishAdmitted core (Finish stamp b ds)

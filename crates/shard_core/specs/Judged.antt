@@ -39,7 +39,7 @@ IsSlotFree (Free n t) = Unit {0}
 IsSlotFree (Taken n part rs t) = ⊥
 IsSlotFree (Finished n part rs ds t u) = ⊥
 
--- no hash is still to come of the lane's batch
+-- no hash is still to come of the lane's batch: there is none, or it is finished
 abbrev pub IsSlotPast : LaneSlot → Type 0
 IsSlotPast (Free n t) = Unit {0}
 IsSlotPast (Taken n part rs t) = ⊥
@@ -51,18 +51,19 @@ IsSlotLocked (Free n t) m given = ⊥
 IsSlotLocked (Taken n part rs t) m given = (n ≡ m) × (length given ≡ length rs)
 IsSlotLocked (Finished n part rs ds t u) m given = ⊥
 
--- where a record is to be appended, the slot allows it
+-- where a Lock is to be appended, no batch of the lane is remembered
 abbrev pub FitsLock : LockAnswer → LaneSlot → Type 0
 FitsLock (Refused why) s = Unit {0}
 FitsLock Again s = Unit {0}
 FitsLock Next s = IsSlotFree s
 
--- `FitsLock`, `FitsFinish`, `FitsForget`: where a record is to be appended, the slot allows it
+-- where a Finish is to be appended, the slot has its batch locked, with as many replies as there are decisions
 abbrev pub FitsFinish : StampPlan → LaneSlot → ℕ → List Bool → Type 0
 FitsFinish (StampKept stamp) s m ds = Unit {0}
 FitsFinish (StampNext stamp) s m ds = IsSlotLocked s m ds
 FitsFinish (StampRefused why) s m ds = Unit {0}
 
+-- where a Forget is to be appended, the lane's batch is not locked any more
 abbrev pub FitsForget : StampPlan → LaneSlot → Type 0
 FitsForget (StampKept stamp) s = Unit {0}
 FitsForget (StampNext stamp) s = IsSlotPast s

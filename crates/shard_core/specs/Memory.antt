@@ -4,13 +4,13 @@ use Rattle.std.specs.Global.{Vec}
 use Rattle.shard_core.specs.declared.slots.LaneSlot.{LaneSlot}
 use Rattle.shard_core.specs.declared.slots.LaneSlot.TheVariants.{Idle as Free, Locked as Taken, Finished}
 
--- how many entries and replies a locked batch has
+-- how many entries a locked batch has
 abbrev pub locked_entries : LaneSlot → ℕ
 locked_entries (Free n t) = 0
 locked_entries (Taken n part rs t) = length part
 locked_entries (Finished n part rs ds t u) = 0
 
--- `locked_entries`, `locked_replies`: how many entries and replies a locked batch has
+-- how many replies a locked batch has
 abbrev pub locked_replies : LaneSlot → ℕ
 locked_replies (Free n t) = 0
 locked_replies (Taken n part rs t) = length rs

@@ -11,15 +11,17 @@ use Rattle.shard_core.specs.declared.plans.LockPlan.{LockPlan}
 use Rattle.shard_core.specs.declared.plans.LockPlan.TheVariants.{Kept as LockKept, Append as LockNext, Refused as LockRefused}
 use Rattle.cbdc_types.specs.declared.calls.Replied.{Replied}
 
--- `core_plan`, `core_replies`, `core_lock_plan`: the plans of the program, and their replies, as those of the definitions
+-- what the shard plans of a Finish or a Forget, as the definitions have it
 abbrev pub core_plan : StampPlan → Plan ℕ
 core_plan (StampKept stamp) = Kept stamp
 core_plan (StampNext stamp) = Append stamp
 core_plan (StampRefused why) = Refuse why
 
+-- the replies to a part with the stamp of their Lock, as the definitions have them
 abbrev pub core_replies : Replied → RepliesAt
 core_replies r = record { given = r.replies; at = r.stamp }
 
+-- what the shard plans of a Lock, as the definitions have it
 abbrev pub core_lock_plan : LockPlan → Plan RepliesAt
 core_lock_plan (LockKept r) = Kept (core_replies r)
 core_lock_plan (LockNext r) = Append (core_replies r)

@@ -5,23 +5,23 @@ use Rattle.cbdc_model.specs.Fates.{Fate, Waiting, Committed, Rejected}
 use Rattle.shard_core.specs.declared.plans.Remembered.{Remembered}
 use Rattle.shard_core.specs.declared.plans.Remembered.TheVariants.{Waiting as Waits, Committed as Commits, Rejected as Rejects}
 
--- `as_fate`, `told_fate`: what the program remembers, and its answer, as the definitions have it
+-- what the shard remembers of a transaction, as the definitions have it
 abbrev pub as_fate : Remembered → Fate
 as_fate Waits = Waiting
 as_fate Commits = Committed
 as_fate Rejects = Rejected
 
--- what an answer says
+-- its answer, as the definitions have it
 abbrev pub told_fate : Option Remembered → Option Fate
 told_fate None = None
 told_fate (Some r) = Some (as_fate r)
 
--- the same of entries without their replies
+-- whether one of the entries has this id
 abbrev pub has_id : List Entry → Digest → Bool
 has_id [] id = false
 has_id (e ∷ es) id = same_digest e.id id || has_id es id
 
--- what the first such entry's decision says
+-- what the decision of the first entry with this id says
 abbrev pub fate_of : List Entry → List Bool → Digest → Option Fate
 fate_of [] ds id = None
 fate_of (e ∷ es) [] id = None

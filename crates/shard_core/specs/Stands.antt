@@ -43,7 +43,7 @@ pub record IsLockReady (core : ShardCore) (part : List Entry) (rs : List Reply) 
   pub unspent : core.owed + hashes_in part ≤ core.unspent.spare
   pub fits : core.owed + hashes_in part < 2 ^ 62
 
--- of the lane's batch in the core
+-- no hash is still to come of the lane's batch in the core
 abbrev pub IsLanePast : ShardCore → ℕ → Type 0
 IsLanePast core lane = (s : LaneSlot) → slice_get core.slots lane ≡ Some s → IsSlotPast s
 

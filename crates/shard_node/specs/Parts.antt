@@ -49,7 +49,7 @@ pub record IsShardSound {D : Type 0} {G : Ghosts D} (log : RecordLog D G) (K : H
 abbrev pub journal_of_parts : {D : Type 0} {G : Ghosts D} → Parts D G → List Record
 journal_of_parts p = reverse p.log.records.items
 
--- what contracts see of it
+-- what contracts see of the shard
 abbrev pub view_of : {D : Type 0} {G : Ghosts D} → Parts D G → NodeOf D
 view_of p = shown p.log p.opened p.flight
 
@@ -69,7 +69,7 @@ pub record IsShardOf {D : Type 0} {G : Ghosts D} (p : Parts D G) : Type 0 where
   pub unbroken : p.flight ≡ None → broken_of p.log.journal ≡ None
   pub fits : IfSome p.flight (λ r. used_of (journal_of_parts p) + need_of p.log.header.shape (journal_of_parts p) r ≤ G.limit (disk_of p.log.journal))
 
--- its journal was just opened
+-- a shard whose journal was just opened
 abbrev pub IsShardOpened : {D : Type 0} {G : Ghosts D} → Opened ShardCore D G → Type 0
 IsShardOpened o = IsOpened (λ core. core.header) ShardStands IsShardHeader o
 
