@@ -1,7 +1,7 @@
 -- That all money of a ledger is accounted for.
 use Rattle.std.specs.Prelude.{◌≡◌, ◌↔◌, ℕ, ◌<◌, true, List, All, Some, length, is_some}
 use Rattle.std.specs.FinMap.{len}
-use Rattle.cbdc_model.specs.Records.{Digest, Shape, Batch, Record, Row, record_of}
+use Rattle.cbdc_model.specs.Records.{Digest, Shape, Batch, Record, Row, record_of, prepare_kind, done_kind}
 use Rattle.cbdc_model.specs.Ranges.{home_of}
 use Rattle.cbdc_model.specs.Coins.{Output, FullTx}
 use Rattle.cbdc_model.specs.Book.{Book, InBook, fold_txs, genesis_book, value}
@@ -28,7 +28,7 @@ pub record IsAccounted (K : Shape) (mint : List Output) (handed : List FullTx) (
   pub later : List Row
   pub history : IsHistory K (minted mint) J later
   pub caused : AllCaused K (history_of K mint later)
-  pub done : (b : Batch) → is_some (record_of 6 (J (home_of K b.lane)) b) ≡ true → is_some (record_of 9 (J (home_of K b.lane)) b) ≡ true
+  pub done : (b : Batch) → is_some (record_of prepare_kind (J (home_of K b.lane)) b) ≡ true → is_some (record_of done_kind (J (home_of K b.lane)) b) ≡ true
   pub txs : List FullTx
   pub committed : AreCommitted handed (history_of K mint later) txs
   pub book : Book

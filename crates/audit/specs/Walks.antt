@@ -4,7 +4,7 @@ use Rattle.cbdc_model.specs.After.{After}
 use Rattle.cbdc_model.specs.Coins.{Output, FullTx}
 use Rattle.cbdc_model.specs.Clean.{IsProperCompact}
 use Rattle.cbdc_model.specs.History.{Minted, minted, header_of, first_rows, history_of, TxsPass, IsKept}
-use Rattle.cbdc_model.specs.Records.{Shape, Compact, Record, Row, journal, record_of, Prepare}
+use Rattle.cbdc_model.specs.Records.{Shape, Compact, Record, Row, journal, record_of, Prepare, done_kind}
 use Rattle.cbdc_model.specs.Ranges.{home_of}
 use Rattle.cbdc_model.specs.Causes.{IsCaused}
 
@@ -29,7 +29,7 @@ pub record IsFirstUncaused (K : Shape) (rows : List Row) (place : ℕ) : Type 0 
 
 -- a Prepare's batch has its Done in these journals
 abbrev pub IsBatchDone : Shape → (ℕ → List Record) → Record → Type 0
-IsBatchDone K J (Prepare stamp b txs) = is_some (record_of 9 (J (home_of K b.lane)) b) ≡ true
+IsBatchDone K J (Prepare stamp b txs) = is_some (record_of done_kind (J (home_of K b.lane)) b) ≡ true
 IsBatchDone K J other = Unit {0}
 
 -- each Prepare's batch among these rows has its Done in these journals

@@ -19,7 +19,7 @@ use crate::handed::ById;
 use crate::known::Known;
 use crate::verdict::{Totals, Verdict};
 use crate::{Place, record_at};
-use cbdc_types::{CompactTx, FullTx, Output, Record, Shape, UnsoundKind};
+use cbdc_types::{CompactTx, FullTx, Output, Record, RecordKind, Shape, UnsoundKind};
 use std::alloc::{AllocError, Global};
 use std::thread::Threads;
 
@@ -105,7 +105,12 @@ fn is_done(known: &Known, journals: &[&[Record]], shape: &Shape, r: &Record) -> 
 {
     match r {
         Record::Prepare { batch, .. } => known
-            .found(journals, home_of(shape, batch), 9, batch)
+            .found(
+                journals,
+                home_of(shape, batch),
+                RecordKind::Done as u64,
+                batch,
+            )
             .is_some(),
         _ => true,
     }

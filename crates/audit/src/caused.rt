@@ -1,6 +1,6 @@
 // Whether a record is caused by what stands before it.
 ghost use Rattle.std.specs.Prelude.{◌≡◌, ◌<◌, ◌≤◌, ◌^◌, ◌↔◌, ℕ, true, is_some, max, suc, List as Items, IsTrue, IfOk};
-ghost use Rattle.cbdc_model.specs.Records.{Record as ModelRecord, stamp_in, txs_of, lock_of, outcomes_of, entries_in, record_of, Lock, Finish, Commit, Forget};
+ghost use Rattle.cbdc_model.specs.Records.{Record as ModelRecord, stamp_in, txs_of, lock_of, outcomes_of, entries_in, record_of, Lock, Finish, Commit, Forget, lock_kind};
 ghost use Rattle.cbdc_model.specs.Replies.{entries};
 ghost use Rattle.cbdc_model.specs.Ranges.{home_of, shard_node, part, Concerned};
 ghost use Rattle.cbdc_model.specs.Outcomes.{outcomes};
@@ -11,7 +11,7 @@ ghost use Rattle.audit.specs.Knowing.{Knows};
 use crate::known::Known;
 use crate::outcomes::{are_decided, outcomes_by_locks};
 use crate::stamp_of;
-use cbdc_types::{Answered, BatchId, CompactTx, Outcome, Record, Shape};
+use cbdc_types::{Answered, BatchId, CompactTx, Outcome, Record, RecordKind, Shape};
 use same_records::{are_outcomes, is_concerned, is_part_from};
 use std::alloc::{AllocError, Global};
 
@@ -38,7 +38,7 @@ pub(crate) fn txs_of<'a>(
 ) -> &'a [CompactTx]
     ensures { (J : ℕ → Items ModelRecord) → Knows (read journals.now) known.now J → result.now ≡ txs_of (J node) batch.now }
 {
-    match known.found(journals, node, 6, batch) {
+    match known.found(journals, node, RecordKind::Prepare as u64, batch) {
         Some(Record::Prepare { txs, .. }) => txs.as_slice(),
         _ => &[],
     }
@@ -67,7 +67,7 @@ fn is_lock_caused(
     ensures { (J : ℕ → Items ModelRecord) → Knows (read journals.now) known.now J → (IsTrue result ↔ IsCaused shape.now J node (Lock stamp batch.now es.now)) }
 {
     let home = home_of(shape, batch);
-    let Some(cause) = known.found(journals, home, 6, batch) else {
+    let Some(cause) = known.found(journals, home, RecordKind::Prepare as u64, batch) else {
         return false;
     };
     is_stamped(known, node, stamp, stamp_of(cause))
@@ -158,7 +158,7 @@ fn are_by_locks(
     given: &[Outcome],
 ) -> Result<bool, AllocError>
     ensures { (J : ℕ → Items ModelRecord) → Knows (read journals.now) known.now J
-        → IfOk result (λ yes. IsTrue yes ↔ (given.now ≡ outcomes (λ s. entries_in (at_shards shape.now J 2 batch.now s)) shape.now.shards 0 (txs_of (J (home_of shape.now batch.now.lane)) batch.now))) }
+        → IfOk result (λ yes. IsTrue yes ↔ (given.now ≡ outcomes (λ s. entries_in (at_shards shape.now J lock_kind batch.now s)) shape.now.shards 0 (txs_of (J (home_of shape.now batch.now.lane)) batch.now))) }
 {
     let txs = txs_of(known, journals, home_of(shape, batch), batch);
     let decided = outcomes_by_locks(alloc, known, journals, shape, batch, txs)?;
@@ -178,14 +178,14 @@ fn is_commit_caused(
 ) -> Result<bool, AllocError>
     ensures { (J : ℕ → Items ModelRecord) → Knows (read journals.now) known.now J → IfOk result (λ yes. IsTrue yes ↔ IsCaused shape.now J node (Commit stamp batch.now given.now)) }
 {
-    if !all_have(known, journals, shape, 2, batch) {
+    if !all_have(known, journals, shape, RecordKind::Lock as u64, batch) {
         return Ok(false);
     }
     if !is_stamped(
         known,
         node,
         stamp,
-        last_of(known, journals, shape, 2, batch),
+        last_of(known, journals, shape, RecordKind::Lock as u64, batch),
     ) {
         return Ok(false);
     }
@@ -201,7 +201,7 @@ fn lock_of<'a>(
 ) -> &'a [Answered]
     ensures { (J : ℕ → Items ModelRecord) → Knows (read journals.now) known.now J → result.now ≡ lock_of (J node) batch.now }
 {
-    match known.found(journals, node, 2, batch) {
+    match known.found(journals, node, RecordKind::Lock as u64, batch) {
         Some(Record::Lock { entries, .. }) => entries.as_slice(),
         _ => &[],
     }
@@ -216,7 +216,7 @@ fn outcomes_of<'a>(
 ) -> &'a [Outcome]
     ensures { (J : ℕ → Items ModelRecord) → Knows (read journals.now) known.now J → result.now ≡ outcomes_of (J node) batch.now }
 {
-    match known.found(journals, node, 7, batch) {
+    match known.found(journals, node, RecordKind::Commit as u64, batch) {
         Some(Record::Commit { outcomes, .. }) => outcomes.as_slice(),
         _ => &[],
     }
@@ -235,7 +235,7 @@ fn is_finish_caused(
     ensures { (J : ℕ → Items ModelRecord) → Knows (read journals.now) known.now J → (IsTrue result ↔ IsCaused shape.now J node (Finish stamp batch.now given.now)) }
 {
     let home = home_of(shape, batch);
-    let Some(cause) = known.found(journals, home, 7, batch) else {
+    let Some(cause) = known.found(journals, home, RecordKind::Commit as u64, batch) else {
         return false;
     };
     is_stamped(known, node, stamp, stamp_of(cause))
@@ -257,7 +257,12 @@ fn is_forget_caused(
 ) -> bool
     ensures { (J : ℕ → Items ModelRecord) → Knows (read journals.now) known.now J → (IsTrue result ↔ IsCaused shape.now J node (Forget stamp batch.now)) }
 {
-    match known.found(journals, home_of(shape, batch), 8, batch) {
+    match known.found(
+        journals,
+        home_of(shape, batch),
+        RecordKind::Discard as u64,
+        batch,
+    ) {
         Some(cause) => is_stamped(known, node, stamp, stamp_of(cause)),
         None => false,
     }
@@ -341,13 +346,29 @@ pub(crate) fn is_caused(
             decisions.as_slice(),
         )),
         Record::Discard { stamp, batch } => {
-            Ok(follows_all(known, journals, shape, node, stamp.0, 3, batch))
+            Ok(follows_all(
+                known,
+                journals,
+                shape,
+                node,
+                stamp.0,
+                RecordKind::Finish as u64,
+                batch,
+            ))
         }
         Record::Forget { stamp, batch } => {
             Ok(is_forget_caused(known, journals, shape, node, stamp.0, batch))
         }
         Record::Done { stamp, batch } => {
-            Ok(follows_all(known, journals, shape, node, stamp.0, 4, batch))
+            Ok(follows_all(
+                known,
+                journals,
+                shape,
+                node,
+                stamp.0,
+                RecordKind::Forget as u64,
+                batch,
+            ))
         }
     }
 }

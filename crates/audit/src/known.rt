@@ -4,7 +4,7 @@ ghost use Rattle.cbdc_model.specs.Records.{Batch, Record as ModelRecord, Row, jo
 ghost use Rattle.audit.specs.Rows.{read, journal_in, record_at};
 
 use crate::stamp_of;
-use cbdc_types::{BatchId, Record};
+use cbdc_types::{BatchId, Record, RecordKind};
 use std::alloc::{AllocError, Global};
 use std::collections::HashMap;
 
@@ -22,14 +22,14 @@ fn kind_and_batch(r: &Record) -> Option<(u64, BatchId)>
 {
     match r {
         Record::Genesis { .. } => None,
-        Record::Lock { batch, .. } => Some((2, *batch)),
-        Record::Finish { batch, .. } => Some((3, *batch)),
-        Record::Forget { batch, .. } => Some((4, *batch)),
+        Record::Lock { batch, .. } => Some((RecordKind::Lock as u64, *batch)),
+        Record::Finish { batch, .. } => Some((RecordKind::Finish as u64, *batch)),
+        Record::Forget { batch, .. } => Some((RecordKind::Forget as u64, *batch)),
         Record::Start { .. } => None,
-        Record::Prepare { batch, .. } => Some((6, *batch)),
-        Record::Commit { batch, .. } => Some((7, *batch)),
-        Record::Discard { batch, .. } => Some((8, *batch)),
-        Record::Done { batch, .. } => Some((9, *batch)),
+        Record::Prepare { batch, .. } => Some((RecordKind::Prepare as u64, *batch)),
+        Record::Commit { batch, .. } => Some((RecordKind::Commit as u64, *batch)),
+        Record::Discard { batch, .. } => Some((RecordKind::Discard as u64, *batch)),
+        Record::Done { batch, .. } => Some((RecordKind::Done as u64, *batch)),
     }
 }
 

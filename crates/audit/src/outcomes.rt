@@ -1,6 +1,6 @@
 // The outcomes of a batch, by the Locks of its shards.
 ghost use Rattle.std.specs.Prelude.{◌≡◌, ◌<◌, ◌≤◌, ◌+◌, ◌-◌, ◌^◌, ◌↔◌, ℕ, IsTrue, IfOk, IfSome, None, List as Items, length, slice_index_or};
-ghost use Rattle.cbdc_model.specs.Records.{Record as ModelRecord, entries_in, Won};
+ghost use Rattle.cbdc_model.specs.Records.{Record as ModelRecord, entries_in, Won, lock_kind};
 ghost use Rattle.cbdc_model.specs.Replies.{entries};
 ghost use Rattle.cbdc_model.specs.Outcomes.{reply_at, outcome_by, outcome, outcomes, won_at, decisions};
 ghost use Rattle.cbdc_model.specs.Causes.{at_shards};
@@ -8,7 +8,7 @@ ghost use Rattle.audit.specs.Rows.{read};
 ghost use Rattle.audit.specs.Knowing.{Knows, reply_with};
 
 use crate::known::Known;
-use cbdc_types::{Answered, BatchId, CompactTx, Outcome, Record, Reply, Shape};
+use cbdc_types::{Answered, BatchId, CompactTx, Outcome, Record, RecordKind, Reply, Shape};
 use same_records::is_won;
 use std::alloc::{AllocError, Global};
 
@@ -73,9 +73,14 @@ fn entries_at<'a>(
     shard: u32,
 ) -> &'a [Answered]
     requires { shard < shape.now.shards }
-    ensures { (J : ℕ → Items ModelRecord) → Knows (read journals.now) known.now J → result.now ≡ entries_in (at_shards shape.now J 2 batch.now shard) }
+    ensures { (J : ℕ → Items ModelRecord) → Knows (read journals.now) known.now J → result.now ≡ entries_in (at_shards shape.now J lock_kind batch.now shard) }
 {
-    match known.found(journals, shape.coordinators() + shard, 2, batch) {
+    match known.found(
+        journals,
+        shape.coordinators() + shard,
+        RecordKind::Lock as u64,
+        batch,
+    ) {
         Some(Record::Lock { entries, .. }) => entries.as_slice(),
         _ => &[],
     }
@@ -94,7 +99,7 @@ fn outcomes_from(
     requires { shard ≤ shape.now.shards }
     ensures len { IfOk result (λ v. length v.items ≡ n) }
     ensures outcomes { (J : ℕ → Items ModelRecord) → Knows (read journals.now) known.now J
-        → IfOk result (λ v. (k : ℕ) → k < n → slice_index_or v.items k Won ≡ outcome (λ s. entries_in (at_shards shape.now J 2 batch.now s)) k shard (shape.now.shards - shard)) }
+        → IfOk result (λ v. (k : ℕ) → k < n → slice_index_or v.items k Won ≡ outcome (λ s. entries_in (at_shards shape.now J lock_kind batch.now s)) k shard (shape.now.shards - shard)) }
 {
     if shard >= shape.shards() {
         return vec![in alloc; Outcome::Held; n];
@@ -119,7 +124,7 @@ pub(crate) fn outcomes_by_locks(
     txs: &[CompactTx],
 ) -> Result<Vec<Outcome>, AllocError>
     ensures { (J : ℕ → Items ModelRecord) → Knows (read journals.now) known.now J
-        → IfOk result (λ v. v.items ≡ outcomes (λ s. entries_in (at_shards shape.now J 2 batch.now s)) shape.now.shards 0 txs.now) }
+        → IfOk result (λ v. v.items ≡ outcomes (λ s. entries_in (at_shards shape.now J lock_kind batch.now s)) shape.now.shards 0 txs.now) }
 {
     outcomes_from(alloc, known, journals, shape, batch, txs.len(), 0)
 }

@@ -1,6 +1,6 @@
 -- What a record rests on: its causes stand, it agrees with them, and its stamp is one more than the greatest before it.
 use Rattle.std.specs.Prelude.{◌≡◌, ℕ, zero, suc, max, true, List, Option, is_some}
-use Rattle.cbdc_model.specs.Records.{Shape, Batch, Compact, Record, record_of, entries_in, txs_in, outcomes_in, stamp_in, txs_of, lock_of, Genesis, Lock, Finish, Forget, Start, Prepare, Commit, Discard, Done}
+use Rattle.cbdc_model.specs.Records.{Shape, Batch, Compact, Record, record_of, entries_in, txs_in, outcomes_in, stamp_in, txs_of, lock_of, Genesis, Lock, Finish, Forget, Start, Prepare, Commit, Discard, Done, lock_kind, finish_kind, forget_kind, prepare_kind, commit_kind, discard_kind}
 use Rattle.cbdc_model.specs.Replies.{entries}
 use Rattle.cbdc_model.specs.Ranges.{shard_node, home_of, part, Concerned}
 use Rattle.cbdc_model.specs.Outcomes.{outcomes, decisions}
@@ -41,23 +41,23 @@ IsCaused K journals node (Genesis header hs) = Unit {0}
 IsCaused K journals node (Start header) = Unit {0}
 IsCaused K journals node (Prepare stamp b txs) = IsStamped stamp (journals node) 0
 IsCaused K journals node (Lock stamp b es) =
-    let cause = record_of 6 (journals (home_of K b.lane)) b in
+    let cause = record_of prepare_kind (journals (home_of K b.lane)) b in
     (is_some cause ≡ true)
     × ((s : ℕ) → node ≡ shard_node K s → entries es ≡ part K.shards s 0 (txs_in cause))
     × IsStamped stamp (journals node) (stamp_in cause)
 IsCaused K journals node (Commit stamp b os) =
-    AllHave K journals 2 b
-    × (os ≡ outcomes (λ s. entries_in (at_shards K journals 2 b s)) K.shards 0 (prepared_txs K journals b))
-    × IsStamped stamp (journals node) (last_of K journals 2 b)
+    AllHave K journals lock_kind b
+    × (os ≡ outcomes (λ s. entries_in (at_shards K journals lock_kind b s)) K.shards 0 (prepared_txs K journals b))
+    × IsStamped stamp (journals node) (last_of K journals lock_kind b)
 IsCaused K journals node (Finish stamp b ds) =
-    let cause = record_of 7 (journals (home_of K b.lane)) b in
+    let cause = record_of commit_kind (journals (home_of K b.lane)) b in
     (is_some cause ≡ true)
     × (ds ≡ decisions (outcomes_in cause) (entries (lock_of (journals node) b)))
     × IsStamped stamp (journals node) (stamp_in cause)
 IsCaused K journals node (Discard stamp b) =
-    AllHave K journals 3 b × IsStamped stamp (journals node) (last_of K journals 3 b)
+    AllHave K journals finish_kind b × IsStamped stamp (journals node) (last_of K journals finish_kind b)
 IsCaused K journals node (Forget stamp b) =
-    let cause = record_of 8 (journals (home_of K b.lane)) b in
+    let cause = record_of discard_kind (journals (home_of K b.lane)) b in
     (is_some cause ≡ true) × IsStamped stamp (journals node) (stamp_in cause)
 IsCaused K journals node (Done stamp b) =
-    AllHave K journals 4 b × IsStamped stamp (journals node) (last_of K journals 4 b)
+    AllHave K journals forget_kind b × IsStamped stamp (journals node) (last_of K journals forget_kind b)

@@ -1,6 +1,6 @@
 -- What a shard's journal remembers of a transaction.
 use Rattle.std.specs.Prelude.{ℕ, zero, suc, ◌*◌, Bool, false, ◌||◌, List, [], ◌∷◌, if◌then◌else◌, Option, Some, None}
-use Rattle.cbdc_model.specs.Records.{Digest, same_digest, Shape, Batch, Answered, Record, record_of, lock_of, decisions_in}
+use Rattle.cbdc_model.specs.Records.{Digest, same_digest, Shape, Batch, Answered, Record, record_of, lock_of, decisions_in, finish_kind}
 use Rattle.cbdc_model.specs.Slots.{Phase, slot, Idle, InLock, InFinish, InPrepare, InCommit, InDiscard}
 
 -- its batch is locked, or finished with a commit or without
@@ -25,7 +25,7 @@ decided_fate (a ∷ es) (d ∷ ds) id = if same_digest a.entry.id id then Some (
 abbrev pub fate_in : Phase → List Record → Batch → Digest → Option Fate
 fate_in Idle J b id = None
 fate_in InLock J b id = if names (lock_of J b) id then Some Waiting else None
-fate_in InFinish J b id = decided_fate (lock_of J b) (decisions_in (record_of 3 J b)) id
+fate_in InFinish J b id = decided_fate (lock_of J b) (decisions_in (record_of finish_kind J b)) id
 fate_in InPrepare J b id = None
 fate_in InCommit J b id = None
 fate_in InDiscard J b id = None

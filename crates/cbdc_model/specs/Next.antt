@@ -2,7 +2,7 @@
 use Rattle.std.specs.Prelude.{ℕ, suc, max, Bool, true, false, ◌&&◌, ◌||◌, not, ◌==◌, nat_lt, List, [], ◌∷◌, if◌then◌else◌, Option, Some, None, option_map}
 use Rattle.cbdc_types.specs.declared.calls.Refused.{Refused}
 use Rattle.cbdc_types.specs.declared.calls.Refused.TheVariants.{Stale, LaneOpen, NotLocked, NotFinished, OtherPart, OtherOutcome, EarlyStamp}
-use Rattle.cbdc_model.specs.Records.{Digest, same_digest, Batch, Entry, Reply, Answered, Record, record_of, lock_of, decisions_in, stamp_in, is_held, last_stamp}
+use Rattle.cbdc_model.specs.Records.{Digest, same_digest, Batch, Entry, Reply, Answered, Record, record_of, lock_of, decisions_in, stamp_in, is_held, last_stamp, lock_kind, finish_kind}
 use Rattle.cbdc_model.specs.Slots.{Phase, slot, slot_stamp, Idle, InLock, InFinish, InPrepare, InCommit, InDiscard}
 use Rattle.cbdc_model.specs.Replies.{answered, entries, replies}
 
@@ -56,7 +56,7 @@ pub record RepliesAt : Type 0 where
 -- the answer to a Lock of a batch that is locked or finished: as before for the same part, else where the parts differ
 abbrev pub lock_again : Option ℕ → List Record → Batch → Plan RepliesAt
 lock_again (Some at) J b = Refuse (OtherPart at)
-lock_again None J b = Kept (record { given = replies (lock_of J b); at = stamp_in (record_of 2 J b) })
+lock_again None J b = Kept (record { given = replies (lock_of J b); at = stamp_in (record_of lock_kind J b) })
 
 -- Lock: an older number is stale, and so is the same one once forgotten; the same number is answered as before, and refused with another part;
 -- an open lane refuses a newer one, and so does a cause that is not above the stamp of the lane's last record
@@ -79,7 +79,7 @@ misfit (a ∷ es) (d ∷ ds) = if d && not (is_held a.reply) then Some 0 else op
 -- the answer to a Finish of a batch that is finished: as before for the same decisions, else where they differ
 abbrev pub finish_again : Option ℕ → List Record → Batch → Plan ℕ
 finish_again (Some at) J b = Refuse (OtherOutcome at)
-finish_again None J b = Kept (stamp_in (record_of 3 J b))
+finish_again None J b = Kept (stamp_in (record_of finish_kind J b))
 
 -- the answer to a Finish of a locked batch: other decisions than the part allows and an early cause refuse
 abbrev pub finish_now : Option ℕ → List Record → ℕ → ℕ → Plan ℕ
@@ -88,7 +88,7 @@ finish_now None J lane cause = if not (nat_lt (slot_stamp J lane) cause) then Re
 
 -- the answer to a Finish of the lane's batch, by its phase
 abbrev pub finish_in : Phase → List Record → Batch → List Bool → ℕ → Plan ℕ
-finish_in InFinish J b ds cause = finish_again (difference same_decision (decisions_in (record_of 3 J b)) ds) J b
+finish_in InFinish J b ds cause = finish_again (difference same_decision (decisions_in (record_of finish_kind J b)) ds) J b
 finish_in InLock J b ds cause = finish_now (misfit (lock_of J b) ds) J b.lane cause
 finish_in other J b ds cause = Refuse (NotLocked (slot J b.lane).number)
 

@@ -58,17 +58,45 @@ stamp_of (Commit stamp b os) = stamp
 stamp_of (Discard stamp b) = stamp
 stamp_of (Done stamp b) = stamp
 
--- the kinds, as the first byte of a record's body names them
+-- `genesis_kind` to `done_kind`: the kinds of record, each by the first byte of a record's body
+abbrev pub genesis_kind : ℕ
+genesis_kind = 1
+
+abbrev pub lock_kind : ℕ
+lock_kind = 2
+
+abbrev pub finish_kind : ℕ
+finish_kind = 3
+
+abbrev pub forget_kind : ℕ
+forget_kind = 4
+
+abbrev pub start_kind : ℕ
+start_kind = 5
+
+abbrev pub prepare_kind : ℕ
+prepare_kind = 6
+
+abbrev pub commit_kind : ℕ
+commit_kind = 7
+
+abbrev pub discard_kind : ℕ
+discard_kind = 8
+
+abbrev pub done_kind : ℕ
+done_kind = 9
+
+-- a record's kind
 abbrev pub kind_of : Record → ℕ
-kind_of (Genesis header hashes) = 1
-kind_of (Lock stamp b es) = 2
-kind_of (Finish stamp b ds) = 3
-kind_of (Forget stamp b) = 4
-kind_of (Start header) = 5
-kind_of (Prepare stamp b txs) = 6
-kind_of (Commit stamp b os) = 7
-kind_of (Discard stamp b) = 8
-kind_of (Done stamp b) = 9
+kind_of (Genesis header hashes) = genesis_kind
+kind_of (Lock stamp b es) = lock_kind
+kind_of (Finish stamp b ds) = finish_kind
+kind_of (Forget stamp b) = forget_kind
+kind_of (Start header) = start_kind
+kind_of (Prepare stamp b txs) = prepare_kind
+kind_of (Commit stamp b os) = commit_kind
+kind_of (Discard stamp b) = discard_kind
+kind_of (Done stamp b) = done_kind
 
 -- whether a record is of this batch
 abbrev pub is_of : Batch → Record → Bool
@@ -125,15 +153,15 @@ stamp_in None = 0
 
 -- the transactions of a batch's Prepare in a journal
 abbrev pub txs_of : List Record → Batch → List Compact
-txs_of past b = txs_in (record_of 6 past b)
+txs_of past b = txs_in (record_of prepare_kind past b)
 
 -- the outcomes of a batch's Commit in a journal
 abbrev pub outcomes_of : List Record → Batch → List Outcome
-outcomes_of past b = outcomes_in (record_of 7 past b)
+outcomes_of past b = outcomes_in (record_of commit_kind past b)
 
 -- the answered entries of a batch's Lock in a journal
 abbrev pub lock_of : List Record → Batch → List Answered
-lock_of past b = entries_in (record_of 2 past b)
+lock_of past b = entries_in (record_of lock_kind past b)
 
 -- the stamp of the newest record, 0 where there is none
 abbrev pub last_stamp : List Record → ℕ

@@ -1,7 +1,7 @@
 -- What a run adds to the journals: it resumes what was open, and then takes one file of submissions after another.
 use Rattle.std.specs.Prelude.{◌≡◌, ℕ, suc, ◌*◌, ◌%◌, ◌<◌, Bool, true, false, ◌==◌, List, [], ◌∷◌, ◌++◌, map, reverse, length, take, drop, is_some, if◌then◌else◌}
 use Rattle.std.specs.List.{filter}
-use Rattle.cbdc_model.specs.Records.{Shape, Batch, Compact, Record, record_of, is_of, Prepare}
+use Rattle.cbdc_model.specs.Records.{Shape, Batch, Compact, Record, record_of, is_of, Prepare, prepare_kind, done_kind}
 use Rattle.cbdc_model.specs.Ranges.{home_of}
 use Rattle.cbdc_model.specs.Coins.{FullTx, compact}
 use Rattle.cbdc_model.specs.World.{AreIdle}
@@ -38,11 +38,11 @@ pub record Adds (of : Batch → Type 0) (I J : ℕ → List Record) : Type 0 whe
 
 -- whether the batch has its Prepare
 abbrev pub has_prepare : Shape → (ℕ → List Record) → Batch → Bool
-has_prepare K J b = is_some (record_of 6 (J (home_of K b.lane)) b)
+has_prepare K J b = is_some (record_of prepare_kind (J (home_of K b.lane)) b)
 
 -- whether the batch has its Done
 abbrev pub has_done : Shape → (ℕ → List Record) → Batch → Bool
-has_done K J b = is_some (record_of 9 (J (home_of K b.lane)) b)
+has_done K J b = is_some (record_of done_kind (J (home_of K b.lane)) b)
 
 -- the open batches are brought to their end, every lane is idle then, and nothing else is done
 pub record IsResumed (K : Shape) (I J : ℕ → List Record) : Type 0 where

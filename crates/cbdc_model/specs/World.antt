@@ -4,7 +4,7 @@ use Rattle.std.specs.List.{range_with_len}
 use Rattle.cbdc_types.specs.declared.calls.LockCall.{LockCall}
 use Rattle.cbdc_types.specs.declared.calls.FinishCall.{FinishCall}
 use Rattle.cbdc_types.specs.declared.calls.ForgetCall.{ForgetCall}
-use Rattle.cbdc_model.specs.Records.{Digest, Shape, Batch, Compact, Outcome, Record, Row, record_of, journal, outcomes_of, lock_of, decisions_in, kind_of, is_of, Genesis, Start, Lock, Finish, Forget, Prepare, Commit, Discard}
+use Rattle.cbdc_model.specs.Records.{Digest, Shape, Batch, Compact, Outcome, Record, Row, record_of, journal, outcomes_of, lock_of, decisions_in, kind_of, is_of, Genesis, Start, Lock, Finish, Forget, Prepare, Commit, Discard, lock_kind, finish_kind, forget_kind, prepare_kind, commit_kind, discard_kind}
 use Rattle.cbdc_model.specs.Status.{status, Unspent}
 use Rattle.cbdc_model.specs.Slots.{slot, Idle}
 use Rattle.cbdc_model.specs.Replies.{answered, entries}
@@ -86,12 +86,12 @@ IsConcerned K J node b = (s : ℕ) × (node ≡ shard_node K s) × Concerned K (
 -- the call's cause stands, with the stamp and the part or the decisions that the call carries
 abbrev pub CauseStands : Shape → (ℕ → List Record) → ℕ → ShardCall → Type 0
 CauseStands K J node (Lock_call c) =
-    (txs : List Compact) × (record_of 6 (J (home_of K c.batch.lane)) c.batch ≡ Some (Prepare c.cause c.batch txs))
+    (txs : List Compact) × (record_of prepare_kind (J (home_of K c.batch.lane)) c.batch ≡ Some (Prepare c.cause c.batch txs))
     × ((s : ℕ) → node ≡ shard_node K s → c.part ≡ part K.shards s 0 txs)
 CauseStands K J node (Finish_call c) =
-    (os : List Outcome) × (record_of 7 (J (home_of K c.batch.lane)) c.batch ≡ Some (Commit c.cause c.batch os))
+    (os : List Outcome) × (record_of commit_kind (J (home_of K c.batch.lane)) c.batch ≡ Some (Commit c.cause c.batch os))
     × (c.decisions ≡ decisions os (entries (lock_of (J node) c.batch)))
-CauseStands K J node (Forget_call c) = record_of 8 (J (home_of K c.batch.lane)) c.batch ≡ Some (Discard c.cause c.batch)
+CauseStands K J node (Forget_call c) = record_of discard_kind (J (home_of K c.batch.lane)) c.batch ≡ Some (Discard c.cause c.batch)
 
 -- what may happen: a record is begun, and ends at its node's journal; a node crashes, keeping what was in flight or not, and
 -- is opened again; a call is made again, however old
@@ -188,17 +188,17 @@ count_of kind (r ∷ past) b = (if (kind_of r == kind) && is_of b r then 1 else 
 -- the batch has one Commit at its coordinator; each concerned shard has one Lock and one Finish of it, with the Commit's decisions; no other
 -- shard has a Lock, a Finish or a Forget of it
 pub record IsAlike (K : Shape) (J : ℕ → List Record) (b : Batch) : Type 0 where
-  pub one_commit : count_of 7 (J (home_of K b.lane)) b ≡ 1
-  pub one_lock : (s : ℕ) → Concerned K (prepared_txs K J b) s → count_of 2 (J (shard_node K s)) b ≡ 1
-  pub one_finish : (s : ℕ) → Concerned K (prepared_txs K J b) s → count_of 3 (J (shard_node K s)) b ≡ 1
+  pub one_commit : count_of commit_kind (J (home_of K b.lane)) b ≡ 1
+  pub one_lock : (s : ℕ) → Concerned K (prepared_txs K J b) s → count_of lock_kind (J (shard_node K s)) b ≡ 1
+  pub one_finish : (s : ℕ) → Concerned K (prepared_txs K J b) s → count_of finish_kind (J (shard_node K s)) b ≡ 1
   pub same_decisions : (s : ℕ) → Concerned K (prepared_txs K J b) s
-      → decisions_in (record_of 3 (J (shard_node K s)) b) ≡ decisions (outcomes_of (J (home_of K b.lane)) b) (part K.shards s 0 (prepared_txs K J b))
+      → decisions_in (record_of finish_kind (J (shard_node K s)) b) ≡ decisions (outcomes_of (J (home_of K b.lane)) b) (part K.shards s 0 (prepared_txs K J b))
   pub no_other : (s kind : ℕ) → s < K.shards → is_no_part (part K.shards s 0 (prepared_txs K J b)) ≡ true
-      → (kind ≡ 2) ⊎ (kind ≡ 3) ⊎ (kind ≡ 4) → count_of kind (J (shard_node K s)) b ≡ 0
+      → (kind ≡ lock_kind) ⊎ (kind ≡ finish_kind) ⊎ (kind ≡ forget_kind) → count_of kind (J (shard_node K s)) b ≡ 0
 
 -- every batch with a Prepare is finished alike on all its shards
 abbrev pub Alike : Shape → (ℕ → List Record) → Type 0
-Alike K J = (b : Batch) → is_some (record_of 6 (J (home_of K b.lane)) b) ≡ true → IsAlike K J b
+Alike K J = (b : Batch) → is_some (record_of prepare_kind (J (home_of K b.lane)) b) ≡ true → IsAlike K J b
 
 -- the hash is Unspent at its shard
 abbrev pub IsUnspent : Shape → (ℕ → List Record) → Digest → Type 0

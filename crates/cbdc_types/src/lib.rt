@@ -16,5 +16,5 @@ pub use batch::{
     ShardReplies, Status,
 };
 pub use calls::{FinishCall, ForgetCall, LockCall, NodeFault, NodeOpenFault, Refused, Replied};
-pub use record::{Header, Record};
+pub use record::{Header, Record, RecordKind};
 pub use tx::{Batch, CompactTx, FullTx, Input, Mint, OutPoint, Output};

@@ -62,3 +62,17 @@ pub enum Record {
         batch: BatchId,
     },
 }
+
+/// The kinds of record. As a number, a kind is the first byte of a record's body (docs/FORMATS.md).
+#[derive(Clone, Copy)]
+pub enum RecordKind {
+    Genesis = 1,
+    Lock = 2,
+    Finish = 3,
+    Forget = 4,
+    Start = 5,
+    Prepare = 6,
+    Commit = 7,
+    Discard = 8,
+    Done = 9,
+}

@@ -1,6 +1,6 @@
 -- Why a lane stopped, by the journals then and at any later time.
 use Rattle.std.specs.Prelude.{◌≡◌, ◌⊎◌, ℕ, zero, suc, ◌+◌, ◌*◌, ◌^◌, ◌<◌, ◌≤◌, true, List, [], ◌∷◌, ◌++◌, Some}
-use Rattle.cbdc_model.specs.Records.{Shape, Batch, Compact, Record, record_of, stamp_of, is_in_lane, Prepare}
+use Rattle.cbdc_model.specs.Records.{Shape, Batch, Compact, Record, record_of, stamp_of, is_in_lane, Prepare, lock_kind, prepare_kind}
 use Rattle.cbdc_model.specs.Slots.{slot, Idle, InPrepare}
 use Rattle.cbdc_model.specs.Ranges.{home_of, shard_node, part}
 use Rattle.cbdc_model.specs.Room.{need_of}
@@ -43,7 +43,7 @@ TakesInOrder K E X = (lanes : ℕ) × (lanes ≤ K.coordinators * K.lanes) × To
 pub data IsWanted (K : Shape) (lane : ℕ) (next : List Compact → Type 0) (X : ℕ → List Record) (node : ℕ) (front : List Record) (r : Record) : Type 0 where
   wants_prepare : (txs : List Compact) → next txs → node ≡ home_of K lane → lane_phase K X lane ≡ Idle → r ≡ prepare_record front lane txs → IsWanted K lane next X node front r
   wants_lock : (b : Batch) (t : ℕ) (txs : List Compact) (s : ℕ) → b.lane ≡ lane → node ≡ shard_node K s → is_concerned K txs s ≡ true → lane_phase K X lane ≡ InPrepare
-      → record_of 6 (X (home_of K lane)) b ≡ Some (Prepare t b txs) → HaveBelow K txs (λ k. X (shard_node K k)) 2 b s → (slot (X node) lane).number < b.number
+      → record_of prepare_kind (X (home_of K lane)) b ≡ Some (Prepare t b txs) → HaveBelow K txs (λ k. X (shard_node K k)) lock_kind b s → (slot (X node) lane).number < b.number
       → r ≡ lock_record front (record { batch = b; part = part K.shards s 0 txs; cause = t }) → IsWanted K lane next X node front r
 
 -- behind a front of the node's journal, which the journal at entry begins and behind which nothing of the lane came, its disk has no room for what the
@@ -85,7 +85,7 @@ pub record LacksLock (K : Shape) (lane : ℕ) (X : ℕ → List Record) : Type 0
   pub stamp : ℕ
   pub txs : List Compact
   pub phase : lane_phase K X lane ≡ InPrepare
-  pub prepare : record_of 6 (X (home_of K lane)) batch ≡ Some (Prepare stamp batch txs)
+  pub prepare : record_of prepare_kind (X (home_of K lane)) batch ≡ Some (Prepare stamp batch txs)
   pub shard : ℕ
   pub concerned : is_concerned K txs shard ≡ true
   pub lacks : (slot (X (shard_node K shard)) lane).number < batch.number

@@ -12,7 +12,9 @@ ghost use Rattle.node_journal.specs.Nodes.{sight};
 ghost use Rattle.node_ports.specs.Nodes.{sight_at, KeepsRest, IsNodeHeld, AreNodesHeld};
 ghost use Rattle.node_ports.specs.Moving.{DecidedMoves};
 
-use cbdc_types::{BatchId, CompactTx, LaneId, NodeFault, NodeId, Outcome, Replies, Stamp};
+use cbdc_types::{
+    BatchId, CompactTx, LaneId, NodeFault, NodeId, Outcome, RecordKind, Replies, Stamp,
+};
 use coord_log::CoordLog;
 use lane_driver::LogPort;
 use outside::{Disk, Gate, Point, When};
@@ -26,25 +28,16 @@ pub struct NodeLogs<'r, W: Wait, D: Disk> {
     pub at: u32,
 }
 
-// The kinds of the records that the calls append.
-const PREPARE: u8 = 6;
-
-const COMMIT: u8 = 7;
-
-const DISCARD: u8 = 8;
-
-const DONE: u8 = 9;
-
 impl<'r, W: Wait, D: Disk> NodeLogs<'r, W, D> {
     // Passes the gate at a call of a kind.
-    fn pass<G: Gate>(&self, gate: &G, lane: LaneId, kind: u8, when: When) {
+    fn pass<G: Gate>(&self, gate: &G, lane: LaneId, kind: RecordKind, when: When) {
         let node = NodeId(self.at);
         gate.pass(
             self.rt,
             &Point {
                 lane,
                 node,
-                kind,
+                kind: kind as u8,
                 when,
             },
         );
@@ -170,10 +163,10 @@ impl<'r, W: Wait, D: Disk> LogPort for NodeLogs<'r, W, D> {
         txs: &[CompactTx],
         gate: &G,
     ) -> Result<(BatchId, Stamp), NodeFault> {
-        self.pass(gate, lane, PREPARE, When::Before);
-        self.pass(gate, lane, PREPARE, When::Inside);
+        self.pass(gate, lane, RecordKind::Prepare, When::Before);
+        self.pass(gate, lane, RecordKind::Prepare, When::Inside);
         let answer = prepare_at(&mut self.logs[self.at as usize], lane, txs);
-        self.pass(gate, lane, PREPARE, When::After);
+        self.pass(gate, lane, RecordKind::Prepare, When::After);
         answer
     }
 
@@ -184,10 +177,10 @@ impl<'r, W: Wait, D: Disk> LogPort for NodeLogs<'r, W, D> {
         out: &mut Vec<Outcome>,
         gate: &G,
     ) -> Result<Stamp, NodeFault> {
-        self.pass(gate, lane, COMMIT, When::Before);
-        self.pass(gate, lane, COMMIT, When::Inside);
+        self.pass(gate, lane, RecordKind::Commit, When::Before);
+        self.pass(gate, lane, RecordKind::Commit, When::Inside);
         let answer = decide_at(&mut self.logs[self.at as usize], lane, replies, out);
-        self.pass(gate, lane, COMMIT, When::After);
+        self.pass(gate, lane, RecordKind::Commit, When::After);
         answer
     }
 
@@ -197,18 +190,18 @@ impl<'r, W: Wait, D: Disk> LogPort for NodeLogs<'r, W, D> {
         cause: Stamp,
         gate: &G,
     ) -> Result<Stamp, NodeFault> {
-        self.pass(gate, lane, DISCARD, When::Before);
-        self.pass(gate, lane, DISCARD, When::Inside);
+        self.pass(gate, lane, RecordKind::Discard, When::Before);
+        self.pass(gate, lane, RecordKind::Discard, When::Inside);
         let answer = discard_at(&mut self.logs[self.at as usize], lane, cause);
-        self.pass(gate, lane, DISCARD, When::After);
+        self.pass(gate, lane, RecordKind::Discard, When::After);
         answer
     }
 
     fn done<G: Gate>(&mut self, lane: LaneId, cause: Stamp, gate: &G) -> Result<Stamp, NodeFault> {
-        self.pass(gate, lane, DONE, When::Before);
-        self.pass(gate, lane, DONE, When::Inside);
+        self.pass(gate, lane, RecordKind::Done, When::Before);
+        self.pass(gate, lane, RecordKind::Done, When::Inside);
         let answer = done_at(&mut self.logs[self.at as usize], lane, cause);
-        self.pass(gate, lane, DONE, When::After);
+        self.pass(gate, lane, RecordKind::Done, When::After);
         answer
     }
 }

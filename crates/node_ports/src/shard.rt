@@ -8,7 +8,9 @@ ghost use Rattle.lane_driver.specs.Told.{IsStamp, IsStillNode};
 ghost use Rattle.node_journal.specs.Nodes.{sight};
 ghost use Rattle.node_ports.specs.Nodes.{IsNodeHeld};
 
-use cbdc_types::{FinishCall, ForgetCall, LaneId, LockCall, NodeFault, NodeId, Replied, Stamp};
+use cbdc_types::{
+    FinishCall, ForgetCall, LaneId, LockCall, NodeFault, NodeId, RecordKind, Replied, Stamp,
+};
 use lane_driver::ShardPort;
 use outside::{Disk, Gate, Point, When};
 use shard_node::ShardNode;
@@ -22,13 +24,6 @@ pub struct NodeShard<'r, 'n, W: Wait, D: Disk> {
     pub node: NodeId,
     pub shard: &'n mut ShardNode<D>,
 }
-
-// The kinds of the records that the calls append.
-const LOCK: u8 = 2;
-
-const FINISH: u8 = 3;
-
-const FORGET: u8 = 4;
 
 /// Locks a part for a batch at a shard, by what is seen of it.
 pub fn lock_at<D: Disk>(node: &mut ShardNode<D>, call: &LockCall) -> Result<Replied, NodeFault>
@@ -71,13 +66,13 @@ pub fn forget_at<D: Disk>(node: &mut ShardNode<D>, call: &ForgetCall) -> Result<
 
 impl<'r, 'n, W: Wait, D: Disk> NodeShard<'r, 'n, W, D> {
     // Passes the gate at a call of a kind.
-    fn pass<G: Gate>(&self, gate: &G, kind: u8, when: When) {
+    fn pass<G: Gate>(&self, gate: &G, kind: RecordKind, when: When) {
         gate.pass(
             self.rt,
             &Point {
                 lane: self.lane,
                 node: self.node,
-                kind,
+                kind: kind as u8,
                 when,
             },
         );
@@ -98,26 +93,26 @@ impl<'r, 'n, W: Wait, D: Disk> ShardPort for NodeShard<'r, 'n, W, D> {
     ghost serves = { λ p l. Unit {0} };
 
     fn lock<G: Gate>(&mut self, call: &LockCall, gate: &G) -> Result<Replied, NodeFault> {
-        self.pass(gate, LOCK, When::Before);
-        self.pass(gate, LOCK, When::Inside);
+        self.pass(gate, RecordKind::Lock, When::Before);
+        self.pass(gate, RecordKind::Lock, When::Inside);
         let answer = lock_at(self.shard, call);
-        self.pass(gate, LOCK, When::After);
+        self.pass(gate, RecordKind::Lock, When::After);
         answer
     }
 
     fn finish<G: Gate>(&mut self, call: &FinishCall, gate: &G) -> Result<Stamp, NodeFault> {
-        self.pass(gate, FINISH, When::Before);
-        self.pass(gate, FINISH, When::Inside);
+        self.pass(gate, RecordKind::Finish, When::Before);
+        self.pass(gate, RecordKind::Finish, When::Inside);
         let answer = finish_at(self.shard, call);
-        self.pass(gate, FINISH, When::After);
+        self.pass(gate, RecordKind::Finish, When::After);
         answer
     }
 
     fn forget<G: Gate>(&mut self, call: &ForgetCall, gate: &G) -> Result<Stamp, NodeFault> {
-        self.pass(gate, FORGET, When::Before);
-        self.pass(gate, FORGET, When::Inside);
+        self.pass(gate, RecordKind::Forget, When::Before);
+        self.pass(gate, RecordKind::Forget, When::Inside);
         let answer = forget_at(self.shard, call);
-        self.pass(gate, FORGET, When::After);
+        self.pass(gate, RecordKind::Forget, When::After);
         answer
     }
 }

@@ -10,7 +10,7 @@ ghost use Rattle.plain_check.specs.Journals.{journals_in};
 ghost use Rattle.plain_check.specs.Adding.{MayAdd, IsAdded, GrowsByNew};
 
 use crate::{home_journal, is_idle, journal_at, record_of, slot_of};
-use cbdc_types::{BatchId, LaneId, List, Record, Shape};
+use cbdc_types::{BatchId, LaneId, List, Record, RecordKind, Shape};
 use same_records::{home_of, is_journal};
 
 /// The batch of a record, none of a first record.
@@ -48,11 +48,11 @@ fn may_add(
 ) -> bool
     ensures { IsTrue result ↔ MayAdd resumes shape.now (journals_in old.now) (journals_in new.now) batch.now }
 {
-    let begun = has_kind(6, shape, old, batch);
+    let begun = has_kind(RecordKind::Prepare as u64, shape, old, batch);
     if resumes {
-        begun && !has_kind(9, shape, old, batch)
+        begun && !has_kind(RecordKind::Done as u64, shape, old, batch)
     } else {
-        !begun && has_kind(6, shape, new, batch)
+        !begun && has_kind(RecordKind::Prepare as u64, shape, new, batch)
     }
 }
 

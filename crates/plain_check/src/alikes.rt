@@ -1,6 +1,6 @@
 // Whether batches are finished alike on all their shards.
 ghost use Rattle.std.specs.Prelude.{◌≡◌, ◌↔◌, ◌∷◌, ◌<◌, ◌≤◌, ◌^◌, ℕ, List as Items, [], length, drop, IsTrue};
-ghost use Rattle.cbdc_model.specs.Records.{Outcome as ModelOutcome};
+ghost use Rattle.cbdc_model.specs.Records.{Outcome as ModelOutcome, lock_kind, finish_kind};
 ghost use Rattle.cbdc_model.specs.Ranges.{part};
 ghost use Rattle.cbdc_model.specs.Outcomes.{decisions};
 ghost use Rattle.cbdc_model.specs.World.{count_of, IsAlike, Alike};
@@ -10,7 +10,7 @@ ghost use Rattle.plain_check.specs.Alikes.{IsFinishedAt, HasNone, IsAlikeAt, Pre
 use crate::{
     finished_decisions, home_journal, is_of, journal_at, kind_of, outcomes_of, txs_of, won_at,
 };
-use cbdc_types::{BatchId, CompactTx, List, Outcome, Record, Shape};
+use cbdc_types::{BatchId, CompactTx, List, Outcome, Record, RecordKind, Shape};
 use same_records::{are_elsewhere, home_of, is_concerned};
 
 /// How many records of a kind of a batch a journal has.
@@ -70,9 +70,10 @@ fn are_decided(
 
 // Whether a journal has one Lock and one Finish of a batch.
 fn has_one_each(past: &[Record], batch: &BatchId) -> bool
-    ensures { IsTrue result ↔ ((count_of 2 past.now batch.now ≡ 1) × (count_of 3 past.now batch.now ≡ 1)) }
+    ensures { IsTrue result ↔ ((count_of lock_kind past.now batch.now ≡ 1) × (count_of finish_kind past.now batch.now ≡ 1)) }
 {
-    count_of(2, past, batch) == 1 && count_of(3, past, batch) == 1
+    count_of(RecordKind::Lock as u64, past, batch) == 1
+        && count_of(RecordKind::Finish as u64, past, batch) == 1
 }
 
 // Whether a shard has one Lock and one Finish of a batch, with the Commit's decisions.
@@ -96,7 +97,9 @@ fn is_finished(journals: &[List<Record>], shape: &Shape, batch: &BatchId, shard:
 fn has_none(past: &[Record], batch: &BatchId) -> bool
     ensures { IsTrue result ↔ HasNone past.now batch.now }
 {
-    count_of(2, past, batch) == 0 && count_of(3, past, batch) == 0 && count_of(4, past, batch) == 0
+    count_of(RecordKind::Lock as u64, past, batch) == 0
+        && count_of(RecordKind::Finish as u64, past, batch) == 0
+        && count_of(RecordKind::Forget as u64, past, batch) == 0
 }
 
 // Whether a shard is finished where the batch concerns it, and has no record of it elsewhere.
@@ -129,7 +132,11 @@ fn are_alike_below(journals: &[List<Record>], shape: &Shape, batch: &BatchId, n:
 pub fn is_alike(journals: &[List<Record>], shape: &Shape, batch: &BatchId) -> bool
     ensures { IsTrue result ↔ IsAlike shape.now (journals_in journals.now) batch.now }
 {
-    count_of(7, home_journal(journals, shape, batch), batch) == 1
+    count_of(
+        RecordKind::Commit as u64,
+        home_journal(journals, shape, batch),
+        batch,
+    ) == 1
         && are_alike_below(journals, shape, batch, shape.shards())
 }
 

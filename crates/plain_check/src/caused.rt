@@ -1,6 +1,6 @@
 // Whether a record is caused by what stands in journals.
 ghost use Rattle.std.specs.Prelude.{◌≡◌, ◌↔◌, ℕ, IsTrue, IfOk};
-ghost use Rattle.cbdc_model.specs.Records.{txs_of, Lock, Finish, Commit};
+ghost use Rattle.cbdc_model.specs.Records.{txs_of, Lock, Finish, Commit, lock_kind};
 ghost use Rattle.cbdc_model.specs.Replies.{entries};
 ghost use Rattle.cbdc_model.specs.Ranges.{home_of, shard_node, part};
 ghost use Rattle.cbdc_model.specs.Records.{entries_in};
@@ -12,7 +12,9 @@ use crate::causes::{all_have, home_journal, is_stamped, last_of};
 use crate::copying::entries_in;
 use crate::outcomes::{decisions_of, journal_at, outcomes_by_locks};
 use crate::records::{lock_of, outcomes_of, record_of, stamp_of, txs_of};
-use cbdc_types::{Answered, BatchId, CompactTx, List, NodeId, Outcome, Record, Shape, Stamp};
+use cbdc_types::{
+    Answered, BatchId, CompactTx, List, NodeId, Outcome, Record, RecordKind, Shape, Stamp,
+};
 use same_records::{are_decisions, are_outcomes, is_part_from};
 use std::alloc::{AllocError, Global};
 
@@ -38,7 +40,7 @@ fn is_lock_caused(
     ensures { IsTrue result ↔ IsCaused shape.now (journals_in journals.now) node (Lock stamp batch.now es.now) }
 {
     let home = home_journal(journals, shape, batch);
-    let Some(cause) = record_of(6, home, batch) else {
+    let Some(cause) = record_of(RecordKind::Prepare as u64, home, batch) else {
         return false;
     };
     is_stamped(stamp, journal_at(journals, node.0), stamp_of(cause))
@@ -53,7 +55,7 @@ fn are_by_locks(
     batch: &BatchId,
     given: &[Outcome],
 ) -> Result<bool, AllocError>
-    ensures { IfOk result (λ yes. IsTrue yes ↔ (given.now ≡ outcomes (λ s. entries_in (at_shards shape.now (journals_in journals.now) 2 batch.now s)) shape.now.shards 0
+    ensures { IfOk result (λ yes. IsTrue yes ↔ (given.now ≡ outcomes (λ s. entries_in (at_shards shape.now (journals_in journals.now) lock_kind batch.now s)) shape.now.shards 0
         (txs_of (journals_in journals.now (home_of shape.now batch.now.lane)) batch.now))) }
 {
     let txs = txs_of(home_journal(journals, shape, batch), batch);
@@ -73,11 +75,15 @@ fn is_commit_caused(
 ) -> Result<bool, AllocError>
     ensures { IfOk result (λ yes. IsTrue yes ↔ IsCaused shape.now (journals_in journals.now) node (Commit stamp batch.now outcomes.now)) }
 {
-    if !all_have(journals, shape, 2, batch) {
+    if !all_have(journals, shape, RecordKind::Lock as u64, batch) {
         return Ok(false);
     }
     let own = journal_at(journals, node.0);
-    if !is_stamped(stamp, own, last_of(journals, shape, 2, batch)) {
+    if !is_stamped(
+        stamp,
+        own,
+        last_of(journals, shape, RecordKind::Lock as u64, batch),
+    ) {
         return Ok(false);
     }
     are_by_locks(alloc, journals, shape, batch, outcomes)
@@ -96,7 +102,7 @@ fn is_finish_caused(
     ensures { IfOk result (λ yes. IsTrue yes ↔ IsCaused shape.now (journals_in journals.now) node (Finish stamp batch.now decisions.now)) }
 {
     let home = home_journal(journals, shape, batch);
-    let Some(cause) = record_of(7, home, batch) else {
+    let Some(cause) = record_of(RecordKind::Commit as u64, home, batch) else {
         return Ok(false);
     };
     let own = journal_at(journals, node.0);
@@ -156,18 +162,30 @@ pub fn is_caused(
             decisions.as_slice(),
         ),
         Record::Discard { stamp, batch } => Ok(
-            all_have(journals, shape, 3, batch)
-                && is_stamped(*stamp, own, last_of(journals, shape, 3, batch)),
+            all_have(journals, shape, RecordKind::Finish as u64, batch)
+                && is_stamped(
+                    *stamp,
+                    own,
+                    last_of(journals, shape, RecordKind::Finish as u64, batch),
+                ),
         ),
         Record::Forget { stamp, batch } => {
-            match record_of(8, home_journal(journals, shape, batch), batch) {
+            match record_of(
+                RecordKind::Discard as u64,
+                home_journal(journals, shape, batch),
+                batch,
+            ) {
                 Some(cause) => Ok(is_stamped(*stamp, own, stamp_of(cause))),
                 None => Ok(false),
             }
         }
         Record::Done { stamp, batch } => Ok(
-            all_have(journals, shape, 4, batch)
-                && is_stamped(*stamp, own, last_of(journals, shape, 4, batch)),
+            all_have(journals, shape, RecordKind::Forget as u64, batch)
+                && is_stamped(
+                    *stamp,
+                    own,
+                    last_of(journals, shape, RecordKind::Forget as u64, batch),
+                ),
         ),
     }
 }

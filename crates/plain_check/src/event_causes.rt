@@ -14,7 +14,8 @@ use crate::{
     record_of, txs_of,
 };
 use cbdc_types::{
-    BatchId, FinishCall, ForgetCall, Hash, Header, List, LockCall, NodeId, Record, Shape,
+    BatchId, FinishCall, ForgetCall, Hash, Header, List, LockCall, NodeId, Record, RecordKind,
+    Shape,
 };
 use same_records::{are_decisions, home_of, is_batch, is_concerned};
 use std::alloc::{AllocError, Global};
@@ -49,7 +50,11 @@ pub fn is_concerned_at(nodes: &[Node], shape: &Shape, node: NodeId, batch: &Batc
 fn has_lock_cause(nodes: &[Node], shape: &Shape, node: NodeId, call: &LockCall) -> bool
     ensures { IsTrue result ↔ CauseStands shape.now (journals nodes.now) node (Lock_call call.now) }
 {
-    match record_of(6, home_journal(nodes, shape, &call.batch), &call.batch) {
+    match record_of(
+        RecordKind::Prepare as u64,
+        home_journal(nodes, shape, &call.batch),
+        &call.batch,
+    ) {
         Some(Record::Prepare { stamp, batch, txs }) => {
             stamp.0 == call.cause.0
                 && is_batch(batch, &call.batch)
@@ -69,7 +74,11 @@ fn has_finish_cause(
 ) -> Result<bool, AllocError>
     ensures { IfOk result (λ yes. IsTrue yes ↔ CauseStands shape.now (journals nodes.now) node (Finish_call call.now)) }
 {
-    match record_of(7, home_journal(nodes, shape, &call.batch), &call.batch) {
+    match record_of(
+        RecordKind::Commit as u64,
+        home_journal(nodes, shape, &call.batch),
+        &call.batch,
+    ) {
         Some(
             Record::Commit {
                 stamp,
@@ -92,7 +101,11 @@ fn has_finish_cause(
 fn has_forget_cause(nodes: &[Node], shape: &Shape, node: NodeId, call: &ForgetCall) -> bool
     ensures { IsTrue result ↔ CauseStands shape.now (journals nodes.now) node (Forget_call call.now) }
 {
-    match record_of(8, home_journal(nodes, shape, &call.batch), &call.batch) {
+    match record_of(
+        RecordKind::Discard as u64,
+        home_journal(nodes, shape, &call.batch),
+        &call.batch,
+    ) {
         Some(Record::Discard { stamp, batch }) => {
             stamp.0 == call.cause.0 && is_batch(batch, &call.batch)
         }

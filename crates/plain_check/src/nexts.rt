@@ -1,6 +1,6 @@
 // What a shard with a journal answers to a call.
 ghost use Rattle.std.specs.Prelude.{◌≡◌, ◌<◌, ◌^◌, IfOk};
-ghost use Rattle.cbdc_model.specs.Records.{last_stamp, record_of, decisions_in, stamp_in};
+ghost use Rattle.cbdc_model.specs.Records.{last_stamp, record_of, decisions_in, stamp_in, finish_kind};
 ghost use Rattle.cbdc_model.specs.Next.{next_stamp, next_lock, next_finish, next_forget, lock_again, finish_again, finish_now, finish_in, forget_in, is_idle};
 ghost use Rattle.plain_check.specs.Slots.{phase_in};
 ghost use Rattle.plain_check.specs.Plans.{locking_plan, plain_plan};
@@ -11,7 +11,9 @@ use crate::plans::{LockPlan, StampPlan};
 use crate::records::{last_stamp, lock_of, record_of, stamp_of};
 use crate::replying::replies_of;
 use crate::slots::{Phase, slot_of, slot_stamp};
-use cbdc_types::{BatchId, FinishCall, ForgetCall, LockCall, Record, Refused, Replied, Stamp};
+use cbdc_types::{
+    BatchId, FinishCall, ForgetCall, LockCall, Record, RecordKind, Refused, Replied, Stamp,
+};
 use std::alloc::{AllocError, Global};
 
 /// Whether a phase is Idle.
@@ -49,9 +51,9 @@ pub fn stamp_of_kind(kind: u64, past: &[Record], batch: &BatchId) -> Stamp
 
 /// The decisions of a batch's Finish, none where there is no Finish.
 pub fn finished_decisions<'a>(past: &'a [Record], batch: &BatchId) -> &'a [bool]
-    ensures { result.now ≡ decisions_in (record_of 3 past.now batch.now) }
+    ensures { result.now ≡ decisions_in (record_of finish_kind past.now batch.now) }
 {
-    match record_of(3, past, batch) {
+    match record_of(RecordKind::Finish as u64, past, batch) {
         Some(Record::Finish { decisions, .. }) => decisions.as_slice(),
         _ => &[],
     }
@@ -71,7 +73,7 @@ fn lock_again(
     }
     Ok(LockPlan::Kept(Replied {
         replies: replies_in(alloc, lock_of(past, batch))?,
-        stamp: stamp_of_kind(2, past, batch),
+        stamp: stamp_of_kind(RecordKind::Lock as u64, past, batch),
     }))
 }
 
@@ -112,7 +114,7 @@ fn finish_again(other: Option<u64>, past: &[Record], batch: &BatchId) -> StampPl
 {
     match other {
         Some(at) => StampPlan::Refuse(Refused::OtherOutcome { at }),
-        None => StampPlan::Kept(stamp_of_kind(3, past, batch)),
+        None => StampPlan::Kept(stamp_of_kind(RecordKind::Finish as u64, past, batch)),
     }
 }
 

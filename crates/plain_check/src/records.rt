@@ -3,7 +3,7 @@ ghost use Rattle.std.specs.Prelude.{◌≡◌, MatchOption};
 ghost use Rattle.cbdc_model.specs.Records.{stamp_of, kind_of, is_of, is_in_lane, record_of, lock_of, txs_of, outcomes_of, last_stamp};
 ghost use Rattle.cbdc_model.specs.Status.{has};
 
-use cbdc_types::{Answered, BatchId, CompactTx, Hash, LaneId, Outcome, Record, Stamp};
+use cbdc_types::{Answered, BatchId, CompactTx, Hash, LaneId, Outcome, Record, RecordKind, Stamp};
 use same_records::{is_same_batch, is_same_hash};
 
 /// A record's stamp: 0 for a first record.
@@ -37,15 +37,15 @@ pub fn kind_of(r: &Record) -> u64
     ensures { result ≡ kind_of r.now }
 {
     match r {
-        Record::Genesis { .. } => 1,
-        Record::Lock { .. } => 2,
-        Record::Finish { .. } => 3,
-        Record::Forget { .. } => 4,
-        Record::Start { .. } => 5,
-        Record::Prepare { .. } => 6,
-        Record::Commit { .. } => 7,
-        Record::Discard { .. } => 8,
-        Record::Done { .. } => 9,
+        Record::Genesis { .. } => RecordKind::Genesis as u64,
+        Record::Lock { .. } => RecordKind::Lock as u64,
+        Record::Finish { .. } => RecordKind::Finish as u64,
+        Record::Forget { .. } => RecordKind::Forget as u64,
+        Record::Start { .. } => RecordKind::Start as u64,
+        Record::Prepare { .. } => RecordKind::Prepare as u64,
+        Record::Commit { .. } => RecordKind::Commit as u64,
+        Record::Discard { .. } => RecordKind::Discard as u64,
+        Record::Done { .. } => RecordKind::Done as u64,
     }
 }
 
@@ -103,7 +103,7 @@ pub fn record_of<'a>(kind: u64, past: &'a [Record], batch: &BatchId) -> Option<&
 pub fn lock_of<'a>(past: &'a [Record], batch: &BatchId) -> &'a [Answered]
     ensures { result.now ≡ lock_of past.now batch.now }
 {
-    match record_of(2, past, batch) {
+    match record_of(RecordKind::Lock as u64, past, batch) {
         Some(Record::Lock { entries, .. }) => entries.as_slice(),
         _ => &[],
     }
@@ -113,7 +113,7 @@ pub fn lock_of<'a>(past: &'a [Record], batch: &BatchId) -> &'a [Answered]
 pub fn txs_of<'a>(past: &'a [Record], batch: &BatchId) -> &'a [CompactTx]
     ensures { result.now ≡ txs_of past.now batch.now }
 {
-    match record_of(6, past, batch) {
+    match record_of(RecordKind::Prepare as u64, past, batch) {
         Some(Record::Prepare { txs, .. }) => txs.as_slice(),
         _ => &[],
     }
@@ -123,7 +123,7 @@ pub fn txs_of<'a>(past: &'a [Record], batch: &BatchId) -> &'a [CompactTx]
 pub fn outcomes_of<'a>(past: &'a [Record], batch: &BatchId) -> &'a [Outcome]
     ensures { result.now ≡ outcomes_of past.now batch.now }
 {
-    match record_of(7, past, batch) {
+    match record_of(RecordKind::Commit as u64, past, batch) {
         Some(Record::Commit { outcomes, .. }) => outcomes.as_slice(),
         _ => &[],
     }

@@ -9,7 +9,9 @@ ghost use Rattle.port_sets.specs.Seated.{seat_sight, seen_at, seat_phase};
 
 use crate::coordinators::{LogCall, LogReply, SharedLog};
 use crate::tables::Locks;
-use cbdc_types::{BatchId, CompactTx, LaneId, NodeFault, NodeId, Outcome, Replies, Stamp};
+use cbdc_types::{
+    BatchId, CompactTx, LaneId, NodeFault, NodeId, Outcome, RecordKind, Replies, Stamp,
+};
 use lane_driver::LogPort;
 use node_lock::{Guarded, Seat};
 use outside::{Disk, Gate, Point, When};
@@ -27,21 +29,12 @@ pub struct LogSeat<'a, W: Wait, D: Disk, B: Locks> {
     pub ghost since: { (log_sight (opening_of guarded.now)).opened ≤ (knows seat).faults },
 }
 
-// The kinds of the records that the calls append.
-const PREPARE: u8 = 6;
-
-const COMMIT: u8 = 7;
-
-const DISCARD: u8 = 8;
-
-const DONE: u8 = 9;
-
 impl<'a, W: Wait, D: Disk, B: Locks> LogSeat<'a, W, D, B> {
-    fn at(&self, kind: u8) -> Point {
+    fn at(&self, kind: RecordKind) -> Point {
         Point {
             lane: self.seat.lane(),
             node: self.node,
-            kind,
+            kind: kind as u8,
             when: When::Before,
         }
     }
@@ -72,7 +65,7 @@ impl<'a, W: Wait, D: Disk, B: Locks> LogPort for LogSeat<'a, W, D, B> {
         txs: &[CompactTx],
         gate: &G,
     ) -> Result<(BatchId, Stamp), NodeFault> {
-        let at = self.at(PREPARE);
+        let at = self.at(RecordKind::Prepare);
         let mut made = LogCall::Prepare(lane, txs);
         match self
             .guarded
@@ -90,7 +83,7 @@ impl<'a, W: Wait, D: Disk, B: Locks> LogPort for LogSeat<'a, W, D, B> {
         out: &mut Vec<Outcome>,
         gate: &G,
     ) -> Result<Stamp, NodeFault> {
-        let at = self.at(COMMIT);
+        let at = self.at(RecordKind::Commit);
         let mut made = LogCall::Decide(lane, replies, out);
         let answer = match self
             .guarded
@@ -112,7 +105,7 @@ impl<'a, W: Wait, D: Disk, B: Locks> LogPort for LogSeat<'a, W, D, B> {
         cause: Stamp,
         gate: &G,
     ) -> Result<Stamp, NodeFault> {
-        let at = self.at(DISCARD);
+        let at = self.at(RecordKind::Discard);
         let mut made = LogCall::Discard(lane, cause);
         match self
             .guarded
@@ -124,7 +117,7 @@ impl<'a, W: Wait, D: Disk, B: Locks> LogPort for LogSeat<'a, W, D, B> {
     }
 
     fn done<G: Gate>(&mut self, lane: LaneId, cause: Stamp, gate: &G) -> Result<Stamp, NodeFault> {
-        let at = self.at(DONE);
+        let at = self.at(RecordKind::Done);
         let mut made = LogCall::Done(lane, cause);
         match self
             .guarded

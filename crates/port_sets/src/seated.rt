@@ -7,7 +7,7 @@ ghost use Rattle.port_sets.specs.Seated.{seat_sight, Serves};
 use crate::locking::{ShardCall, ShardReply, SharedShard};
 use crate::nodes::Shard;
 use crate::tables::Locks;
-use cbdc_types::{FinishCall, ForgetCall, LockCall, NodeFault, NodeId, Replied, Stamp};
+use cbdc_types::{FinishCall, ForgetCall, LockCall, NodeFault, NodeId, RecordKind, Replied, Stamp};
 use lane_driver::ShardPort;
 use node_lock::{Guarded, Seat};
 use outside::{Gate, Point, When};
@@ -25,19 +25,12 @@ pub struct ShardSeat<'a, W: Wait, S: Shard, B: Locks> {
     pub ghost own: { IsSeatOf guarded.now seat },
 }
 
-// The kinds of the records that the calls append.
-const LOCK: u8 = 2;
-
-const FINISH: u8 = 3;
-
-const FORGET: u8 = 4;
-
 impl<'a, W: Wait, S: Shard, B: Locks> ShardSeat<'a, W, S, B> {
-    fn at(&self, kind: u8) -> Point {
+    fn at(&self, kind: RecordKind) -> Point {
         Point {
             lane: self.seat.lane(),
             node: self.node,
-            kind,
+            kind: kind as u8,
             when: When::Before,
         }
     }
@@ -57,7 +50,7 @@ impl<'a, W: Wait, S: Shard, B: Locks> ShardPort for ShardSeat<'a, W, S, B> {
     ghost serves = { λ p lane. Serves (shard_sight S.sight) p.guarded.now p.seat lane };
 
     fn lock<G: Gate>(&mut self, call: &LockCall, gate: &G) -> Result<Replied, NodeFault> {
-        let at = self.at(LOCK);
+        let at = self.at(RecordKind::Lock);
         let mut made = ShardCall::Lock(call);
         match self
             .guarded
@@ -69,7 +62,7 @@ impl<'a, W: Wait, S: Shard, B: Locks> ShardPort for ShardSeat<'a, W, S, B> {
     }
 
     fn finish<G: Gate>(&mut self, call: &FinishCall, gate: &G) -> Result<Stamp, NodeFault> {
-        let at = self.at(FINISH);
+        let at = self.at(RecordKind::Finish);
         let mut made = ShardCall::Finish(call);
         match self
             .guarded
@@ -81,7 +74,7 @@ impl<'a, W: Wait, S: Shard, B: Locks> ShardPort for ShardSeat<'a, W, S, B> {
     }
 
     fn forget<G: Gate>(&mut self, call: &ForgetCall, gate: &G) -> Result<Stamp, NodeFault> {
-        let at = self.at(FORGET);
+        let at = self.at(RecordKind::Forget);
         let mut made = ShardCall::Forget(call);
         match self
             .guarded

@@ -11,6 +11,7 @@ use Rattle.byte_fields.specs.Reading.{field_at, number_at, hash_at, list_at}
 use Rattle.byte_fields.specs.Records.{byte_at, small_at, batch_at, compact_at, answered_at, outcome_at, decision_at}
 use Rattle.record_log.specs.declared.reading.Head.{Head}
 use Rattle.record_log.specs.Bodies.{magic}
+use Rattle.cbdc_model.specs.Records.{genesis_kind, lock_kind, finish_kind, forget_kind, start_kind, prepare_kind, commit_kind, discard_kind, done_kind}
 
 -- `magic_at`, `is_to`, `is_shape`, `sizes_at`, `shape_at`, `header_at`, `zero_at`, `head_at`, `genesis_at`, `lock_at`, `finish_at`, `forget_at`,
 -- `start_at`, `prepare_at`, `commit_at`, `discard_at`, `done_at`, `body_at`: a record's body read from left to right, whatever the journal: its
@@ -117,13 +118,13 @@ done_at bytes = do
 unfoldable pub body_at : List ℕ → Result (Record × List ℕ) Fault
 body_at bytes = do
   kind ← byte_at bytes
-  if nat_eq kind.0 1 then genesis_at kind.1
-      else if nat_eq kind.0 2 then lock_at kind.1
-      else if nat_eq kind.0 3 then finish_at kind.1
-      else if nat_eq kind.0 4 then forget_at kind.1
-      else if nat_eq kind.0 5 then start_at kind.1
-      else if nat_eq kind.0 6 then prepare_at kind.1
-      else if nat_eq kind.0 7 then commit_at kind.1
-      else if nat_eq kind.0 8 then discard_at kind.1
-      else if nat_eq kind.0 9 then done_at kind.1
+  if nat_eq kind.0 genesis_kind then genesis_at kind.1
+      else if nat_eq kind.0 lock_kind then lock_at kind.1
+      else if nat_eq kind.0 finish_kind then finish_at kind.1
+      else if nat_eq kind.0 forget_kind then forget_at kind.1
+      else if nat_eq kind.0 start_kind then start_at kind.1
+      else if nat_eq kind.0 prepare_kind then prepare_at kind.1
+      else if nat_eq kind.0 commit_kind then commit_at kind.1
+      else if nat_eq kind.0 discard_kind then discard_at kind.1
+      else if nat_eq kind.0 done_kind then done_at kind.1
       else Err (fault Form bytes)

@@ -10,7 +10,8 @@ use crate::fault::RecordFault;
 use crate::standing::may_stand;
 use byte_fields::{Fault, ReadError, batch_id, byte, hash_in, list, number, small_number, split};
 use cbdc_types::{
-    Answered, BatchId, CompactTx, Hash, Header, InputKind, NodeId, Outcome, Record, Shape, Stamp,
+    Answered, BatchId, CompactTx, Hash, Header, InputKind, NodeId, Outcome, Record, RecordKind,
+    Shape, Stamp,
 };
 use std::alloc::Global;
 
@@ -303,31 +304,31 @@ fn body(alloc: Global, bytes: &[u8]) -> Result<(Record, &[u8]), ReadError>
     ensures { Gives (λ x. (x.0, x.1.now)) result (body_at bytes.now) }
 {
     let (kind, rest) = byte(bytes)?;
-    if kind == 1 {
+    if kind == RecordKind::Genesis as u8 {
         return genesis_in(alloc, rest);
     }
-    if kind == 2 {
+    if kind == RecordKind::Lock as u8 {
         return lock_in(alloc, rest);
     }
-    if kind == 3 {
+    if kind == RecordKind::Finish as u8 {
         return finish_in(alloc, rest);
     }
-    if kind == 4 {
+    if kind == RecordKind::Forget as u8 {
         return forget_in(rest);
     }
-    if kind == 5 {
+    if kind == RecordKind::Start as u8 {
         return start_in(rest);
     }
-    if kind == 6 {
+    if kind == RecordKind::Prepare as u8 {
         return prepare_in(alloc, rest);
     }
-    if kind == 7 {
+    if kind == RecordKind::Commit as u8 {
         return commit_in(alloc, rest);
     }
-    if kind == 8 {
+    if kind == RecordKind::Discard as u8 {
         return discard_in(rest);
     }
-    if kind == 9 {
+    if kind == RecordKind::Done as u8 {
         return done_in(rest);
     }
     Err(ReadError::Bad(Fault {

@@ -6,7 +6,7 @@ ghost use Rattle.record_log.specs.Bodies.{magic, header_bytes, head, body_of};
 
 use crate::measure::length_of_body;
 use byte_fields::{Spell, put_byte, put_hash, put_list, put_number};
-use cbdc_types::{BatchId, Header, Record};
+use cbdc_types::{BatchId, Header, Record, RecordKind};
 use std::alloc::AllocError;
 
 fn put_magic(out: &mut Vec<u8>) -> Result<(), AllocError>
@@ -63,7 +63,7 @@ fn put_body(record: &Record, out: &mut Vec<u8>) -> Result<(), AllocError>
 {
     match record {
         Record::Genesis { header, hashes } => {
-            put_head(out, 1, 0)?;
+            put_head(out, RecordKind::Genesis as u8, 0)?;
             put_header(out, header)?;
             put_list(out, hashes)
         }
@@ -72,7 +72,7 @@ fn put_body(record: &Record, out: &mut Vec<u8>) -> Result<(), AllocError>
             batch,
             entries,
         } => {
-            put_batch(out, 2, stamp.0, batch)?;
+            put_batch(out, RecordKind::Lock as u8, stamp.0, batch)?;
             put_list(out, entries)
         }
         Record::Finish {
@@ -80,16 +80,16 @@ fn put_body(record: &Record, out: &mut Vec<u8>) -> Result<(), AllocError>
             batch,
             decisions,
         } => {
-            put_batch(out, 3, stamp.0, batch)?;
+            put_batch(out, RecordKind::Finish as u8, stamp.0, batch)?;
             put_list(out, decisions)
         }
-        Record::Forget { stamp, batch } => put_batch(out, 4, stamp.0, batch),
+        Record::Forget { stamp, batch } => put_batch(out, RecordKind::Forget as u8, stamp.0, batch),
         Record::Start { header } => {
-            put_head(out, 5, 0)?;
+            put_head(out, RecordKind::Start as u8, 0)?;
             put_header(out, header)
         }
         Record::Prepare { stamp, batch, txs } => {
-            put_batch(out, 6, stamp.0, batch)?;
+            put_batch(out, RecordKind::Prepare as u8, stamp.0, batch)?;
             put_list(out, txs)
         }
         Record::Commit {
@@ -97,11 +97,16 @@ fn put_body(record: &Record, out: &mut Vec<u8>) -> Result<(), AllocError>
             batch,
             outcomes,
         } => {
-            put_batch(out, 7, stamp.0, batch)?;
+            put_batch(out, RecordKind::Commit as u8, stamp.0, batch)?;
             put_list(out, outcomes)
         }
-        Record::Discard { stamp, batch } => put_batch(out, 8, stamp.0, batch),
-        Record::Done { stamp, batch } => put_batch(out, 9, stamp.0, batch),
+        Record::Discard { stamp, batch } => put_batch(
+            out,
+            RecordKind::Discard as u8,
+            stamp.0,
+            batch,
+        ),
+        Record::Done { stamp, batch } => put_batch(out, RecordKind::Done as u8, stamp.0, batch),
     }
 }
 

@@ -1,7 +1,7 @@
 -- What comes of room and stamps enough: none is wanting.
 use Rattle.std.specs.Prelude.{◌≡◌, ℕ, ◌+◌, ◌*◌, ◌^◌, ◌<◌, ◌≤◌, Bool, List, ◌∷◌, ◌++◌, reverse, Some}
 use Rattle.cbdc_types.specs.Limits.{IsWithinLimits}
-use Rattle.cbdc_model.specs.Records.{Shape, Batch, Compact, Record, record_of, stamp_of, Prepare}
+use Rattle.cbdc_model.specs.Records.{Shape, Batch, Compact, Record, record_of, stamp_of, Prepare, prepare_kind}
 use Rattle.cbdc_model.specs.Slots.{slot}
 use Rattle.cbdc_model.specs.Ranges.{home_of, shard_node, part, Concerned}
 use Rattle.cbdc_model.specs.Room.{kept_room, need_of}
@@ -41,7 +41,7 @@ PrepareRoomLaw = (K : Shape) (m : Minted) (sound : FullTx → Bool) (capacity : 
 abbrev pub LockRoomLaw : Type 0
 LockRoomLaw = (K : Shape) (m : Minted) (sound : FullTx → Bool) (capacity : ℕ → ℕ) (files : List (List FullTx)) (E X : ℕ → List Record) (b : Batch) (stamp : ℕ) (txs : List Compact) (s : ℕ) (front : List Record)
     → IsWithinLimits K → Ample K sound capacity files E → IsUnderway K m sound files E X → b.lane < K.coordinators * K.lanes
-    → record_of 6 (X (home_of K b.lane)) b ≡ Some (Prepare stamp b txs) → Concerned K txs s → (slot (X (shard_node K s)) b.lane).number < b.number
+    → record_of prepare_kind (X (home_of K b.lane)) b ≡ Some (Prepare stamp b txs) → Concerned K txs s → (slot (X (shard_node K s)) b.lane).number < b.number
     → IsEnd (E (shard_node K s)) front → IsEnd front (X (shard_node K s))
     → HasRoom K capacity (shard_node K s) front (lock_record front (record { batch = b; part = part K.shards s 0 txs; cause = stamp }))
 

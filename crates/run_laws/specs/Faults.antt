@@ -3,7 +3,7 @@ use Rattle.std.specs.Prelude.{◌≡◌, ℕ, ◌+◌, ◌-◌, ◌^◌, ◌<◌
 use Rattle.cbdc_types.specs.declared.calls.Refused.{Refused}
 use Rattle.cbdc_types.specs.declared.calls.NodeFault.{NodeFault}
 use Rattle.cbdc_types.specs.declared.calls.NodeFault.TheVariants.{Broken, Refused as Refuses, ClockEnd, Full, DiskFault, Memory}
-use Rattle.cbdc_model.specs.Records.{Shape, Batch, Compact, Record, record_of, stamp_of, Prepare}
+use Rattle.cbdc_model.specs.Records.{Shape, Batch, Compact, Record, record_of, stamp_of, Prepare, lock_kind, prepare_kind}
 use Rattle.cbdc_model.specs.Slots.{Phase, slot, Idle, InPrepare, InCommit}
 use Rattle.cbdc_model.specs.Ranges.{home_of, shard_node, part}
 use Rattle.cbdc_model.specs.Room.{need_of}
@@ -27,7 +27,7 @@ GrantLaw = (K : Shape) (m : Minted) (logs shards : ℕ → Sight) (b : Batch) (t
 pub data IsNext (K : Shape) (lane : ℕ) (next : List Compact → Type 0) (J : ℕ → List Record) (node : ℕ) (r : Record) : Type 0 where
   next_prepare : (txs : List Compact) → next txs → node ≡ home_of K lane → (slot (J node) lane).phase ≡ Idle → r ≡ prepare_record (J node) lane txs → IsNext K lane next J node r
   next_lock : (b : Batch) (t : ℕ) (txs : List Compact) (s : ℕ) → b.lane ≡ lane → node ≡ shard_node K s → is_concerned K txs s ≡ true → (slot (J (home_of K b.lane)) b.lane).phase ≡ InPrepare
-      → record_of 6 (J (home_of K b.lane)) b ≡ Some (Prepare t b txs) → HaveBelow K txs (λ k. J (shard_node K k)) 2 b s → (slot (J node) b.lane).number < b.number
+      → record_of prepare_kind (J (home_of K b.lane)) b ≡ Some (Prepare t b txs) → HaveBelow K txs (λ k. J (shard_node K k)) lock_kind b s → (slot (J node) b.lane).number < b.number
       → r ≡ lock_record (J node) (record { batch = b; part = part K.shards s 0 txs; cause = t }) → IsNext K lane next J node r
 
 -- the node, on a disk of so many bytes, has no room for what that record needs, whose stamp is not past the last one
@@ -59,7 +59,7 @@ pub record HasHeard (K : Shape) (lane : ℕ) (J : ℕ → List Record) (b : Batc
   pub number : (slot (J (home_of K lane)) lane).number ≡ b.number
   pub busy : (slot (J (home_of K lane)) lane).phase ≡ Idle → ⊥
   pub stamp : ℕ
-  pub prepare : record_of 6 (J (home_of K lane)) b ≡ Some (Prepare stamp b txs)
+  pub prepare : record_of prepare_kind (J (home_of K lane)) b ≡ Some (Prepare stamp b txs)
   pub heard : HaveBelow K txs (λ s. J (shard_node K s)) (awaited (slot (J (home_of K lane)) lane).phase) b n
 
 -- the lane asks this node: its coordinator, for its next Prepare, where it is idle and has transactions that are next; where it has an open batch, a

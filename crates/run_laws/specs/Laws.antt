@@ -1,7 +1,7 @@
 -- The laws, each as one statement.
 use Rattle.std.specs.Prelude.{◌≡◌, ◌⊎◌, ℕ, ◌+◌, ◌*◌, ◌^◌, ◌<◌, ◌≤◌, Bool, List, ◌∷◌, ◌++◌, Contains}
 use Rattle.cbdc_types.specs.Limits.{IsWithinLimits}
-use Rattle.cbdc_model.specs.Records.{Digest, Shape, Batch, Record, Row, journal, stamp_of, last_stamp}
+use Rattle.cbdc_model.specs.Records.{Digest, Shape, Batch, Record, Row, journal, stamp_of, last_stamp, lock_kind, finish_kind, forget_kind}
 use Rattle.cbdc_model.specs.After.{After}
 use Rattle.cbdc_model.specs.Causes.{IsCaused}
 use Rattle.cbdc_model.specs.Clean.{Clean, IsProperCompact}
@@ -91,4 +91,4 @@ CheckedLaw = (K : Shape) (m : Minted) (later : List Row) → 0 < K.shards → Is
 -- a shard has no record of a batch but Locks, Finishes and Forgets
 abbrev pub ShardKindsLaw : Type 0
 ShardKindsLaw = (K : Shape) (mint : List Output) (submissions : List FullTx) (later : List Row) (s kind : ℕ) (b : Batch) → s < K.shards
-    → IsKept K mint submissions later → ((kind ≡ 2) ⊎ (kind ≡ 3) ⊎ (kind ≡ 4) → ⊥) → count_of kind (journal (shard_node K s) (history_of K mint later)) b ≡ 0
+    → IsKept K mint submissions later → ((kind ≡ lock_kind) ⊎ (kind ≡ finish_kind) ⊎ (kind ≡ forget_kind) → ⊥) → count_of kind (journal (shard_node K s) (history_of K mint later)) b ≡ 0

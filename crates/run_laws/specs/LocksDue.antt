@@ -1,6 +1,6 @@
 -- Locks that are still to come.
 use Rattle.std.specs.Prelude.{◌≡◌, ℕ, zero, suc, ◌+◌, ◌*◌, ◌^◌, ◌<◌, ◌≤◌, max, Bool, true, ◌&&◌, not, List, [], ◌∷◌, ◌++◌, length, if◌then◌else◌, is_some}
-use Rattle.cbdc_model.specs.Records.{Shape, Record, record_of, txs_of, stamp_in, last_stamp, Lock}
+use Rattle.cbdc_model.specs.Records.{Shape, Record, record_of, txs_of, stamp_in, last_stamp, Lock, lock_kind, prepare_kind}
 use Rattle.cbdc_model.specs.Ranges.{shard_node, home_of, part, is_no_part}
 use Rattle.cbdc_model.specs.Due.{open_batch}
 use Rattle.cbdc_model.specs.Coins.{Output, FullTx}
@@ -12,7 +12,7 @@ pub use Rattle.ledger_laws.specs.Resumed.{opened}
 -- whether the lane's last batch has a part for shard s and no Lock there, by the journals of the two nodes
 abbrev pub lacks_lock_by : Shape → List Record → List Record → ℕ → ℕ → Bool
 lacks_lock_by K home own s lane =
-    not (is_no_part (part K.shards s 0 (txs_of home (open_batch home lane)))) && not (is_some (record_of 2 own (open_batch home lane)))
+    not (is_no_part (part K.shards s 0 (txs_of home (open_batch home lane)))) && not (is_some (record_of lock_kind own (open_batch home lane)))
 
 -- a lane's last batch has a part for a shard, and no Lock there
 abbrev pub lacks_lock : Shape → (ℕ → List Record) → ℕ → ℕ → Bool
@@ -25,7 +25,7 @@ locks_due K J s (suc n) = (if lacks_lock K J s n then 1 else 0) + locks_due K J 
 
 -- a Lock's stamp is one more than the greater of the shard's last stamp and the Prepare's
 abbrev pub lock_cause : Shape → (ℕ → List Record) → ℕ → ℕ
-lock_cause K J lane = stamp_in (record_of 6 (J (home_of K lane)) (open_batch (J (home_of K lane)) lane))
+lock_cause K J lane = stamp_in (record_of prepare_kind (J (home_of K lane)) (open_batch (J (home_of K lane)) lane))
 
 -- the greater of the shard's last stamp and that of the lane's Prepare: its Lock's stamp is one more
 abbrev pub before_lock : Shape → (ℕ → List Record) → ℕ → ℕ → ℕ

@@ -1,6 +1,6 @@
 -- What is answered to a Lock, before any memory is taken.
 use Rattle.std.specs.Prelude.{◌≡◌, ℕ, Bool, List, [], length}
-use Rattle.cbdc_model.specs.Records.{Batch, Record, Entry, record_of, lock_of, stamp_in}
+use Rattle.cbdc_model.specs.Records.{Batch, Record, Entry, record_of, lock_of, stamp_in, lock_kind}
 use Rattle.cbdc_model.specs.Replies.{answered, replies}
 use Rattle.cbdc_model.specs.Next.{RepliesAt, next_lock, next_stamp, Kept, Append, Refuse}
 use Rattle.shard_core.specs.declared.slots.LaneSlot.{LaneSlot}
@@ -12,7 +12,7 @@ use Rattle.shard_core.specs.declared.judging.LockAnswer.TheVariants.{Refused, Ag
 
 -- what the journal keeps of a batch's Lock
 abbrev pub kept_at : List Record → Batch → RepliesAt
-kept_at J b = record { given = replies (lock_of J b); at = stamp_in (record_of 2 J b) }
+kept_at J b = record { given = replies (lock_of J b); at = stamp_in (record_of lock_kind J b) }
 
 -- the answer to a Lock, before any memory is taken, is the definitions'
 abbrev pub IsLockJudged : LockAnswer → List Record → Batch → List Entry → ℕ → Type 0

@@ -530,7 +530,8 @@ impl ShardCore {
             unreachable!();
         };
         let forgotten = self.slots.take(batch.lane);
-        self.slots.put(batch.lane, LaneSlot::Idle(batch.number, *stamp));
+        self.slots
+            .put(batch.lane, LaneSlot::Idle(batch.number, *stamp));
         self.last = *stamp;
         keep(
             &mut self.spare,

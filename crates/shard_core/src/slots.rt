@@ -81,6 +81,9 @@ impl Slots {
         ensures value { slice_get self.old lane ≡ Some result }
         ensures after { self.new ≡ slice_set self.old lane (Idle 0 0) }
     {
-        mem::replace(&mut self.slots[lane.0 as usize], LaneSlot::Idle(0, Stamp(0)))
+        mem::replace(
+            &mut self.slots[lane.0 as usize],
+            LaneSlot::Idle(0, Stamp(0)),
+        )
     }
 }
