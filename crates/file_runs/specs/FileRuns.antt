@@ -17,7 +17,7 @@ use Rattle.file_runs.specs.Runs.{HavePreparedFile, IsSentPiece, FliesWith, HaveB
 use Rattle.file_runs.specs.Endings.{EndsFile}
 use Rattle.file_runs.specs.Telling.{TellsFile}
 
--- A file's submissions were run over the nodes of a ledger with no open batch: what the ledger is behind it, and what came of it.
+-- A file's submissions were run over the nodes of a ledger with no open batch: what the ledger is behind it, and the result.
 pub record RanFile {D : Type 0} (device : Ghosts D) (verdicts : VerdictsOf) (txs : List FullTx) (before now : Ledger D) (came : Result Wave LaneFault) : Type 0 where
   pub keeps_ledger : KeepsLedgerOf device before now
   pub idle : OnOk came (AreIdle before.header.shape (ledger_journals now))

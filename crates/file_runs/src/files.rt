@@ -26,7 +26,7 @@ use std::alloc::Global;
 use std::sync::Wait;
 use std::thread::Threads;
 
-/// A ledger behind client files, and what came of them.
+/// A ledger behind client files, and the results.
 #[derive(Drop)]
 pub struct FilesRun<D: Disk> {
     pub ledger: Ledger<D>,

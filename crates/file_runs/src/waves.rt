@@ -32,7 +32,7 @@ pub struct Wave {
     pub lanes: Vec<Lane>,
 }
 
-/// A ledger behind a client file, and what came of it.
+/// A ledger behind a client file, and the result.
 #[derive(Drop)]
 pub struct FileRun<D: Disk> {
     pub ledger: Ledger<D>,
@@ -83,7 +83,7 @@ fn works_of<'a, W: Wait + Threads + Sync, V: Verifier + Sync, F: Deals + Send + 
     Ok(works)
 }
 
-// What came of a wave, with what was said of the submissions.
+// The result of a wave, with what was said of the submissions.
 fn wave_of<'a, W: Wait, V: Verifier, F: Deals>(
     file: &FileOf<'a, V, F>,
     works: Vec<Work<LaneSource<'a, W, V, F>>>,

@@ -245,7 +245,7 @@ module _ (K : Shape) (pieces : List (List Compact)) (alone : Bool) (lane number 
       (forgetting log I before os finished td (stamp_at shard (map (finish_of B tc os) locks) phase.asked.answers) r above)
       (not_forgot K pieces alone lane number home txs log I before os finished (stamp_at shard (map (finish_of B tc os) locks) phase.asked.answers) r) are stop))
 
-  -- from a Prepare on: a fault for want of room leaves a shard without its Lock
+  -- from a Prepare on: a fault because room ran out leaves a shard without its Lock
   pub record PreparedFell (log log' : Sight) (I J : ℕ → Sight) (node : ℕ) (f : NodeFault) : Type 0 where
     pub fell : Fell K pieces alone lane log I log' J
     pub told : IsAnswerOf K lane log' J node f

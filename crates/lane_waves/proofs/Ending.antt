@@ -81,7 +81,7 @@ module _ {W D S B X : Type 0} {G : Ghosts B} (sight : S → Sight) (tables : ℕ
   zip_many (r ∷ rs) (q ∷ qs) z = let e = zip_many rs qs z.1 in omega (arith, e)
 
 module _ {W D S B X : Type 0} {G : Ghosts B} (sight : S → Sight) (tables : ℕ → TableId) (K : Shape) (gs : List (Guarded (SharedLog D))) (hs : List (Guarded (SharedShard S))) where
-  -- what came of a run is known, and the lane has room for it
+  -- the result of a run is known, and the lane has room for it
   may_keep : (r q : LaneRun W D S B X G) → q.work ≡ r.work → (o : Option (Result LaneReport LaneFault)) → HasRun sight tables K r q o → MayKeep q.work o
   may_keep r q e None k = absurd k
   may_keep r q e (Some (Ok report)) k =

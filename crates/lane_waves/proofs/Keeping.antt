@@ -1,4 +1,4 @@
--- Lanes made ready, and with what came of them.
+-- Lanes made ready, and with their results.
 use Rattle.std.proofs.Common.{◌≡◌, ℕ, zero, suc, ◌+◌, ◌<◌, List, [], ◌∷◌, ◌++◌, map, length, reverse, drop, get_or, set, min, ◌-◌, refl, sym, ap, ◌∙◌, arith}
 use Rattle.std.proofs.lemmas.List.{length-take, length-drop, drop_more}
 use Rattle.cbdc_model.specs.Records.{Compact, Batch, Outcome}

@@ -110,7 +110,7 @@ at_home K first lane some =
 at_shard : (K : Shape) (first : Sight) (lane : ℕ) → lane < K.coordinators * K.lanes → IsHand (fresh first lane) (map (fresh first) (all_lanes K))
 at_shard K first lane lt = let is : 0 + lane ≡ lane = omega arith in subst (λ l. IsHand (fresh first l) (map (fresh first) (all_lanes K))) is (fresh_hand first 0 (K.coordinators * K.lanes) lane lt)
 
--- nodes that were asked nothing, and lanes that have stopped for want of memory
+-- nodes that were asked nothing, and lanes that have stopped because memory ran out
 pub unrun_wave : (K : Shape) (logs shards logs' shards' : ℕ → Sight) (old new : List LaneOf) → IsWithinLimits K → ((n : ℕ) → n < K.coordinators → IsStillSight (logs n) (logs' n)) → ((s : ℕ) → s < K.shards → IsStillSight (shards s) (shards' s))
     → ((s : ℕ) → K.shards ≤ s → shards s ≡ no_sight) → ((lane : ℕ) → lane < K.coordinators * K.lanes → IsLaneSettled K lane (logs (home_of K lane)) shards) → length old ≡ K.coordinators * K.lanes
     → map (λ z. z.txs) new ≡ map (λ z. z.txs) old → All HasStoppedForMemory new → WaveRan K logs shards logs' shards' old new

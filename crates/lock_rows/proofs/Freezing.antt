@@ -28,7 +28,7 @@ above n le = grind (arith, le)
 unlike : (n : ℕ) → 1 ≤ n → (n == 0) ≡ false
 unlike n le = grind (arith, le)
 
--- a call that writes nothing, and is answered at once or for want of memory
+-- a call that writes nothing, and is answered at once or because memory ran out
 module _ {A : Type 0} (lane : ℕ) (memory : Bool) (due : Header → ℕ → Option ℕ → List Record → Due A) (good : Header → List Record → A → Type 0) (h : Header) (hs : List Digest) (fault : NodeFault) where
   abbrev s : Sight
   s = record { header = h; seen = Genesis h hs ∷ []; flight = None; faults = 0; opened = 0; capacity = 0 }

@@ -71,7 +71,7 @@ fn sent<R: Wait, V: Verifier, F: Deals>(
     Ok(messages)
 }
 
-// Whether a message is of this place, with a refusal for want of inputs at the second one, and a compact form elsewhere.
+// Whether a message is of this place, with a refusal because it has no inputs at the second one, and a compact form elsewhere.
 fn is_of<F: Deals>(message: RuledAt<F>, place: usize) -> bool {
     if message.place() != place {
         return false;

@@ -1,4 +1,4 @@
--- What came of submissions, by what sentinels said of them.
+-- The outcomes of submissions, by what sentinels said of them.
 use Rattle.std.proofs.Common.{◌≡◌, ◌⊎◌, inl, inr, ℕ, zero, suc, ◌+◌, Bool, List, [], ◌∷◌, ◌++◌, length, refl, sym, ◌∙◌, ap, subst, arith, Some, None}
 use Rattle.std.specs.Prelude.{slice_get, take, Option, Result, Ok, Err, IfOk, IfSome, is_ok, if◌then◌else◌}
 use Rattle.std.specs.Result.{result_ok}
@@ -63,7 +63,7 @@ pushed_at (x ∷ all) r s (suc k) h = elim (pushed_at all r s k h) [
   | inr e ↦ inr (let f = e.0 in omega arith, e.1)
 ]
 
--- what came of the submissions of those files whose reports are there
+-- the outcomes of the submissions of those files whose reports are there
 abbrev pub EachFileTold : Shape → VerdictsOf → (ℕ → List Record) → (ℕ → List Record) → List (List FullTx) → List (List Report) → Type 0
 EachFileTold K verdicts E X files all =
     (k : ℕ) (file : List FullTx) (rs : List Report) → slice_get files k ≡ Some file → slice_get all k ≡ Some rs → AreTold K verdicts E X (take k files) file rs

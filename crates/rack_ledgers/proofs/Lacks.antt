@@ -16,7 +16,7 @@ use Rattle.rack_ledgers.proofs.Range.{opening_later}
 use Rattle.rack_ledgers.specs.Ledgers.{ByPlace, IsNodeAt, IsNodeRefused, IsMintOf, IsOtherMint, LacksLog, LacksShard, IsUnopenedBy}
 use Rattle.rack_ledgers.proofs.Opened.{OpensNode, led_whole, nodes_at}
 
--- want of memory may always be
+-- memory may always run out
 pub memory_refused : {D : Type 0} (device : Ghosts D) (held : ℕ → Option D) (before now : ℕ → ℕ) (Is : Header → Type 0) (ledger : Option Header) (place : ℕ) (e : Answer)
     → e ≡ answers.Memory → IsNodeRefused device held before now Is ledger place e
 memory_refused device held before now Is ledger place e is =

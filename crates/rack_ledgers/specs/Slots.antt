@@ -108,7 +108,7 @@ module _ {D N : Type 0} (device : Ghosts D) (disk_of : N → D) (opens : N → L
   SlotCameOf (slots.Waiting n was) (slots.Refused is e) = IsRefusedOn n was is e
   SlotCameOf old new = ⊥
 
-  -- what came of the disk of a place
+  -- what became of the disk of a place
   pub record CameAt (held : ℕ → Option D) (before : ℕ → ℕ) (n : ℕ) (slot : Slot D N) : Type 0 where
     pub disk : D
     pub taken : IsTakenDisk device held before n disk

@@ -29,7 +29,7 @@ pub trait OnDisk<D: Disk>: Sized {
     /// The refusals that there may be, whatever the disk.
     ghost refusals: { Told → Type 0 };
 
-    /// Want of memory and a fault of the disk may always be.
+    /// Running out of memory and a fault of the disk may always be.
     ghost free: { (node : ℕ) (ledger : Option Asked) (limit : ℕ) (c : List ℕ) → refused node ledger limit c Memory × refused node ledger limit c (DiskFault node) };
 
     ghost may_fail: { (node : ℕ) → refusals Memory × refusals (DiskFault node) };

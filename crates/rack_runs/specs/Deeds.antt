@@ -13,7 +13,7 @@ use Rattle.file_runs.specs.Telling.{TellFiles}
 use Rattle.rack_runs.specs.Runs.{IsCutWaves, NothingNext, PieceNext}
 use Rattle.rack_runs.specs.Works.{Deed, IsOpenOnly}
 
--- files were run from journals M to X: their waves stand behind whatever resuming M came by, and each wave tells the results of its submissions
+-- files were run from journals M to X: their waves stand behind whatever resuming M led to, and each wave tells the results of its submissions
 abbrev pub RanFiles : VerdictsOf → List (List FullTx) → Shape → (ℕ → List Record) → (ℕ → List Record) → List Wave → Type 0
 RanFiles verdicts files K M X waves =
     ((sound : FullTx → Bool) (E : ℕ → List Record) → TellsSound verdicts sound → IsResumed K E M → Waves K sound files E X) × TellFiles K verdicts files M X waves

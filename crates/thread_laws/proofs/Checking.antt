@@ -103,7 +103,7 @@ module _ (K : Shape) (lane : ℕ) (next : List Compact → Type 0) (I J : ℕ �
     above = h.above;
   })
 
-  -- where the lane may wait for want of memory
+  -- where the lane may wait because memory ran out
   free_cause : (e : LaneFault) (node : ℕ) (f : NodeFault) → IsLaneFaultOf e node f → IsStopBy K lane next J opened faults capacity node f → (f ≡ Memory → LaneWaits K lane I J) → ((e.fault ≡ NoMemory) × LaneWaits K lane I J) ⊎ Causes e
   free_cause e node (Broken since) is h waits = inr (failed e node is h)
   free_cause e node (Refuses why) is h waits = absurd h
@@ -112,7 +112,7 @@ module _ (K : Shape) (lane : ℕ) (next : List Compact → Type 0) (I J : ℕ �
   free_cause e node DiskFault is h waits = inr (failed e node is h)
   free_cause e node Memory is h waits = inl (ap (λ x. x.fault) is, waits refl)
 
--- ---- want of memory
+-- ---- out of memory
 
 -- a call that takes none does not answer it
 pub never_memory : {A : Type 0} (due : Due A) (now : Sight) (f : NodeFault) → f ≡ Memory → IsAnswered false due now f → ⊥
