@@ -1,5 +1,5 @@
 // The shards of a ledger through a lane's seats, and a lane over them.
-ghost use Rattle.std.specs.Prelude.{◌≡◌, [], length, All, IfOk, OnOk};
+ghost use Rattle.std.specs.Prelude.{◌≡◌, ℕ, [], length, All, IfOk, OnOk};
 ghost use denote.Param.Send.{IsSync, IsSend};
 ghost use Rattle.cbdc_model.specs.Slots.{Idle};
 ghost use Rattle.cbdc_model.specs.Grammar.{IsCompact};
