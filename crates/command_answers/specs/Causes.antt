@@ -33,7 +33,7 @@ IsWell answers.Ok = Unit {0}
 IsWell answers.WriteFault = Unit {0}
 IsWell other = ⊥
 
--- what it was has its cause, unless all was done, the words are bad or memory ran out
+-- the answer has its cause; nothing is said where all was done, the words are bad or memory ran out
 abbrev pub HasToldCause : (Answer → Type 0) → Answer → Type 0
 HasToldCause cause answers.Ok = Unit {0}
 HasToldCause cause answers.WriteFault = Unit {0}

@@ -12,7 +12,7 @@ use Rattle.command_answers.specs.Causes.{FileRose}
 use Rattle.audit_command.specs.Audits.{AuditPlace, AuditRose}
 use Rattle.run_command.specs.Outcomes.{RunPlace, RunRose}
 
--- one of the files that are asked for does so
+-- one of the files that are asked for has this place, and its count of faults rose
 abbrev pub RequestRose : Request → (Text → ℕ) → (Text → ℕ) → ℕ → Type 0
 RequestRose (Init shape mint) before now place = FileRose before now mint place
 RequestRose (Run verdicts clients options) before now place = RunRose before now verdicts clients.items place

@@ -65,7 +65,7 @@ pub record CanAudit {D : Type 0} (device : Ghosts D) (before after : Scene D) (n
 abbrev pub none_sound : FullTx → Bool
 none_sound t = false
 
--- nothing hinders what is asked: of `init` `CanInit`; of `run` `CanRun`; of `recover` `IsRackReady` of no files; of `status` the same, and each hash
+-- nothing hinders what is asked: of `init` `CanInit`; of `run` `CanRun`; of `recover` `AreReadyFor` of no files; of `status` the same, and each hash
 -- has its 32 bytes; of `audit` `CanAudit`; of `gen` that no hashes of its workload clash; of a text that is shown nothing more. So of `run`,
 -- `recover` and `status` the disks are `Ample`
 abbrev pub IsUnhindered : {D : Type 0} → Ghosts D → Scene D → Scene D → Request → Type 0

@@ -43,7 +43,7 @@ abbrev pub AreToRun : (Text → Option (List ℕ)) → Request → List FullTx �
 AreToRun files (Run verdicts clients options) txs = (handed : List (List FullTx)) × AreRead files 0 clients.items handed × (txs ≡ joined handed)
 AreToRun files other txs = ⊥
 
--- it survives any crash, with those handed in besides, or with nothing
+-- whatever a crash leaves of the ledger is kept, with the transactions that were to be run, or with none besides
 pub record Survives {D : Type 0} (device : Ghosts D) (before after : Scene D) (words : List Text) (K : Shape) (mint : List Output)
     (submissions : List FullTx) (E : ℕ → List Record) : Type 0 where
   pub txs : List FullTx

@@ -34,7 +34,7 @@ use std::alloc::Global;
 use std::sync::Wait;
 use std::thread::Threads;
 
-/// The status, and the rack with every disk back in its place.
+/// The status, and the rack, all of whose disks may be taken again.
 pub struct Done<R> {
     pub status: Answer,
     pub rack: R,
@@ -221,7 +221,7 @@ where
     }
 }
 
-/// Does what the words ask for, and prints the line of a fault. Every disk that was taken is put back.
+/// Does what the words ask for, and prints the line of a fault. All disks may be taken again when it ends.
 ///
 /// What `did` comes to stands at the function of each command: `init`, `run`, `recover`, `status`, `audit`, `generated`. The text of a command is
 /// the whole of what the sink took at Ok, and a front of it at WriteFault, where all was done and a line could not be printed.
@@ -243,7 +243,7 @@ where
 ///   files, recoveries in each phase and an `init`: each disk stopped at each of its calls, or failing at that one alone, crashed in four ways
 ///   (nothing that was not synced, all, torn bytes of two kinds), recovered and audited, with what is committed then; a rack that lacks a disk; an
 ///   output that takes less than the text, by each number of bytes), `bad_bytes.rows` (files and disks with bad bytes behind a run of one
-///   transaction), `repeats.rows` (with repeats: the calls that are made, the same text and bytes, resumed batches without), `lanes.rows` (two lanes)
+///   transaction), `repeats.rows` (with repeats: the calls that are made, the same text and bytes, resumed batches without), `lanes.rows` (two lanes),
 ///   `threads.rows` (three lanes, each in its shard's lock, or its coordinator's, until another has done its batch; a lane behind a shard's lock
 ///   until another has done its batch there) and `many_lanes.rows` (sixteen lanes, all on the way at one time).
 pub fn process<W: Wait + Threads + Sync, I: Inbox, R: Rack, O: Sink, G: Gate + Sync>(
@@ -265,20 +265,21 @@ where
     // run over one (`DidRun`), its open batches were brought to their end (`DidRecover`), hashes were looked up (`DidStatus`), its journals were audited
     // and are sound (`DidAudit`), or a workload was run in memory (`PrintsWorkload`). What was run over or brought to an end was a ledger that the disks
     // told, in which each record was caused (`TookLedger` says what is left of it), and where it was kept all that `IsPrintedRun` and
-    // `IsPrintedRecovery` say is so: the headline holds of the journals at exit. A look and an audit change nothing.
+    // `IsPrintedRecovery` say holds: above all, where no hashes clash (`Clean`), the headline, of the journals at exit. A look and an audit leave the
+    // disks as they were. Help and the version are printed, and nothing else is done.
     ensures did { let before = scene I.Inbox R.Rack O.Sink inbox.old rack out.old in
         let after = scene I.Inbox R.Rack O.Sink inbox.new result.rack out.new in
         IsWell result.status → AskedDid R.Disk.Disk before after (texts words.now) result.status }
 
-    // At every other status the sink took the line of the fault and nothing else, or, where its count rose, a front of it. At BadInput and
-    // ReadFault the file has a place among the words, and the name in the line is the one that stands there (verdicts may stand behind their
+    // At every status but Ok and WriteFault the sink took the line of the fault and nothing else, or, where its count rose, a front of it. At BadInput
+    // and ReadFault the file has a place among the words, and the name in the line is the one that stands there (verdicts may stand behind their
     // option).
     ensures fault_line { let before = scene I.Inbox R.Rack O.Sink inbox.old rack out.old in
         let after = scene I.Inbox R.Rack O.Sink inbox.new result.rack out.new in
         IsFaultPrinted before after (texts words.now) result.status }
 
-    // Every other answer but BadWords and Memory has its cause (`Why`): a file that is the first not read, with its place; a ledger that can't be made
-    // (`IsUnmade`) or opened (`IsUnopened`), by the first reason, or a record of it that is the first not caused (`IsUnresumed`), and the disks are back
+    // Each answer but Ok, WriteFault, BadWords and Memory has its cause (`Why`): a file that is the first not read, with its place; a ledger that can't
+    // be made (`IsUnmade`) or opened (`IsUnopened`), by the first reason, or a record of it that is the first not caused (`IsUnresumed`), and the disks are back
     // as they were read; a lane's fault (`IsLaneFault`), which has its own cause and leaves what is said there; or what an audit found (`WasAudited`).
     // `gen` ends so only where its audit is Unsound, and then hashes of its workload clash (`WhyNoWorkload`).
     ensures why { let before = scene I.Inbox R.Rack O.Sink inbox.old rack out.old in
@@ -317,17 +318,18 @@ where
     // Of `run`, `recover`, `status`, `audit`: where it comes through (Ok or WriteFault), where a lane's fault ends a run or a recovery, and where an
     // audit finds something wrong (`IsEndedLater`), nothing that the disks held at entry was to be refused (`HasNoCause`): if each of the ledger's disks
     // tells its content, no node has a cause to be refused as NotReady, Damaged, Foreign or Full, whatever the counts of faults, nor at `run` and
-    // `recover` any record to be the first that is not caused. So, but for a disk's fault and running out of memory, the ledger is refused only where it
-    // is so (`why`), and nothing is done over one where it is so.
+    // `recover` any record to be the first that is not caused. So, but for a disk's fault and running out of memory, a ledger is refused only where its
+    // disks give such a cause (`why`), and nothing is done over one whose disks give it.
     ensures exact { let before = scene I.Inbox R.Rack O.Sink inbox.old rack out.old in
         let after = scene I.Inbox R.Rack O.Sink inbox.new result.rack out.new in
         (r : Asked) → WordsAskFor (texts words.now) r
         → IsWell result.status ⊎ IsEndedLater R.Disk.Disk before after r result.status
         → IsExact R.Disk.Disk before r }
 
-    // Where nothing hinders what is asked it ends with Ok or Memory, or with WriteFault, where the sink's count rose (`written`). Nothing does where no
-    // count of a file that is named or of a node of the ledger rises, all files and disks that it is about are told, and what `CanInit`, `CanRun`,
-    // `CanAudit` and `AreReadyFor` say of them is so (`IsUnhindered`): above all, that there is room for every record that is still to come (`Ample`).
+    // Where nothing hinders what is asked (`IsUnhindered`) it ends with Ok or Memory, or with WriteFault, where the sink's count rose (`written`). Nothing
+    // does where all that it is about is told, no count of it rises, and it is as `CanInit`, `CanRun` and `CanAudit` say, or, of `recover` and `status`,
+    // `AreReadyFor` (of these and of `run`: with room for every record that is still to come, `Ample`); of `gen`, where no hashes of its workload clash;
+    // of help, always.
     ensures complete { let before = scene I.Inbox R.Rack O.Sink inbox.old rack out.old in
         let after = scene I.Inbox R.Rack O.Sink inbox.new result.rack out.new in
         (r : Asked) → WordsAskFor (texts words.now) r → IsUnhindered R.Disk.Disk before after r

@@ -76,7 +76,8 @@ module _ {D : Type 0} where
   abbrev pub ledger_journals : LedgerOf D → ℕ → List Record
   ledger_journals l = node_journals l.header.shape l.logs l.shards
 
-  -- `ledger_journals`, `ledger_flights`, `ledger_faults`, `ledger_opened`, `ledger_capacity`, `IsChecked`, `IsLedgerQuiet`, `IsLedgerStored`: the same of a ledger, by its own shape
+  -- `ledger_journals`, `ledger_flights`, `ledger_faults`, `ledger_opened`, `ledger_capacity`, `IsChecked`, `IsLedgerQuiet`, `IsLedgerStored`: the same
+  -- of a ledger, by its own shape
   abbrev pub ledger_flights : LedgerOf D → ℕ → Option Record
   ledger_flights l = flights_of l.header.shape l.logs l.shards
 

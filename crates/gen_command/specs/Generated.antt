@@ -44,7 +44,7 @@ rounded_up m n = (m + n - 1) / n
 abbrev pub sent_of : Shape → ℕ → ℕ → ℕ
 sent_of K m lane = length (share (K.coordinators * K.lanes) lane 0 (range_with_len 0 m))
 
--- the batches that the lanes below a number cut the two files into, and those of all lanes
+-- the batches that the lanes below a number cut the two files into
 abbrev pub cut_below : Shape → ℕ → ℕ → ℕ
 cut_below K n zero = 0
 cut_below K n (suc lane) = cut_below K n lane + (rounded_up (sent_of K (minted_of n) lane) K.batch + rounded_up (sent_of K (joined_of n) lane) K.batch)

@@ -61,7 +61,7 @@ pub record HasNoRoomFor (K : Shape) (lane : ℕ) (next : List Compact → Type 0
   pub need_is : need ≡ need_of K front wanted
   pub above : capacity < used + need
 
--- or the wanted record's stamp there is past the last one of its kind
+-- or behind such a front of the node's journal the wanted record's stamp is past the last one that it may have
 pub record HasNoStampFor (K : Shape) (lane : ℕ) (next : List Compact → Type 0) (E X : ℕ → List Record) (node stamp : ℕ) : Type 0 where
   pub front : List Record
   pub since : IsEnd (E node) front
@@ -119,11 +119,11 @@ IsSomeCauseOf K next E X failed may_hold node NoMemory = Unit {0}
 abbrev pub IsRunCause : Shape → (ℕ → List Compact → Type 0) → (ℕ → List Record) → (ℕ → List Record) → (ℕ → Type 0) → (ℕ → ℕ → Type 0) → LaneFault → Type 0
 IsRunCause K next E X failed may_hold e = IsSomeCauseOf K next E X failed may_hold e.node e.fault
 
--- the disks whose counts have risen since their nodes were opened, and what each node's disk may hold
+-- the node's count of faults has risen since it was opened
 abbrev pub HaveFailed : (ℕ → ℕ) → (ℕ → ℕ) → ℕ → Type 0
 HaveFailed opened faults n = HasRisen (opened n) (faults n)
 
--- how many bytes each may hold
+-- the node's disk may hold so many bytes
 abbrev pub MayHoldBytes : (ℕ → ℕ) → ℕ → ℕ → Type 0
 MayHoldBytes capacity n c = c ≡ capacity n
 
@@ -151,7 +151,7 @@ LaneWaits K lane E X = (lane_phase K X lane ≡ InPrepare) × HasPreparedPieces 
 abbrev pub IsOpenCause : Shape → ℕ → (ℕ → List Record) → (ℕ → List Record) → (ℕ → Type 0) → (ℕ → ℕ → Type 0) → LaneFault → Type 0
 IsOpenCause K lane E X failed may_hold e = ((e.fault ≡ NoMemory) × LaneWaits K lane E X) ⊎ IsLaneCause K lane Nothing E X failed may_hold e
 
--- or memory was wanting for it, and it waits
+-- the lane rests, or memory ran out for it and it waits
 abbrev pub RestsOrWaits : Shape → ℕ → (ℕ → List Record) → (ℕ → List Record) → (ℕ → Type 0) → Type 0 → Type 0
 RestsOrWaits K lane E X failed wanting = LaneRests K lane X failed ⊎ (wanting × LaneWaits K lane E X)
 

@@ -28,7 +28,7 @@ files_deed verdicts files = record {
   did = λ K M X waves. OfKept K M (λ _ _. RanFiles verdicts files K M X waves.items);
 }
 
--- nothing
+-- no work: nothing is handed in, and the journals stay as they were
 abbrev pub no_deed : Deed (Unit {0})
 no_deed = record {
   handed = [];

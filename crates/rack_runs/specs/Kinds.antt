@@ -16,7 +16,7 @@ use Rattle.lane_driver.specs.declared.fault.LaneFaultKind.TheVariants.{DiskFault
 use Rattle.ledger_runs.specs.Turning.{IsLaneOf}
 use Rattle.ledger_runs.specs.Faults.{IsWanted, HasNoDiskFor, HasNoRoomFor, HasNoStampFor}
 
--- the fault's node and its numbers
+-- the answer to a lane's fault of this kind at this node, with its numbers
 abbrev pub answer_at : ℕ → LaneFaultKind → Answer
 answer_at node DiskStopped = answers.DiskFault node
 answer_at node (NoRoom used need capacity) = answers.Full node used need capacity

@@ -1,4 +1,4 @@
--- Why transactions over the ledger on a rack did not come through, and what that leaves of the disks.
+-- Why a run or a recovery over the ledger on a rack did not come through, and what that leaves of the disks.
 use Rattle.std.specs.Prelude.{◌⊎◌}
 use Rattle.outside.specs.declared.disk.Disk.{Ghosts}
 use Rattle.cbdc_types.specs.declared.answer.Answer.{Answer}
@@ -13,6 +13,6 @@ WhyNoTurns device before after turns answer =
     (IsUnresumed device before.held before.faults after.faults answer × AreDisksBack device before after)
     ⊎ IsLaneFault device before after turns answer
 
--- transactions over a ledger that did not come through: all disks are as they were read, or as a lane's fault leaves them, as where memory ran out
+-- a run or a recovery that did not come through: all disks are as they were read, or as a lane's fault leaves them, as where memory ran out
 abbrev pub TurnsLeave : {D : Type 0} → Ghosts D → Disks D → Disks D → Turns → Answer → Type 0
 TurnsLeave device before after turns answer = AreDisksBack device before after ⊎ IsLaneFault device before after turns answer

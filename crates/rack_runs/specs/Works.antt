@@ -43,7 +43,7 @@ pub record Deed (Done : Type 0) : Type 1 where
   pub begun : Shape → (ℕ → List Record) → (ℕ → List Record) → Type 0
   pub did : Shape → (ℕ → List Record) → (ℕ → List Record) → Done → Type 0
 
--- a batch's size, and each within the limits
+-- as many transactions as a batch may have, each within the limits
 abbrev pub FitsBatch : Shape → List Compact → Type 0
 FitsBatch K txs = HasSize K txs × All IsCompact txs
 
@@ -74,12 +74,12 @@ pub record LeavesWork {Done : Type 0} (d : Deed Done) (K : Shape) (M X : ℕ →
   pub since : (E : ℕ → List Record) → IsBehind K E M → (lane : ℕ) (txs : List Compact) → IsLaneOf K lane → d.next K M X lane txs → d.next K E X lane txs
   pub begun : IsWithinLimits K → (E : ℕ → List Record) → IsBehind K E M → d.begun K E X
 
--- it came through
+-- the work came through
 pub record WorkEndsWell {Done : Type 0} (d : Deed Done) (K : Shape) (M X : ℕ → List Record) (done : Done) : Type 0 where
   pub idle : AreIdle K X
   pub did : d.did K M X done
 
--- a lane's fault ended it, which has its cause
+-- a lane's fault ended the work, and has its cause
 pub record EndsBadly {Done : Type 0} (d : Deed Done) (K : Shape) (M X : ℕ → List Record) (failed : ℕ → Type 0) (may_hold : ℕ → ℕ → Type 0) (e : LaneFault) : Type 0 where
   pub cause : IsRunCause K (d.next K M X) M X failed may_hold e
   pub ends : d.ends K M X failed may_hold e
@@ -117,8 +117,8 @@ pub record WorkEndsBy {Done : Type 0} (d : Deed Done) (K : Shape) (M X : ℕ →
   pub holds : (n c : ℕ) → n < node_count K → MayHoldBytes capacity_at n c → may_hold n c
   pub ends : d.ends K M X (HaveFailed opened_at faults_at) (MayHoldBytes capacity_at) e
 
--- nothing was prepared newly, and it is the least lane's that met one as open batches were brought to their end; or these are at their end, nothing was
--- prepared newly meanwhile, and it ended the work behind that
+-- the fault came as open batches were brought to their end, nothing was prepared newly, and it is that of the least lane that met one; or these are at
+-- their end, nothing was prepared newly meanwhile, and the fault ended the work behind that
 abbrev pub EndsWork : {Done : Type 0} → Deed Done → Shape → (ℕ → List Record) → (ℕ → List Record) → (ℕ → Type 0) → (ℕ → ℕ → Type 0) → LaneFault → Type 0
 EndsWork d K E X failed may_hold e =
     (SamePrepared K E X × IsLeastOpen K E X failed may_hold e)
@@ -144,7 +144,7 @@ pub record AllWell {Done : Type 0} (d : Deed Done) (K : Shape) (E X : ℕ → Li
   pub batches : OfKept K E (λ _ _. TellResumed K E middle (K.coordinators * K.lanes) resumed)
   pub well : WorkEndsWell d K middle X done
 
--- a lane's fault ended it
+-- a lane's fault ended the resuming or the work
 pub record AllBadly {Done : Type 0} (d : Deed Done) (K : Shape) (E X : ℕ → List Record) (failed : ℕ → Type 0) (may_hold : ℕ → ℕ → Type 0) (e : LaneFault) : Type 0 where
   pub cause : IsRunCause K (d.next K E X) E X failed may_hold e
   pub ends : EndsWork d K E X failed may_hold e
@@ -170,7 +170,7 @@ pub record IsSeen {D : Type 0} (device : Ghosts D) (n : NodeOf D) : Type 0 where
   pub fits : NodeFits n
   pub flown : FliesBroken n
 
--- all nodes of a ledger do
+-- so do all nodes of a ledger
 pub record AreSeen {D : Type 0} (device : Ghosts D) (logs shards : List (NodeOf D)) : Type 0 where
   pub logs_are : All (IsSeen device) logs
   pub shards_are : All (IsSeen device) shards
@@ -184,6 +184,7 @@ pub record AtEntry (D : Type 0) : Type 0 where
   pub logs : List (NodeOf D)
   pub shards : List (NodeOf D)
 
+-- the ledger as it was opened
 abbrev pub entry_ledger : {D : Type 0} → AtEntry D → LedgerOf D
 entry_ledger e = record { header = e.header; logs = e.logs; shards = e.shards }
 

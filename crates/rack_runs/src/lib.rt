@@ -7,7 +7,8 @@
 //!   fault), and where all disks were told whatever a crash leaves of each opens to exactly its node's journal; in each place there is as much room
 //!   as there was, and the disks that are no nodes of this ledger are as before (both so behind a lane's fault); and of whatever kept ledger the rack
 //!   showed, the open batches were brought to their end, the files' waves follow, the journals are kept, whatever a crash leaves of a disk opens to
-//!   exactly its node's journal, for which and for what is kept it has room, and the headline holds. Else why the ledger was not opened, or the first
+//!   exactly its node's journal, for which and for what is kept it has room, and where no hashes clash the headline
+//!   holds. Else why the ledger was not opened, or the first
 //!   record that was not caused, and the disks are back as they were read; or the disks told a ledger in which each record was caused, and a lane met
 //!   a fault, and what is answered has its cause, by the journals of that ledger and those that the disks hold now: DiskFault only of a node of its
 //!   shape that the lane asks, as of `run_wave`, whose count on the rack rose in this call; Full only where, behind a front of the node's journal,

@@ -50,7 +50,7 @@ pub record IsPrintedRun {D : Type 0} (device : Ghosts D) (now : ℕ → Option D
   -- it is confirmed where its inputs were unspent when its file's wave began, and no other sound submission of the file spends one
   pub free : AreFreeConfirmed K verdicts handed E run.exit
 
--- of the kept ledger that the disks told, it was so
+-- where the ledger that the disks told was kept, this was a printed run of it
 abbrev pub PrintsRun : {D : Type 0} → Ghosts D → (ℕ → Option D) → (ℕ → Option D) → (Text → Type 0) → VerdictsOf → List (List FullTx) → Type 0
 PrintsRun device before now printed verdicts handed = OfShown device before (IsPrintedRun device now printed verdicts handed)
 

@@ -18,7 +18,7 @@ pub record IsPrintedRecovery {D : Type 0} (device : Ghosts D) (now : ℕ → Opt
   pub lines : IsRecoverText K E recovered.exit text
   pub prints : printed text
 
--- of the kept ledger that the disks told, it was so
+-- where the ledger that the disks told was kept, this was a printed recovery of it
 abbrev pub PrintsRecovery : {D : Type 0} → Ghosts D → (ℕ → Option D) → (ℕ → Option D) → (Text → Type 0) → Type 0
 PrintsRecovery device before now printed = OfShown device before (IsPrintedRecovery device now printed)
 

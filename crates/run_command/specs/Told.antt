@@ -30,7 +30,7 @@ abbrev pub told_line : ℕ → ℕ → Digest → Option Report → Text
 told_line file place id None = []
 told_line file place id (Some r) = report_line file place id r
 
--- those of a file's submissions from a place on, and of files from a number on
+-- those of a file's submissions from a place on
 abbrev pub told_file : ℕ → ℕ → List Lane → List Checked → Text
 told_file file place lanes [] = []
 told_file file place lanes (c ∷ cs) = told_line file place c.id (told_report lanes c.judgement) ++ told_file file (suc place) lanes cs
@@ -55,7 +55,7 @@ abbrev pub told_total : (Report → Bool) → List Wave → ℕ
 told_total test [] = 0
 told_total test (w ∷ ws) = told_count test w.lanes.items w.checked.items + told_total test ws
 
--- how many batches lanes tell, and those of waves
+-- how many batches lanes tell
 abbrev pub batches_in : List Lane → ℕ
 batches_in lanes = sum_by (λ x. x.batches) lanes
 

@@ -100,10 +100,11 @@ fn write_beside<W: Threads, O: Sink>(
 /// batches, and their lines printed. All files are read before the rack is taken.
 ///
 /// Where it comes through: the disks told a ledger, each record of which was caused by those before it; its journals have grown by records that are
-/// caused too, within the disks' room. Of a kept one the headline holds, and a line is printed for each submission. A refused one has the first
-/// reason that applies. Each sound one has its one place in one new Prepare, and nothing else has one; it is confirmed exactly where every shard
-/// that it concerns held it, else its line names the least shard that did not, with the hash and the cause of that shard's reply. It is confirmed
-/// always where its inputs are unspent when its file's wave begins and no other sound one of its file spends them. Then six numbers are printed.
+/// caused too, within the disks' room. Of a kept one the headline holds, where no hashes clash, and of any kept one a line is printed for each
+/// submission. A refused one has the first reason that applies. Each sound one has its one place in one new Prepare, and nothing else has one; it is
+/// confirmed exactly where every shard that it concerns held it, else its line names the least shard that did not, with the hash and the cause of that
+/// shard's reply. It is confirmed always where its inputs are unspent when its file's wave begins and no other sound one of its file spends them. Then
+/// six numbers are printed.
 ///
 /// In full (clause `did` of `process`): the files, where told, held the transactions and verdicts; the disks told a ledger, within its limits, and
 /// each record of its history was caused by what stood before it (what is told of each node's disk opens to its journal), and its disks had room
