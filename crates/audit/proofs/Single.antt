@@ -13,7 +13,7 @@ use Rattle.cbdc_model.specs.History.{committed, newly_won, first_with, AreHanded
 use Rattle.ledger_laws.proofs.Recovery.{one_list}
 use Rattle.audit.specs.declared.verdict.Totals.{Totals}
 use Rattle.audit.specs.declared.verdict.Verdict.TheVariants.{Sound, Unsound}
-use Rattle.audit.specs.Walks.{IsRowCaused, IsBatchDone, AllDone, IsFirstOpen}
+use Rattle.audit.specs.Walks.{IsRowCaused, HasDoneRecord, AllDone, IsFirstOpen}
 use Rattle.audit.specs.Spending.{AreSpent, IsFormWrong, IsFirstWrong}
 use Rattle.audit.specs.Verdicts.{Passes, IsRowFault, IsFirstUnsound, IsFirstUnfinished, IsSoundHistory, IsVerdict, journals_of}
 use Rattle.audit.proofs.Unspent.{spent_before}
@@ -184,13 +184,13 @@ module _ (K : Shape) (mint : List Output) (handed : List FullTx) where
       | second d s ↦ absurd (no_earlier g.before d g.row other f.book (subst (λ l. Passes K mint handed (reverse l) f.book) s f.pass) g.fault)
     ]
 
-    done_here : (J : ℕ → List Record) (before after : List Row) (row : Row) → AllByRecursion (λ r. IsBatchDone K J r.what) (before ++ row ∷ after) → IsBatchDone K J row.what
+    done_here : (J : ℕ → List Record) (before after : List Row) (row : Row) → AllByRecursion (λ r. HasDoneRecord K J r.what) (before ++ row ∷ after) → HasDoneRecord K J row.what
     done_here J [] after row h = h.0
     done_here J (r ∷ before) after row h = done_here J before after row h.1
 
-    not_open : (J : ℕ → List Record) (before after : List Row) (row : Row) (all : List Row) → all ≡ before ++ row ∷ after → AllDone K J all → (IsBatchDone K J row.what → ⊥) → ⊥
+    not_open : (J : ℕ → List Record) (before after : List Row) (row : Row) (all : List Row) → all ≡ before ++ row ∷ after → AllDone K J all → (HasDoneRecord K J row.what → ⊥) → ⊥
     not_open J before after row all e done unfinished =
-        unfinished (done_here J before after row (subst (AllByRecursion (λ r. IsBatchDone K J r.what)) e (recursion_from_All (λ r. IsBatchDone K J r.what) all done)))
+        unfinished (done_here J before after row (subst (AllByRecursion (λ r. HasDoneRecord K J r.what)) e (recursion_from_All (λ r. HasDoneRecord K J r.what) all done)))
 
     opens_same : (J : ℕ → List Record) (p q : ℕ) → IsFirstOpen K J rows p → IsFirstOpen K J rows q → p ≡ q
     opens_same J p q f g = elim (places f.before g.before f.row g.row f.after g.after (sym f.rows_are ∙ g.rows_are)) [

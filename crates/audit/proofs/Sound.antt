@@ -6,7 +6,7 @@ use Rattle.std.proofs.lemmas.List.{reverse-reverse}
 use Rattle.std.proofs.lemmas.List.Elements.{recursion_from_All}
 use Rattle.cbdc_model.specs.Records.{Shape, Compact, Record, Row, journal}
 use Rattle.cbdc_model.specs.History.{minted, history_of, committed}
-use Rattle.audit.specs.Walks.{AllDone, IsBatchDone}
+use Rattle.audit.specs.Walks.{AllDone, HasDoneRecord}
 use Rattle.audit.specs.Verdicts.{Passes, journals_of}
 use Rattle.audit.specs.Laws.{UnspentLaw}
 use Rattle.audit.proofs.Unspent.{EachSpends, EachDone, all_steady, unspent_law}
@@ -20,17 +20,17 @@ onto P [] ys h k = k
 onto P (x ∷ xs) ys h k = onto P xs (x ∷ ys) h.1 (h.0, k)
 
 module _ (K : Shape) where
-  each_done : (J : ℕ → List Record) (past : List Row) → AllByRecursion (λ row. IsBatchDone K J row.what) past → EachDone K J past
+  each_done : (J : ℕ → List Record) (past : List Row) → AllByRecursion (λ row. HasDoneRecord K J row.what) past → EachDone K J past
   each_done J [] h = tt
   each_done J (row ∷ past) h = (h.0, each_done J past h.1)
 
   pub all_done : (past : List Row) → AllDone K (journals_of (reverse past)) (reverse past) → EachDone K (λ n. journal n past) past
   all_done past done =
-      let here : All (λ row. IsBatchDone K (λ n. journal n past) row.what) (reverse past)
-      = subst (λ rows. All (λ row. IsBatchDone K (λ n. journal n rows) row.what) (reverse past)) (reverse-reverse past) done in
+      let here : All (λ row. HasDoneRecord K (λ n. journal n past) row.what) (reverse past)
+      = subst (λ rows. All (λ row. HasDoneRecord K (λ n. journal n rows) row.what) (reverse past)) (reverse-reverse past) done in
       each_done (λ n. journal n past) past
-      (subst (AllByRecursion (λ row. IsBatchDone K (λ n. journal n past) row.what)) (reverse-reverse past)
-      (onto (λ row. IsBatchDone K (λ n. journal n past) row.what) (reverse past) [] (recursion_from_All (λ row. IsBatchDone K (λ n. journal n past) row.what) (reverse past) here) tt))
+      (subst (AllByRecursion (λ row. HasDoneRecord K (λ n. journal n past) row.what)) (reverse-reverse past)
+      (onto (λ row. HasDoneRecord K (λ n. journal n past) row.what) (reverse past) [] (recursion_from_All (λ row. HasDoneRecord K (λ n. journal n past) row.what) (reverse past) here) tt))
 
 pub unspent_is_book : UnspentLaw
 unspent_is_book K mint handed later totals shards clean after each sound x =

@@ -18,7 +18,7 @@ use Rattle.audit.specs.declared.place.Place.{Place}
 use Rattle.audit.specs.Rows.{row_at, rows_at, record_at, newest_first}
 use Rattle.audit.specs.declared.known.Known.{Known}
 use Rattle.audit.specs.Knowing.{Knows}
-use Rattle.audit.specs.Walks.{IsRowCaused, AllCaused, IsFirstUncaused, IsBatchDone, AllDone, IsFirstOpen}
+use Rattle.audit.specs.Walks.{IsRowCaused, AllCaused, IsFirstUncaused, HasDoneRecord, AllDone, IsFirstOpen}
 
 -- one more row is the newest
 pub one_more : (all : List (List Record)) (h : List Place) (k : ℕ) (d : Place) → k < length h
@@ -67,7 +67,7 @@ first_uncaused K all h k p d r lt ep er rest uncaused = record {
 }
 
 pub first_open_at : (K : Shape) (J : ℕ → List Record) (all : List (List Record)) (h : List Place) (k : ℕ) (p d : Place) (r : Record) → k < length h → p ≡ get_or h k d → r ≡ record_at all p
-    → AllDone K J (rows_at all (take k h)) → (IsBatchDone K J r → ⊥) → IsFirstOpen K J (rows_at all h) k
+    → AllDone K J (rows_at all (take k h)) → (HasDoneRecord K J r → ⊥) → IsFirstOpen K J (rows_at all h) k
 first_open_at K J all h k p d r lt ep er rest unfinished = record {
   before = rows_at all (take k h);
   row = record { node = p.node; what = r };
@@ -79,11 +79,11 @@ first_open_at K J all h k p d r lt ep er rest unfinished = record {
 }
 
 pub done_more : (K : Shape) (J : ℕ → List Record) (all : List (List Record)) (h : List Place) (k : ℕ) (p d : Place) (r : Record) → k < length h → p ≡ get_or h k d → r ≡ record_at all p
-    → AllDone K J (rows_at all (take k h)) → IsBatchDone K J r → AllDone K J (rows_at all (take (k + 1) h))
+    → AllDone K J (rows_at all (take k h)) → HasDoneRecord K J r → AllDone K J (rows_at all (take (k + 1) h))
 done_more K J all h k p d r lt ep er rest here =
-    let P : Row → Type 0 = λ row. IsBatchDone K J row.what in
+    let P : Row → Type 0 = λ row. HasDoneRecord K J row.what in
     All-same P (rows_at all (take (k + 1) h)) (rows_at all (take k h) ++ row_at all (get_or h k d) ∷ []) (map_more (row_at all) h k d lt)
-    (All-push P (rows_at all (take k h)) (row_at all (get_or h k d)) rest (subst (λ q. IsBatchDone K J (record_at all q)) ep (subst (IsBatchDone K J) er here)))
+    (All-push P (rows_at all (take k h)) (row_at all (get_or h k d)) rest (subst (λ q. HasDoneRecord K J (record_at all q)) ep (subst (HasDoneRecord K J) er here)))
 
 -- the row at a place is the first with which something is wrong
 pub first_fault : (K : Shape) (mint : List Output) (handed : List FullTx) (all : List (List Record)) (h : List Place) (k : ℕ) (p d : Place) (r : Record) (kind : UnsoundKind) (b : Book) → k < length h → p ≡ get_or h k d

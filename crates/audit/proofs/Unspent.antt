@@ -31,7 +31,7 @@ use Rattle.audit.proofs.Once.{SoFar, AreReady, fold_so_far, counted_in, Maker, m
 use Rattle.audit.proofs.Holders.{Never, capped, capped_inv, capped_finish, capped_commit}
 use Rattle.audit.proofs.Locking.{capped_lock, finish_exact}
 use Rattle.audit.specs.Spending.{AreSpent}
-use Rattle.audit.specs.Walks.{AllCaused, IsBatchDone}
+use Rattle.audit.specs.Walks.{AllCaused, HasDoneRecord}
 use Rattle.audit.specs.Laws.{AllAfter}
 
 abbrev Any : Compact → Type 0
@@ -100,9 +100,9 @@ module _ (K : Shape) where
   -- each batch is done
   abbrev pub EachDone : (ℕ → List Record) → List Row → Type 0
   EachDone J [] = Unit {0}
-  EachDone J (row ∷ past) = IsBatchDone K J row.what × EachDone J past
+  EachDone J (row ∷ past) = HasDoneRecord K J row.what × EachDone J past
 
-  done_here : (J : ℕ → List Record) (r : Record) (b : Batch) → IsBatchDone K J r → ((kind_of r == 6) && is_of b r) ≡ true → has_done (J (home_of K b.lane)) b ≡ true
+  done_here : (J : ℕ → List Record) (r : Record) (b : Batch) → HasDoneRecord K J r → ((kind_of r == 6) && is_of b r) ≡ true → has_done (J (home_of K b.lane)) b ≡ true
   done_here J (Prepare stamp c txs) b d t = subst (λ e. has_done (J (home_of K e.lane)) e ≡ true) (split_test 6 6 c b t).1 d
   done_here J other b d t = absurd (let z : false ≡ true = t in cc)
 

@@ -28,13 +28,13 @@ pub record IsFirstUncaused (K : Shape) (rows : List Row) (place : ℕ) : Type 0 
   pub uncaused : IsRowCaused K (reverse before) row → ⊥
 
 -- a Prepare's batch has its Done in these journals
-abbrev pub IsBatchDone : Shape → (ℕ → List Record) → Record → Type 0
-IsBatchDone K J (Prepare stamp b txs) = is_some (record_of done_kind (J (home_of K b.lane)) b) ≡ true
-IsBatchDone K J other = Unit {0}
+abbrev pub HasDoneRecord : Shape → (ℕ → List Record) → Record → Type 0
+HasDoneRecord K J (Prepare stamp b txs) = is_some (record_of done_kind (J (home_of K b.lane)) b) ≡ true
+HasDoneRecord K J other = Unit {0}
 
 -- each Prepare's batch among these rows has its Done in these journals
 abbrev pub AllDone : Shape → (ℕ → List Record) → List Row → Type 0
-AllDone K J rows = All (λ row. IsBatchDone K J row.what) rows
+AllDone K J rows = All (λ row. HasDoneRecord K J row.what) rows
 
 -- the row at this place is the first that is a Prepare whose batch is not done
 pub record IsFirstOpen (K : Shape) (J : ℕ → List Record) (rows : List Row) (place : ℕ) : Type 0 where
@@ -44,7 +44,7 @@ pub record IsFirstOpen (K : Shape) (J : ℕ → List Record) (rows : List Row) (
   pub rows_are : rows ≡ before ++ row ∷ after
   pub stands : length before ≡ place
   pub done : AllDone K J before
-  pub unfinished : IsBatchDone K J row.what → ⊥
+  pub unfinished : HasDoneRecord K J row.what → ⊥
 
 -- each row of a ledger's history behind its first ones is after those of its journal, and its Prepares have transactions that pass
 abbrev pub AllFollow : Shape → Minted → (Compact → Type 0) → List Row → Type 0

@@ -7,7 +7,7 @@ ghost use Rattle.cbdc_model.specs.Clean.{value_out};
 ghost use Rattle.cbdc_model.specs.History.{newly_won};
 ghost use Rattle.audit.specs.Rows.{read, rows_at, IsRecordPlace};
 ghost use Rattle.audit.specs.Knowing.{Knows};
-ghost use Rattle.audit.specs.Walks.{AllDone, IsBatchDone, IsFirstOpen};
+ghost use Rattle.audit.specs.Walks.{AllDone, HasDoneRecord, IsFirstOpen};
 ghost use Rattle.audit.specs.Spending.{IsFirstWrong};
 ghost use Rattle.audit.specs.Verdicts.{IsVerdict};
 ghost use Rattle.audit.specs.Keeping.{IsIndex, IsFormOf, HasSpent, IsWalked};
@@ -43,9 +43,10 @@ fn commit(
 ) -> Result<Option<UnsoundKind>, AllocError>
     requires index { IsIndex handed.now ids.now }
     requires compacts { AllZip IsFormOf handed.now compacts.now }
-    ensures { (mint : Items ModelOutput) → (forms : Items Compact) → (J : ℕ → Items ModelRecord) → Knows (read journals.now) known.now J
-        → IsIndex handed.now ids.now → HasSpent mint handed.now forms fold.old
-        → IfOk result (λ o. MatchOption o (HasSpent mint handed.now (forms ++ newly_won r.now (J node)) fold.new)
+    ensures { (mint : Items ModelOutput)
+        → (forms : Items Compact) → (J : ℕ → Items ModelRecord) → Knows (read journals.now) known.now J
+        → IsIndex handed.now ids.now → HasSpent mint handed.now forms fold.old → IfOk result
+        (λ o. MatchOption o (HasSpent mint handed.now (forms ++ newly_won r.now (J node)) fold.new)
         (IsFirstWrong mint handed.now forms (newly_won r.now (J node)))) }
 {
     match r {
@@ -101,7 +102,8 @@ fn walk(
 
 // Whether a record's batch is done, where it is a Prepare.
 fn is_done(known: &Known, journals: &[&[Record]], shape: &Shape, r: &Record) -> bool
-    ensures { (J : ℕ → Items ModelRecord) → Knows (read journals.now) known.now J → (IsTrue result ↔ IsBatchDone shape.now J r.now) }
+    ensures { (J : ℕ → Items ModelRecord) → Knows (read journals.now) known.now J
+        → (IsTrue result ↔ HasDoneRecord shape.now J r.now) }
 {
     match r {
         Record::Prepare { batch, .. } => known
@@ -125,7 +127,8 @@ fn first_open(
 ) -> Option<u64>
     requires { All (IsRecordPlace (read journals.now)) history.now }
     ensures { (J : ℕ → Items ModelRecord) → Knows (read journals.now) known.now J
-        → MatchOption result (AllDone shape.now J (rows_at (read journals.now) history.now)) (IsFirstOpen shape.now J (rows_at (read journals.now) history.now)) }
+        → MatchOption result (AllDone shape.now J (rows_at (read journals.now) history.now))
+        (IsFirstOpen shape.now J (rows_at (read journals.now) history.now)) }
 {
     'places: for at in 0..history.len() {
         let r = record_at(journals, history[at]);
@@ -165,7 +168,8 @@ pub fn audit<W: Threads + Sync>(
     handed: &[FullTx],
 ) -> Result<Verdict, AllocError>
     requires places { All (IsRecordPlace (read journals.now)) history.now }
-    ensures { IfOk result (IsVerdict shape.now mint.now handed.now (rows_at (read journals.now) history.now)) }
+    ensures { IfOk result
+        (IsVerdict shape.now mint.now handed.now (rows_at (read journals.now) history.now)) }
 {
     let compacts = forms_of(rt, alloc, handed)?;
     let ids = ById::of(alloc, handed, &compacts)?;

@@ -39,7 +39,8 @@ impl Book {
 
     // Puts an output in at an outpoint.
     fn put(&mut self, id: &Hash, index: u64, output: &Output) -> Result<(), AllocError>
-        ensures { OnOk result ((b : ModelBook) → HasBook self.old b → HasBook self.new (book.insert b (key (record { tx = id.now; index = index })) output.now)) }
+        ensures { OnOk result ((b : ModelBook) → HasBook self.old b
+            → HasBook self.new (book.insert b (key (record { tx = id.now; index = index })) output.now)) }
     {
         self.outputs.insert((*id, index), *output)?;
         Ok(())
@@ -47,7 +48,8 @@ impl Book {
 
     // Puts outputs in under an id, at 0, 1, 2 and so on.
     fn put_all(&mut self, id: &Hash, outputs: &[Output]) -> Result<(), AllocError>
-        ensures { OnOk result ((b : ModelBook) → HasBook self.old b → HasBook self.new (put_all b (made_coins id.now 0 outputs.now))) }
+        ensures { OnOk result ((b : ModelBook) → HasBook self.old b
+            → HasBook self.new (put_all b (made_coins id.now 0 outputs.now))) }
     {
         'outputs: for index in 0..outputs.len() {
             self.put(id, index as u64, &outputs[index])?;
@@ -77,7 +79,8 @@ impl Book {
 
     // Takes coins out one after another. False where one is not there as claimed, or stands twice.
     fn take_all(&mut self, coins: &[Input]) -> bool
-        ensures { (b : ModelBook) → HasBook self.old b → HasRest result self.new (take_all (Some b) coins.now) }
+        ensures { (b : ModelBook) → HasBook self.old b
+            → HasRest result self.new (take_all (Some b) coins.now) }
     {
         'coins: for at in 0..coins.len() {
             if !self.take_out(&coins[at]) {
@@ -91,7 +94,8 @@ impl Book {
     /// twice.
     pub(crate) fn spend(&mut self, tx: &FullTx, id: &Hash) -> Result<bool, AllocError>
         requires { id.now ≡ tx_id tx.now }
-        ensures { (b : ModelBook) → HasBook self.old b → IfOk result (λ yes. HasRest yes self.new (spend b tx.now)) }
+        ensures { (b : ModelBook) → HasBook self.old b
+            → IfOk result (λ yes. HasRest yes self.new (spend b tx.now)) }
     {
         if !self.take_all(tx.inputs.as_slice()) {
             return Ok(false);

@@ -24,7 +24,8 @@ pub(crate) fn home_of(shape: &Shape, batch: &BatchId) -> u32
 
 // Whether a stamp is one more than the greatest of the node's last stamp and the cause's.
 fn is_stamped(known: &Known, node: u32, stamp: u64, cause: u64) -> bool
-    ensures { (all : Items (Items ModelRecord)) → (J : ℕ → Items ModelRecord) → Knows all known.now J → (IsTrue result ↔ IsStamped stamp (J node) cause) }
+    ensures { (all : Items (Items ModelRecord)) → (J : ℕ → Items ModelRecord) → Knows all known.now J
+        → (IsTrue result ↔ IsStamped stamp (J node) cause) }
 {
     0 < stamp && stamp - 1 == known.last_stamp(node).max(cause)
 }
@@ -36,7 +37,8 @@ pub(crate) fn txs_of<'a>(
     node: u32,
     batch: &BatchId,
 ) -> &'a [CompactTx]
-    ensures { (J : ℕ → Items ModelRecord) → Knows (read journals.now) known.now J → result.now ≡ txs_of (J node) batch.now }
+    ensures { (J : ℕ → Items ModelRecord) → Knows (read journals.now) known.now J
+        → result.now ≡ txs_of (J node) batch.now }
 {
     match known.found(journals, node, RecordKind::Prepare as u64, batch) {
         Some(Record::Prepare { txs, .. }) => txs.as_slice(),
@@ -46,7 +48,8 @@ pub(crate) fn txs_of<'a>(
 
 // Whether the entries are the transactions' part at this node, where it is a shard.
 fn is_part_at(shape: &Shape, node: u32, es: &[Answered], txs: &[CompactTx]) -> bool
-    ensures { IsTrue result ↔ ((s : ℕ) → node ≡ shard_node shape.now s → entries es.now ≡ part shape.now.shards s 0 txs.now) }
+    ensures { IsTrue result
+        ↔ ((s : ℕ) → node ≡ shard_node shape.now s → entries es.now ≡ part shape.now.shards s 0 txs.now) }
 {
     if node < shape.coordinators() {
         return true;
@@ -64,7 +67,8 @@ fn is_lock_caused(
     batch: &BatchId,
     es: &[Answered],
 ) -> bool
-    ensures { (J : ℕ → Items ModelRecord) → Knows (read journals.now) known.now J → (IsTrue result ↔ IsCaused shape.now J node (Lock stamp batch.now es.now)) }
+    ensures { (J : ℕ → Items ModelRecord) → Knows (read journals.now) known.now J
+        → (IsTrue result ↔ IsCaused shape.now J node (Lock stamp batch.now es.now)) }
 {
     let home = home_of(shape, batch);
     let Some(cause) = known.found(journals, home, RecordKind::Prepare as u64, batch) else {
@@ -85,8 +89,8 @@ fn have_below(
     n: u32,
 ) -> bool
     requires { n ≤ shape.now.shards }
-    ensures { (J : ℕ → Items ModelRecord) → Knows (read journals.now) known.now J
-        → (IsTrue result ↔ ((s : ℕ) → s < n → Concerned shape.now txs.now s → is_some (at_shards shape.now J kind batch.now s) ≡ true)) }
+    ensures { (J : ℕ → Items ModelRecord) → Knows (read journals.now) known.now J → (IsTrue result ↔ ((s : ℕ)
+        → s < n → Concerned shape.now txs.now s → is_some (at_shards shape.now J kind batch.now s) ≡ true)) }
 {
     if n == 0 {
         return true;
@@ -105,7 +109,8 @@ fn all_have(
     kind: u64,
     batch: &BatchId,
 ) -> bool
-    ensures { (J : ℕ → Items ModelRecord) → Knows (read journals.now) known.now J → (IsTrue result ↔ AllHave shape.now J kind batch.now) }
+    ensures { (J : ℕ → Items ModelRecord) → Knows (read journals.now) known.now J
+        → (IsTrue result ↔ AllHave shape.now J kind batch.now) }
 {
     let txs = txs_of(known, journals, home_of(shape, batch), batch);
     have_below(known, journals, shape, kind, batch, txs, shape.shards())
@@ -113,7 +118,8 @@ fn all_have(
 
 // The stamp of a node's record of a kind of a batch, 0 where it has none.
 fn stamp_at(known: &Known, journals: &[&[Record]], node: u32, kind: u64, batch: &BatchId) -> u64
-    ensures { (J : ℕ → Items ModelRecord) → Knows (read journals.now) known.now J → result ≡ stamp_in (record_of kind (J node) batch.now) }
+    ensures { (J : ℕ → Items ModelRecord) → Knows (read journals.now) known.now J
+        → result ≡ stamp_in (record_of kind (J node) batch.now) }
 {
     match known.found(journals, node, kind, batch) {
         Some(r) => stamp_of(r),
@@ -131,7 +137,8 @@ fn greatest_below(
     n: u32,
 ) -> u64
     requires { n ≤ shape.now.shards }
-    ensures { (J : ℕ → Items ModelRecord) → Knows (read journals.now) known.now J → result ≡ greatest (λ s. stamp_in (at_shards shape.now J kind batch.now s)) n }
+    ensures { (J : ℕ → Items ModelRecord) → Knows (read journals.now) known.now J
+        → result ≡ greatest (λ s. stamp_in (at_shards shape.now J kind batch.now s)) n }
 {
     if n == 0 {
         return 0;
@@ -143,7 +150,8 @@ fn greatest_below(
 
 // The greatest stamp that the shards have of a kind of a batch.
 fn last_of(known: &Known, journals: &[&[Record]], shape: &Shape, kind: u64, batch: &BatchId) -> u64
-    ensures { (J : ℕ → Items ModelRecord) → Knows (read journals.now) known.now J → result ≡ last_of shape.now J kind batch.now }
+    ensures { (J : ℕ → Items ModelRecord) → Knows (read journals.now) known.now J
+        → result ≡ last_of shape.now J kind batch.now }
 {
     greatest_below(known, journals, shape, kind, batch, shape.shards())
 }
@@ -157,8 +165,9 @@ fn are_by_locks(
     batch: &BatchId,
     given: &[Outcome],
 ) -> Result<bool, AllocError>
-    ensures { (J : ℕ → Items ModelRecord) → Knows (read journals.now) known.now J
-        → IfOk result (λ yes. IsTrue yes ↔ (given.now ≡ outcomes (λ s. entries_in (at_shards shape.now J lock_kind batch.now s)) shape.now.shards 0 (txs_of (J (home_of shape.now batch.now.lane)) batch.now))) }
+    ensures { (J : ℕ → Items ModelRecord) → Knows (read journals.now) known.now J → IfOk result (λ yes.
+        IsTrue yes ↔ (given.now ≡ outcomes (λ s. entries_in (at_shards shape.now J lock_kind batch.now s))
+        shape.now.shards 0 (txs_of (J (home_of shape.now batch.now.lane)) batch.now))) }
 {
     let txs = txs_of(known, journals, home_of(shape, batch), batch);
     let decided = outcomes_by_locks(alloc, known, journals, shape, batch, txs)?;
@@ -176,7 +185,8 @@ fn is_commit_caused(
     batch: &BatchId,
     given: &[Outcome],
 ) -> Result<bool, AllocError>
-    ensures { (J : ℕ → Items ModelRecord) → Knows (read journals.now) known.now J → IfOk result (λ yes. IsTrue yes ↔ IsCaused shape.now J node (Commit stamp batch.now given.now)) }
+    ensures { (J : ℕ → Items ModelRecord) → Knows (read journals.now) known.now J
+        → IfOk result (λ yes. IsTrue yes ↔ IsCaused shape.now J node (Commit stamp batch.now given.now)) }
 {
     if !all_have(known, journals, shape, RecordKind::Lock as u64, batch) {
         return Ok(false);
@@ -199,7 +209,8 @@ fn lock_of<'a>(
     node: u32,
     batch: &BatchId,
 ) -> &'a [Answered]
-    ensures { (J : ℕ → Items ModelRecord) → Knows (read journals.now) known.now J → result.now ≡ lock_of (J node) batch.now }
+    ensures { (J : ℕ → Items ModelRecord) → Knows (read journals.now) known.now J
+        → result.now ≡ lock_of (J node) batch.now }
 {
     match known.found(journals, node, RecordKind::Lock as u64, batch) {
         Some(Record::Lock { entries, .. }) => entries.as_slice(),
@@ -214,7 +225,8 @@ fn outcomes_of<'a>(
     node: u32,
     batch: &BatchId,
 ) -> &'a [Outcome]
-    ensures { (J : ℕ → Items ModelRecord) → Knows (read journals.now) known.now J → result.now ≡ outcomes_of (J node) batch.now }
+    ensures { (J : ℕ → Items ModelRecord) → Knows (read journals.now) known.now J
+        → result.now ≡ outcomes_of (J node) batch.now }
 {
     match known.found(journals, node, RecordKind::Commit as u64, batch) {
         Some(Record::Commit { outcomes, .. }) => outcomes.as_slice(),
@@ -232,7 +244,8 @@ fn is_finish_caused(
     batch: &BatchId,
     given: &[bool],
 ) -> bool
-    ensures { (J : ℕ → Items ModelRecord) → Knows (read journals.now) known.now J → (IsTrue result ↔ IsCaused shape.now J node (Finish stamp batch.now given.now)) }
+    ensures { (J : ℕ → Items ModelRecord) → Knows (read journals.now) known.now J
+        → (IsTrue result ↔ IsCaused shape.now J node (Finish stamp batch.now given.now)) }
 {
     let home = home_of(shape, batch);
     let Some(cause) = known.found(journals, home, RecordKind::Commit as u64, batch) else {
@@ -255,7 +268,8 @@ fn is_forget_caused(
     stamp: u64,
     batch: &BatchId,
 ) -> bool
-    ensures { (J : ℕ → Items ModelRecord) → Knows (read journals.now) known.now J → (IsTrue result ↔ IsCaused shape.now J node (Forget stamp batch.now)) }
+    ensures { (J : ℕ → Items ModelRecord) → Knows (read journals.now) known.now J
+        → (IsTrue result ↔ IsCaused shape.now J node (Forget stamp batch.now)) }
 {
     match known.found(
         journals,
@@ -279,7 +293,8 @@ fn follows_all(
     batch: &BatchId,
 ) -> bool
     ensures { (J : ℕ → Items ModelRecord) → Knows (read journals.now) known.now J
-        → (IsTrue result ↔ AllHave shape.now J kind batch.now × IsStamped stamp (J node) (last_of shape.now J kind batch.now)) }
+        → (IsTrue result ↔ AllHave shape.now J kind batch.now
+        × IsStamped stamp (J node) (last_of shape.now J kind batch.now)) }
 {
     all_have(known, journals, shape, kind, batch)
         && is_stamped(
@@ -299,7 +314,8 @@ pub(crate) fn is_caused(
     node: u32,
     r: &Record,
 ) -> Result<bool, AllocError>
-    ensures { (J : ℕ → Items ModelRecord) → Knows (read journals.now) known.now J → IfOk result (λ yes. IsTrue yes ↔ IsCaused shape.now J node r.now) }
+    ensures { (J : ℕ → Items ModelRecord) → Knows (read journals.now) known.now J
+        → IfOk result (λ yes. IsTrue yes ↔ IsCaused shape.now J node r.now) }
 {
     match r {
         Record::Genesis { .. } => Ok(true),

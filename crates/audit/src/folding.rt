@@ -45,9 +45,10 @@ impl Fold {
     ) -> Result<Option<UnsoundKind>, AllocError>
         requires index { IsIndex handed.now ids.now }
         requires compacts { AllZip IsFormOf handed.now compacts.now }
-        ensures { (mint : Items ModelOutput) → (forms : Items Compact) → IsIndex handed.now ids.now → HasSpent mint handed.now forms self.old
-            → IfOk result (λ o. MatchOption o (HasSpent mint handed.now (forms ++ form.now ∷ []) self.new)
-            (λ kind. (b : ModelBook) × AreSpent mint handed.now forms b × IsFormWrong handed.now b form.now kind)) }
+        ensures { (mint : Items ModelOutput) → (forms : Items Compact)
+            → IsIndex handed.now ids.now → HasSpent mint handed.now forms self.old → IfOk result
+            (λ o. MatchOption o (HasSpent mint handed.now (forms ++ form.now ∷ []) self.new) (λ kind.
+            (b : ModelBook) × AreSpent mint handed.now forms b × IsFormWrong handed.now b form.now kind)) }
     {
         let Some(tx) = ids.first_with(handed, compacts, form) else {
             return Ok(Some(UnsoundKind::Unknown(form.id)));
@@ -73,8 +74,9 @@ impl Fold {
     ) -> Result<Option<UnsoundKind>, AllocError>
         requires index { IsIndex handed.now ids.now }
         requires compacts { AllZip IsFormOf handed.now compacts.now }
-        ensures { (mint : Items ModelOutput) → (forms : Items Compact) → IsIndex handed.now ids.now → HasSpent mint handed.now forms self.old
-            → IfOk result (λ o. MatchOption o (HasSpent mint handed.now (forms ++ won_txs txs.now outcomes.now) self.new)
+        ensures { (mint : Items ModelOutput) → (forms : Items Compact)
+            → IsIndex handed.now ids.now → HasSpent mint handed.now forms self.old → IfOk result
+            (λ o. MatchOption o (HasSpent mint handed.now (forms ++ won_txs txs.now outcomes.now) self.new)
             (IsFirstWrong mint handed.now forms (won_txs txs.now outcomes.now))) }
     {
         'txs: for at in 0..txs.len().min(outcomes.len()) {

@@ -18,8 +18,8 @@ pub(crate) struct ById {
 
 // Whether the transaction at a place has a compact form, by the forms of all.
 fn has_form(forms: &[CompactTx], at: usize, form: &CompactTx) -> bool
-    ensures { (txs : Items ModelTx) (t : ModelTx) → AllZip IsFormOf txs forms.now → at < length txs → t ≡ slice_index_or txs at t
-        → result ≡ same_compact (compact t) form.now }
+    ensures { (txs : Items ModelTx) (t : ModelTx) → AllZip IsFormOf txs forms.now
+        → at < length txs → t ≡ slice_index_or txs at t → result ≡ same_compact (compact t) form.now }
 {
     match forms.get(at) {
         Some(own) => is_same_compact(own, form),
@@ -30,7 +30,8 @@ fn has_form(forms: &[CompactTx], at: usize, form: &CompactTx) -> bool
 // The first transaction with a compact form, by looking at each.
 fn search<'a>(txs: &'a [FullTx], forms: &[CompactTx], form: &CompactTx) -> Option<&'a FullTx>
     requires { AllZip IsFormOf txs.now forms.now }
-    ensures { MatchOption result (first_with txs.now form.now ≡ None) (λ t. first_with txs.now form.now ≡ Some t.now) }
+    ensures { MatchOption result (first_with txs.now form.now ≡ None)
+        (λ t. first_with txs.now form.now ≡ Some t.now) }
 {
     'txs: for at in 0..txs.len() {
         if has_form(forms, at, form) {
@@ -43,7 +44,8 @@ fn search<'a>(txs: &'a [FullTx], forms: &[CompactTx], form: &CompactTx) -> Optio
 impl ById {
     // Takes one more transaction in by its id, behind so many others.
     fn note(&mut self, id: &Hash, at: u64) -> Result<(), AllocError>
-        ensures { OnOk result ((txs : Items ModelTx) (tx : ModelTx) → length txs ≡ at → id.now ≡ id_of_tx tx → IsIndex txs self.old → IsIndex (txs ++ tx ∷ []) self.new) }
+        ensures { OnOk result ((txs : Items ModelTx) (tx : ModelTx) → length txs ≡ at
+            → id.now ≡ id_of_tx tx → IsIndex txs self.old → IsIndex (txs ++ tx ∷ []) self.new) }
     {
         if self.firsts.contains_key(id) {
             return Ok(());
@@ -74,8 +76,8 @@ impl ById {
         form: &CompactTx,
     ) -> Option<&'a FullTx>
         requires { AllZip IsFormOf txs.now forms.now }
-        ensures { IsIndex txs.now self.now
-            → MatchOption result (first_with txs.now form.now ≡ None) (λ t. first_with txs.now form.now ≡ Some t.now) }
+        ensures { IsIndex txs.now self.now → MatchOption result (first_with txs.now form.now ≡ None)
+            (λ t. first_with txs.now form.now ≡ Some t.now) }
     {
         let Some(at) = self.firsts.get(&form.id) else {
             return None;

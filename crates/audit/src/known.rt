@@ -18,7 +18,8 @@ pub(crate) struct Known {
 
 // The kind of a record, as the first byte of its body names it, and its batch, if it has one.
 fn kind_and_batch(r: &Record) -> Option<(u64, BatchId)>
-    ensures { MatchOption result ((b : Batch) → is_of b r.now ≡ false) (λ p. (kind_of r.now ≡ p.0) × ((b : Batch) → is_of b r.now ≡ same_batch p.1 b)) }
+    ensures { MatchOption result ((b : Batch) → is_of b r.now ≡ false) (λ p. (kind_of r.now ≡ p.0)
+        × ((b : Batch) → is_of b r.now ≡ same_batch p.1 b)) }
 {
     match r {
         Record::Genesis { .. } => None,
@@ -35,7 +36,8 @@ fn kind_and_batch(r: &Record) -> Option<(u64, BatchId)>
 
 // The record at an index of a node's journal, if it is there.
 fn record_if_there<'a>(journals: &[&'a [Record]], node: u32, index: u64) -> Option<&'a Record>
-    ensures { index < length (journal_in (read journals.now) node) → IsSomeAnd result (λ r. r.now ≡ record_at (read journals.now) (record { node = node; index = index })) }
+    ensures { index < length (journal_in (read journals.now) node) → IsSomeAnd result
+        (λ r. r.now ≡ record_at (read journals.now) (record { node = node; index = index })) }
 {
     match journals.get(node as usize) {
         Some(journal) => journal.get(index as usize),
@@ -64,8 +66,8 @@ impl Known {
         kind: u64,
         batch: &BatchId,
     ) -> Option<&'a Record>
-        ensures { (J : ℕ → Items ModelRecord) → Knows (read journals.now) self.now J
-            → MatchOption result (record_of kind (J node) batch.now ≡ None) (λ r. record_of kind (J node) batch.now ≡ Some r.now) }
+        ensures { (J : ℕ → Items ModelRecord) → Knows (read journals.now) self.now J → MatchOption result
+            (record_of kind (J node) batch.now ≡ None) (λ r. record_of kind (J node) batch.now ≡ Some r.now) }
     {
         match self.indices.get(&(node, kind, batch.lane.0, batch.number)) {
             Some(index) => record_if_there(journals, node, *index),
@@ -75,7 +77,8 @@ impl Known {
 
     /// The last stamp of a node, 0 where it has no record.
     pub(crate) fn last_stamp(&self, node: u32) -> u64
-        ensures { (all : Items (Items ModelRecord)) → (J : ℕ → Items ModelRecord) → Knows all self.now J → result ≡ last_stamp (J node) }
+        ensures { (all : Items (Items ModelRecord)) → (J : ℕ → Items ModelRecord) → Knows all self.now J
+            → result ≡ last_stamp (J node) }
     {
         match self.stamps.get(&node) {
             Some(stamp) => *stamp,
@@ -85,7 +88,8 @@ impl Known {
 
     // Keeps the index of a record of a node, if it is of a batch.
     fn keep(&mut self, node: u32, index: u64, r: &Record) -> Result<(), AllocError>
-        ensures kept { OnOk result ((n kind : ℕ) → (b : Batch) → index_of self.new n kind b ≡ (if (node == n) && ((kind_of r.now == kind) && is_of b r.now) then Some index else index_of self.old n kind b)) }
+        ensures kept { OnOk result ((n kind : ℕ) → (b : Batch) → index_of self.new n kind b ≡ (if (node == n)
+            && ((kind_of r.now == kind) && is_of b r.now) then Some index else index_of self.old n kind b)) }
         ensures stamps { self.new.stamps ≡ self.old.stamps }
     {
         match kind_and_batch(r) {
@@ -100,8 +104,10 @@ impl Known {
 
     /// Takes a record of a node in, which stands at this index of its journal.
     pub(crate) fn note(&mut self, node: u32, index: u64, r: &Record) -> Result<(), AllocError>
-        ensures { OnOk result ((all : Items (Items ModelRecord)) → (past : Items Row) → index < length (journal_in all node) → record_at all (record { node = node; index = index }) ≡ r.now
-            → Knows all self.old (λ n. journal n past) → Knows all self.new (λ n. journal n (record { node = node; what = r.now } ∷ past))) }
+        ensures { OnOk result ((all : Items (Items ModelRecord)) → (past : Items Row)
+            → index < length (journal_in all node) → record_at all (record { node = node; index = index })
+            ≡ r.now → Knows all self.old (λ n. journal n past)
+            → Knows all self.new (λ n. journal n (record { node = node; what = r.now } ∷ past))) }
     {
         self.keep(node, index, r)?;
         self.stamps.insert(node, stamp_of(r))?;

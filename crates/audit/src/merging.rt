@@ -51,8 +51,10 @@ fn goes_above(journals: &[&[Record]], place: Place, other: Place) -> bool
 // The places of one journal.
 fn places_at(alloc: Global, journals: &[&[Record]], node: u32) -> Result<Vec<Place>, AllocError>
     requires { node < length journals.now }
-    ensures journals { IfOk result (λ v. (n : ℕ) → journal n (rows_at (read journals.now) v.items) ≡ journals_below (read journals.now) node (node + 1) n) }
-    ensures rises { Rises (journal_in (read journals.now) node) → IfOk result (λ v. RiseAll (rows_at (read journals.now) v.items)) }
+    ensures journals { IfOk result (λ v. (n : ℕ) → journal n (rows_at (read journals.now) v.items)
+        ≡ journals_below (read journals.now) node (node + 1) n) }
+    ensures rises { Rises (journal_in (read journals.now) node)
+        → IfOk result (λ v. RiseAll (rows_at (read journals.now) v.items)) }
     ensures places { IfOk result (λ v. All (IsRecordPlace (read journals.now)) v.items) }
 {
     let journal = journals[node as usize];
@@ -75,10 +77,12 @@ fn merge_two(
 ) -> Result<Vec<Place>, AllocError>
     requires left { All (IsRecordPlace (read journals.now)) a.now }
     requires right { All (IsRecordPlace (read journals.now)) b.now }
-    ensures journals { AreApart (rows_at (read journals.now) a.now) (rows_at (read journals.now) b.now) → IfOk result (λ v. (n : ℕ) → journal n (rows_at (read journals.now) v.items)
+    ensures journals { AreApart (rows_at (read journals.now) a.now) (rows_at (read journals.now) b.now)
+        → IfOk result (λ v. (n : ℕ) → journal n (rows_at (read journals.now) v.items)
         ≡ journal n (rows_at (read journals.now) a.now) ++ journal n (rows_at (read journals.now) b.now)) }
-    ensures rises { AreApart (rows_at (read journals.now) a.now) (rows_at (read journals.now) b.now) → RiseAll (rows_at (read journals.now) a.now)
-        → RiseAll (rows_at (read journals.now) b.now) → IfOk result (λ v. RiseAll (rows_at (read journals.now) v.items)) }
+    ensures rises { AreApart (rows_at (read journals.now) a.now) (rows_at (read journals.now) b.now)
+        → RiseAll (rows_at (read journals.now) a.now) → RiseAll (rows_at (read journals.now) b.now)
+        → IfOk result (λ v. RiseAll (rows_at (read journals.now) v.items)) }
     ensures places { IfOk result (λ v. All (IsRecordPlace (read journals.now)) v.items) }
 {
     let mut places = Vec::with_capacity(alloc, a.len().saturating_add(b.len()))?;
@@ -108,8 +112,10 @@ fn merge_between(
     high: u32,
 ) -> Result<Vec<Place>, AllocError>
     requires { high ≤ length journals.now }
-    ensures journals { IfOk result (λ v. (n : ℕ) → journal n (rows_at (read journals.now) v.items) ≡ journals_below (read journals.now) low high n) }
-    ensures rises { ((n : ℕ) → Rises (journal_in (read journals.now) n)) → IfOk result (λ v. RiseAll (rows_at (read journals.now) v.items)) }
+    ensures journals { IfOk result (λ v. (n : ℕ)
+        → journal n (rows_at (read journals.now) v.items) ≡ journals_below (read journals.now) low high n) }
+    ensures rises { ((n : ℕ) → Rises (journal_in (read journals.now) n))
+        → IfOk result (λ v. RiseAll (rows_at (read journals.now) v.items)) }
     ensures places { IfOk result (λ v. All (IsRecordPlace (read journals.now)) v.items) }
 {
     if high <= low {
@@ -129,9 +135,12 @@ fn merge_between(
 /// in order.
 pub fn merge(alloc: Global, journals: &[&[Record]]) -> Result<History, AllocError>
     requires { length journals.now < 2 ^ 32 }
-    ensures journals { IfOk result (λ h. (n : ℕ) → journal n (rows_at (read journals.now) h) ≡ journal_in (read journals.now) n) }
-    ensures newest_first { IfOk result (λ h. (n : ℕ) → journal n (newest_first (read journals.now) h) ≡ reverse (journal_in (read journals.now) n)) }
-    ensures ordered { ((n : ℕ) → Rises (journal_in (read journals.now) n)) → IfOk result (λ h. IsOrdered (newest_first (read journals.now) h)) }
+    ensures journals { IfOk result (λ h. (n : ℕ)
+        → journal n (rows_at (read journals.now) h) ≡ journal_in (read journals.now) n) }
+    ensures newest_first { IfOk result (λ h. (n : ℕ)
+        → journal n (newest_first (read journals.now) h) ≡ reverse (journal_in (read journals.now) n)) }
+    ensures ordered { ((n : ℕ) → Rises (journal_in (read journals.now) n))
+        → IfOk result (λ h. IsOrdered (newest_first (read journals.now) h)) }
     ensures places { IfOk result (λ h. All (IsRecordPlace (read journals.now)) h) }
 {
     let places = merge_between(alloc, journals, 0, journals.len() as u32)?;

@@ -15,7 +15,8 @@ use std::alloc::{AllocError, Global};
 // Keeps an entry's reply at its place, unless an earlier entry's is there.
 fn keep_reply(replies: &mut [Option<Reply>], answered: &Answered)
     ensures len { length replies.new ≡ length replies.old }
-    ensures replies { (k : ℕ) → k < length replies.old → slice_index_or replies.new k None ≡ reply_with (slice_index_or replies.old k None) answered.now k }
+    ensures replies { (k : ℕ) → k < length replies.old
+        → slice_index_or replies.new k None ≡ reply_with (slice_index_or replies.old k None) answered.now k }
 {
     let place = answered.entry.place as usize;
     if place < replies.len() && replies[place].is_none() {
@@ -57,7 +58,8 @@ fn outcome_by(reply: Option<Reply>, shard: u32, rest: Outcome) -> Outcome
 fn decide_by(shard: u32, replies: &[Option<Reply>], outcomes: &mut [Outcome])
     requires { length outcomes.old ≡ length replies.now }
     ensures len { length outcomes.new ≡ length outcomes.old }
-    ensures outcomes { (k : ℕ) → k < length outcomes.old → slice_index_or outcomes.new k Won ≡ outcome_by (slice_index_or replies.now k None) shard (slice_index_or outcomes.old k Won) }
+    ensures outcomes { (k : ℕ) → k < length outcomes.old → slice_index_or outcomes.new k Won
+        ≡ outcome_by (slice_index_or replies.now k None) shard (slice_index_or outcomes.old k Won) }
 {
     for k in 0..outcomes.len() {
         outcomes[k] = outcome_by(replies[k], shard, outcomes[k]);
@@ -73,7 +75,8 @@ fn entries_at<'a>(
     shard: u32,
 ) -> &'a [Answered]
     requires { shard < shape.now.shards }
-    ensures { (J : ℕ → Items ModelRecord) → Knows (read journals.now) known.now J → result.now ≡ entries_in (at_shards shape.now J lock_kind batch.now shard) }
+    ensures { (J : ℕ → Items ModelRecord) → Knows (read journals.now) known.now J
+        → result.now ≡ entries_in (at_shards shape.now J lock_kind batch.now shard) }
 {
     match known.found(
         journals,
@@ -99,7 +102,8 @@ fn outcomes_from(
     requires { shard ≤ shape.now.shards }
     ensures len { IfOk result (λ v. length v.items ≡ n) }
     ensures outcomes { (J : ℕ → Items ModelRecord) → Knows (read journals.now) known.now J
-        → IfOk result (λ v. (k : ℕ) → k < n → slice_index_or v.items k Won ≡ outcome (λ s. entries_in (at_shards shape.now J lock_kind batch.now s)) k shard (shape.now.shards - shard)) }
+        → IfOk result (λ v. (k : ℕ) → k < n → slice_index_or v.items k Won ≡ outcome
+        (λ s. entries_in (at_shards shape.now J lock_kind batch.now s)) k shard (shape.now.shards - shard)) }
 {
     if shard >= shape.shards() {
         return vec![in alloc; Outcome::Held; n];
@@ -124,7 +128,8 @@ pub(crate) fn outcomes_by_locks(
     txs: &[CompactTx],
 ) -> Result<Vec<Outcome>, AllocError>
     ensures { (J : ℕ → Items ModelRecord) → Knows (read journals.now) known.now J
-        → IfOk result (λ v. v.items ≡ outcomes (λ s. entries_in (at_shards shape.now J lock_kind batch.now s)) shape.now.shards 0 txs.now) }
+        → IfOk result (λ v. v.items ≡ outcomes
+        (λ s. entries_in (at_shards shape.now J lock_kind batch.now s)) shape.now.shards 0 txs.now) }
 {
     outcomes_from(alloc, known, journals, shape, batch, txs.len(), 0)
 }

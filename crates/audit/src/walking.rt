@@ -18,7 +18,9 @@ pub fn causes(
     history: &[Place],
 ) -> Result<Option<u64>, AllocError>
     requires { All (IsRecordPlace (read journals.now)) history.now }
-    ensures { IfOk result (λ first. MatchOption first (AllCaused shape.now (newest_first (read journals.now) history.now)) (IsFirstUncaused shape.now (rows_at (read journals.now) history.now))) }
+    ensures { IfOk result
+        (λ first. MatchOption first (AllCaused shape.now (newest_first (read journals.now) history.now))
+        (IsFirstUncaused shape.now (rows_at (read journals.now) history.now))) }
 {
     let mut known = Known::new(alloc);
     'places: for at in 0..history.len() {

@@ -57,7 +57,8 @@ impl Batcher {
 
     /// All that was added since the last batch, in order. None where nothing was. Takes no memory.
     pub fn take(&mut self) -> Option<Batch>
-        ensures taken { MatchOption result (self.old.waiting ≡ []) (λ b. (b ≡ self.old.waiting) × (0 < length b)) }
+        ensures taken { MatchOption result (self.old.waiting ≡ []) (λ b. (b ≡ self.old.waiting)
+            × (0 < length b)) }
         ensures emptied { self.new ≡ record self.old { waiting = [] } }
     {
         if self.waiting.is_empty() {

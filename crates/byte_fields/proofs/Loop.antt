@@ -4,7 +4,7 @@ use Rattle.std.proofs.lemmas.List.{append-nil}
 use Rattle.byte_fields.specs.declared.fault.Fault.{Fault}
 use Rattle.byte_fields.specs.declared.fault.ReadError.{ReadError}
 use Rattle.byte_fields.specs.declared.fault.ReadError.TheVariants as errors
-use Rattle.byte_fields.specs.Faults.{◌>>=◌, Fails}
+use Rattle.byte_fields.specs.Faults.{◌>>=◌, FailsAsRead}
 use Rattle.byte_fields.specs.Reading.{items_at}
 
 module _ {X : Type 0} (item : List ℕ → Result (X × List ℕ) Fault) where
@@ -28,8 +28,8 @@ module _ {X : Type 0} (item : List ℕ → Result (X × List ℕ) Fault) where
       let one : with_front front (items_at item (count - i) bytes) ≡ with_front (front ++ n ∷ []) (items_at item (count - (i + 1)) after) = rw (k, h) (regroup front n (items_at item (count - (i + 1)) after)) in
       sym one ∙ so_far
 
-  pub ends : (e : ReadError) (front : List X) (count i : ℕ) (bytes : List ℕ) (total : Result (List X × List ℕ) Fault) → i < count → Fails e (item bytes)
-      → with_front front (items_at item (count - i) bytes) ≡ total → Fails e total
+  pub ends : (e : ReadError) (front : List X) (count i : ℕ) (bytes : List ℕ) (total : Result (List X × List ℕ) Fault) → i < count → FailsAsRead e (item bytes)
+      → with_front front (items_at item (count - i) bytes) ≡ total → FailsAsRead e total
   unfolding items_at
   ends errors.Memory front count i bytes total lt h so_far = tt
   ends (errors.Bad f) front count i bytes total lt h so_far =

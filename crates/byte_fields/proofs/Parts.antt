@@ -14,7 +14,7 @@ use Rattle.byte_fields.specs.declared.fault.Fault.{Fault}
 use Rattle.byte_fields.specs.Faults.{◌>>=◌, fault, IsBytes}
 use Rattle.byte_spelling.specs.Spelling.{number, FitsNumber, FitsHash, FitsList}
 use Rattle.byte_fields.specs.Reading.{number_at, hash_at, list_at}
-use Rattle.byte_fields.specs.Records.{hashes, batch, compact, entry, reply, answered, outcome, decision, byte_of, byte_at, small_at, batch_at, compact_at, entry_at, missing_reply_at, locked_reply_at, reply_at, answered_at, missing_outcome_at, locked_outcome_at, outcome_at, decision_at}
+use Rattle.byte_fields.specs.Records.{hashes, batch_bytes, compact_bytes, entry_bytes, reply_bytes, answered_bytes, outcome_bytes, decision_bytes, byte_of, byte_at, small_at, batch_at, compact_at, entry_at, missing_reply_at, locked_reply_at, reply_field_at, answered_at, missing_outcome_at, locked_outcome_at, outcome_field_at, decision_at}
 use Rattle.byte_fields.proofs.Fields.{bind_ok, ok_is, Takes, Takes-then, IsItem, IsRead, read_of, field_item, number_item, hash_item}
 use Rattle.byte_fields.proofs.Lists.{list_read}
 use Rattle.byte_fields.proofs.Readers.{one_read, two_read, three_read, four_read, tested_read, refits, respells, chosen}
@@ -99,9 +99,9 @@ small_read = refits small_at number (λ n. FitsNumber n × (ltb n (2 ^ 32) ≡ t
 batch_is : ℕ → ℕ → BatchId
 batch_is lane n = record { lane = lane; number = n }
 
-pub batch_read : IsRead batch_at batch FitsBatch
+pub batch_read : IsRead batch_at batch_bytes FitsBatch
 unfolding batch_at batch_is
-batch_read = two_read small_at number FitsSmall small_read number_at number FitsNumber number_read batch_is batch FitsBatch
+batch_read = two_read small_at number FitsSmall small_read number_at number FitsNumber number_read batch_is batch_bytes FitsBatch
     (λ lane n. refl)
     (λ lane n a b. record { lane = a; number = b })
     (λ b fits. (b.lane, b.number, fits.lane, fits.number, refl))
@@ -109,9 +109,9 @@ batch_read = two_read small_at number FitsSmall small_read number_at number Fits
 compact_is : List ℕ → List (List ℕ) → List (List ℕ) → CompactTx
 compact_is id ins outs = record { id = id; inputs = ins; outputs = outs }
 
-pub compact_read : IsRead compact_at compact FitsCompact
+pub compact_read : IsRead compact_at compact_bytes FitsCompact
 unfolding compact_at compact_is
-compact_read = three_read hash_at (λ h. h) FitsHash hash_read (list_at 255 hash_at) hashes FitsHashes hashes_read (list_at 255 hash_at) hashes FitsHashes hashes_read compact_is compact FitsCompact
+compact_read = three_read hash_at (λ h. h) FitsHash hash_read (list_at 255 hash_at) hashes FitsHashes hashes_read (list_at 255 hash_at) hashes FitsHashes hashes_read compact_is compact_bytes FitsCompact
     (λ id ins outs. sym (append_assoc id (hashes ins) (hashes outs)))
     (λ id ins outs a b c. record { id = a; inputs = b; outputs = c })
     (λ t fits. (t.id, t.inputs, t.outputs, fits.id, fits.inputs, fits.outputs, refl))
@@ -119,9 +119,9 @@ compact_read = three_read hash_at (λ h. h) FitsHash hash_read (list_at 255 hash
 entry_is : ℕ → List ℕ → List (List ℕ) → List (List ℕ) → Entry
 entry_is place id ins outs = record { place = place; id = id; inputs = ins; outputs = outs }
 
-pub entry_read : IsRead entry_at entry FitsEntry
+pub entry_read : IsRead entry_at entry_bytes FitsEntry
 unfolding entry_at entry_is
-entry_read = four_read small_at number FitsSmall small_read hash_at (λ h. h) FitsHash hash_read (list_at 255 hash_at) hashes FitsHashes hashes_read (list_at 255 hash_at) hashes FitsHashes hashes_read entry_is entry FitsEntry
+entry_read = four_read small_at number FitsSmall small_read hash_at (λ h. h) FitsHash hash_read (list_at 255 hash_at) hashes FitsHashes hashes_read (list_at 255 hash_at) hashes FitsHashes hashes_read entry_is entry_bytes FitsEntry
     (λ place id ins outs. simp append_assoc)
     (λ place id ins outs a b c d. record { place = a; id = b; inputs = c; outputs = d })
     (λ e fits. (e.place, e.id, e.inputs, e.outputs, fits.place, fits.id, fits.inputs, fits.outputs, refl))
@@ -132,7 +132,7 @@ entry_read = four_read small_at number FitsSmall small_read hash_at (λ h. h) Fi
 abbrev reply_rest : Reply → List ℕ
 reply_rest replies.Held = []
 reply_rest (replies.Missing x) = x
-reply_rest (replies.Locked x by) = x ++ batch by
+reply_rest (replies.Locked x by) = x ++ batch_bytes by
 
 abbrev IsMissing : Reply → Type 0
 IsMissing replies.Held = ⊥
@@ -160,7 +160,7 @@ locked_parts (replies.Locked x by) is = (x, by, is.0, is.1, refl)
 
 locked_reply_read : IsRead locked_reply_at reply_rest IsLocked
 unfolding locked_reply_at
-locked_reply_read = two_read hash_at (λ h. h) FitsHash hash_read batch_at batch FitsBatch batch_read (λ x by. replies.Locked x by) reply_rest IsLocked
+locked_reply_read = two_read hash_at (λ h. h) FitsHash hash_read batch_at batch_bytes FitsBatch batch_read (λ x by. replies.Locked x by) reply_rest IsLocked
     (λ x by. refl) (λ x by a b. (a, b)) locked_parts
 
 -- what stands behind a first byte that names the kind
@@ -236,11 +236,11 @@ reply_again whole replies.Held rest fits = refl
 reply_again whole (replies.Missing x) rest fits = missing_reply_read.again (replies.Missing x) rest fits
 reply_again whole (replies.Locked x by) rest fits = locked_reply_read.again (replies.Locked x by) rest fits
 
-pub reply_read : IsRead reply_at reply FitsReply
-unfolding reply_at reply_tag
-reply_read = respells reply_at (λ r. reply_tag r ∷ reply_rest r) reply FitsReply (tagged_read reply_next reply_tag reply_rest FitsReply reply_small reply_takes reply_again) (λ r fits. same r)
+pub reply_read : IsRead reply_field_at reply_bytes FitsReply
+unfolding reply_field_at reply_tag
+reply_read = respells reply_field_at (λ r. reply_tag r ∷ reply_rest r) reply_bytes FitsReply (tagged_read reply_next reply_tag reply_rest FitsReply reply_small reply_takes reply_again) (λ r fits. same r)
   where
-    same : (r : Reply) → reply_tag r ∷ reply_rest r ≡ reply r
+    same : (r : Reply) → reply_tag r ∷ reply_rest r ≡ reply_bytes r
     same replies.Held = refl
     same (replies.Missing x) = refl
     same (replies.Locked x by) = refl
@@ -248,9 +248,9 @@ reply_read = respells reply_at (λ r. reply_tag r ∷ reply_rest r) reply FitsRe
 answered_is : Entry → Reply → Answered
 answered_is e r = record { entry = e; reply = r }
 
-pub answered_read : IsRead answered_at answered FitsAnswered
+pub answered_read : IsRead answered_at answered_bytes FitsAnswered
 unfolding answered_at answered_is
-answered_read = two_read entry_at entry FitsEntry entry_read reply_at reply FitsReply reply_read answered_is answered FitsAnswered
+answered_read = two_read entry_at entry_bytes FitsEntry entry_read reply_field_at reply_bytes FitsReply reply_read answered_is answered_bytes FitsAnswered
     (λ e r. refl)
     (λ e r a b. record { entry = a; reply = b })
     (λ a fits. (a.entry, a.reply, fits.entry, fits.reply, refl))
@@ -260,7 +260,7 @@ answered_read = two_read entry_at entry FitsEntry entry_read reply_at reply Fits
 abbrev outcome_rest : Outcome → List ℕ
 outcome_rest outcomes.Held = []
 outcome_rest (outcomes.Missing shard x) = number shard ++ x
-outcome_rest (outcomes.Locked shard x by) = number shard ++ (x ++ batch by)
+outcome_rest (outcomes.Locked shard x by) = number shard ++ (x ++ batch_bytes by)
 
 abbrev Lacks : Outcome → Type 0
 Lacks outcomes.Held = ⊥
@@ -289,7 +289,7 @@ blocked_parts (outcomes.Locked shard x by) is = (shard, x, by, is.0, is.1, is.2,
 
 locked_outcome_read : IsRead locked_outcome_at outcome_rest Blocked
 unfolding locked_outcome_at
-locked_outcome_read = three_read small_at number FitsSmall small_read hash_at (λ h. h) FitsHash hash_read batch_at batch FitsBatch batch_read (λ shard x by. outcomes.Locked shard x by) outcome_rest Blocked
+locked_outcome_read = three_read small_at number FitsSmall small_read hash_at (λ h. h) FitsHash hash_read batch_at batch_bytes FitsBatch batch_read (λ shard x by. outcomes.Locked shard x by) outcome_rest Blocked
     (λ shard x by. refl) (λ shard x by a b c. (a, b, c)) blocked_parts
 
 outcome_tag : Outcome → ℕ
@@ -349,11 +349,11 @@ outcome_again whole outcomes.Held rest fits = refl
 outcome_again whole (outcomes.Missing shard x) rest fits = missing_outcome_read.again (outcomes.Missing shard x) rest fits
 outcome_again whole (outcomes.Locked shard x by) rest fits = locked_outcome_read.again (outcomes.Locked shard x by) rest fits
 
-pub outcome_read : IsRead outcome_at outcome FitsOutcome
-unfolding outcome_at outcome_tag
-outcome_read = respells outcome_at (λ o. outcome_tag o ∷ outcome_rest o) outcome FitsOutcome (tagged_read outcome_next outcome_tag outcome_rest FitsOutcome outcome_small outcome_takes outcome_again) (λ o fits. same o)
+pub outcome_read : IsRead outcome_field_at outcome_bytes FitsOutcome
+unfolding outcome_field_at outcome_tag
+outcome_read = respells outcome_field_at (λ o. outcome_tag o ∷ outcome_rest o) outcome_bytes FitsOutcome (tagged_read outcome_next outcome_tag outcome_rest FitsOutcome outcome_small outcome_takes outcome_again) (λ o fits. same o)
   where
-    same : (o : Outcome) → outcome_tag o ∷ outcome_rest o ≡ outcome o
+    same : (o : Outcome) → outcome_tag o ∷ outcome_rest o ≡ outcome_bytes o
     same outcomes.Held = refl
     same (outcomes.Missing shard x) = refl
     same (outcomes.Locked shard x by) = simp append_assoc
@@ -385,10 +385,10 @@ decision_again : (whole : List ℕ) (d : Bool) (rest : List ℕ) → FitsDecisio
 decision_again whole true rest fits = refl
 decision_again whole false rest fits = refl
 
-pub decision_read : IsRead decision_at decision FitsDecision
+pub decision_read : IsRead decision_at decision_bytes FitsDecision
 unfolding decision_at
-decision_read = respells decision_at (λ d. decision_tag d ∷ []) decision FitsDecision (tagged_read decision_next decision_tag (λ d. []) FitsDecision decision_small decision_takes decision_again) (λ d fits. same d)
+decision_read = respells decision_at (λ d. decision_tag d ∷ []) decision_bytes FitsDecision (tagged_read decision_next decision_tag (λ d. []) FitsDecision decision_small decision_takes decision_again) (λ d fits. same d)
   where
-    same : (d : Bool) → decision_tag d ∷ [] ≡ decision d
+    same : (d : Bool) → decision_tag d ∷ [] ≡ decision_bytes d
     same true = refl
     same false = refl

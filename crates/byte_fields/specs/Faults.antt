@@ -12,14 +12,14 @@ abbrev pub ◌>>=◌ : {A B : Type 0} → Result A Fault → (A → Result B Fau
 (Err e) >>= f = Err e
 
 -- a function's error is the fault that reading gives, unless memory ran out
-abbrev pub Fails : {Y : Type 0} → ReadError → Result Y Fault → Type 0
-Fails errors.Memory read = Unit {0}
-Fails (errors.Bad f) read = read ≡ Err f
+abbrev pub FailsAsRead : {Y : Type 0} → ReadError → Result Y Fault → Type 0
+FailsAsRead errors.Memory read = Unit {0}
+FailsAsRead (errors.Bad f) read = read ≡ Err f
 
 -- what a function returned is what reading gives, unless memory ran out
 abbrev pub Gives : {X Y : Type 0} → (X → Y) → Result X ReadError → Result Y Fault → Type 0
 Gives view (Ok x) read = read ≡ Ok (view x)
-Gives view (Err e) read = Fails e read
+Gives view (Err e) read = FailsAsRead e read
 
 -- a fault at the front of these bytes
 abbrev pub fault : InputKind → List ℕ → Fault

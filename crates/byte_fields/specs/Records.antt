@@ -14,36 +14,36 @@ use Rattle.byte_fields.specs.Faults.{◌>>=◌, fault}
 use Rattle.byte_fields.specs.Reading.{field_at, number_at, hash_at, list_at}
 use Rattle.byte_spelling.specs.Spelling.{number, counted}
 
--- `hashes`, `batch`, `compact`, `entry`, `reply`, `answered`, `outcome`, `decision`: the one spelling of each part of a record; a reply and an
+-- `hashes`, `batch_bytes`, `compact_bytes`, `entry_bytes`, `reply_bytes`, `answered_bytes`, `outcome_bytes`, `decision_bytes`: the one spelling of each part of a record; a reply and an
 -- outcome have a byte in front: 0 Held, 1 missing, 2 locked
 abbrev pub hashes : List (List ℕ) → List ℕ
 hashes hs = counted (λ h. h) hs
 
-abbrev pub batch : BatchId → List ℕ
-batch b = number b.lane ++ number b.number
+abbrev pub batch_bytes : BatchId → List ℕ
+batch_bytes b = number b.lane ++ number b.number
 
-abbrev pub compact : CompactTx → List ℕ
-compact t = t.id ++ hashes t.inputs ++ hashes t.outputs
+abbrev pub compact_bytes : CompactTx → List ℕ
+compact_bytes t = t.id ++ hashes t.inputs ++ hashes t.outputs
 
-abbrev pub entry : Entry → List ℕ
-entry e = number e.place ++ e.id ++ hashes e.inputs ++ hashes e.outputs
+abbrev pub entry_bytes : Entry → List ℕ
+entry_bytes e = number e.place ++ e.id ++ hashes e.inputs ++ hashes e.outputs
 
-abbrev pub reply : Reply → List ℕ
-reply replies.Held = 0 ∷ []
-reply (replies.Missing x) = 1 ∷ [] ++ x
-reply (replies.Locked x by) = 2 ∷ [] ++ x ++ batch by
+abbrev pub reply_bytes : Reply → List ℕ
+reply_bytes replies.Held = 0 ∷ []
+reply_bytes (replies.Missing x) = 1 ∷ [] ++ x
+reply_bytes (replies.Locked x by) = 2 ∷ [] ++ x ++ batch_bytes by
 
-abbrev pub answered : Answered → List ℕ
-answered a = entry a.entry ++ reply a.reply
+abbrev pub answered_bytes : Answered → List ℕ
+answered_bytes a = entry_bytes a.entry ++ reply_bytes a.reply
 
-abbrev pub outcome : Outcome → List ℕ
-outcome outcomes.Held = 0 ∷ []
-outcome (outcomes.Missing shard x) = 1 ∷ [] ++ number shard ++ x
-outcome (outcomes.Locked shard x by) = 2 ∷ [] ++ number shard ++ x ++ batch by
+abbrev pub outcome_bytes : Outcome → List ℕ
+outcome_bytes outcomes.Held = 0 ∷ []
+outcome_bytes (outcomes.Missing shard x) = 1 ∷ [] ++ number shard ++ x
+outcome_bytes (outcomes.Locked shard x by) = 2 ∷ [] ++ number shard ++ x ++ batch_bytes by
 
-abbrev pub decision : Bool → List ℕ
-decision true = 1 ∷ []
-decision false = 0 ∷ []
+abbrev pub decision_bytes : Bool → List ℕ
+decision_bytes true = 1 ∷ []
+decision_bytes false = 0 ∷ []
 
 -- one byte
 abbrev pub byte_of : List ℕ → ℕ
@@ -59,7 +59,7 @@ small_at bytes = do
   n ← number_at bytes
   if nat_lt n.0 (2 ^ 32) then Ok (n.0, n.1) else Err (fault Large bytes)
 
--- `batch_at`, `compact_at`, `entry_at`, `reply_at`, `missing_reply_at`, `locked_reply_at`, `answered_at`, `outcome_at`, `missing_outcome_at`,
+-- `batch_at`, `compact_at`, `entry_at`, `reply_field_at`, `missing_reply_at`, `locked_reply_at`, `answered_at`, `outcome_field_at`, `missing_outcome_at`,
 -- `locked_outcome_at`, `decision_at`: each of these parts read at the front
 unfoldable pub batch_at : List ℕ → Result (BatchId × List ℕ) Fault
 batch_at bytes = do
@@ -94,8 +94,8 @@ locked_reply_at bytes = do
   Ok (replies.Locked x.0 by.0, by.1)
 
 -- the first byte tells which reply it is
-unfoldable pub reply_at : List ℕ → Result (Reply × List ℕ) Fault
-reply_at bytes = do
+unfoldable pub reply_field_at : List ℕ → Result (Reply × List ℕ) Fault
+reply_field_at bytes = do
   tag ← byte_at bytes
   if nat_eq tag.0 0 then Ok (replies.Held, tag.1)
       else if nat_eq tag.0 1 then missing_reply_at tag.1
@@ -105,7 +105,7 @@ reply_at bytes = do
 unfoldable pub answered_at : List ℕ → Result (Answered × List ℕ) Fault
 answered_at bytes = do
   e ← entry_at bytes
-  r ← reply_at e.1
+  r ← reply_field_at e.1
   Ok (record { entry = e.0; reply = r.0 }, r.1)
 
 unfoldable pub missing_outcome_at : List ℕ → Result (Outcome × List ℕ) Fault
@@ -121,8 +121,8 @@ locked_outcome_at bytes = do
   by ← batch_at x.1
   Ok (outcomes.Locked shard.0 x.0 by.0, by.1)
 
-unfoldable pub outcome_at : List ℕ → Result (Outcome × List ℕ) Fault
-outcome_at bytes = do
+unfoldable pub outcome_field_at : List ℕ → Result (Outcome × List ℕ) Fault
+outcome_field_at bytes = do
   tag ← byte_at bytes
   if nat_eq tag.0 0 then Ok (outcomes.Held, tag.1)
       else if nat_eq tag.0 1 then missing_outcome_at tag.1

@@ -2,7 +2,7 @@
 ghost use Rattle.std.specs.Prelude.{◌≡◌, ◌++◌, ◌+◌, ◌<◌, ◌≤◌, ◌∷◌, [], List, ℕ, length, OnOk, OnErr, Result};
 ghost use Rattle.std.specs.Vec.{vec_len, vec_capacity};
 ghost use Rattle.byte_fields.specs.Faults.{Gives};
-ghost use Rattle.byte_fields.specs.Records.{hashes, batch, compact, entry, reply, answered, outcome, decision, byte_at, small_at, batch_at, compact_at, entry_at, missing_reply_at, locked_reply_at, reply_at, answered_at, missing_outcome_at, locked_outcome_at, outcome_at, decision_at};
+ghost use Rattle.byte_fields.specs.Records.{hashes, batch_bytes, compact_bytes, entry_bytes, reply_bytes, answered_bytes, outcome_bytes, decision_bytes, byte_at, small_at, batch_at, compact_at, entry_at, missing_reply_at, locked_reply_at, reply_field_at, answered_at, missing_outcome_at, locked_outcome_at, outcome_field_at, decision_at};
 
 use crate::fault::{Fault, ReadError};
 use crate::reading::{Item, hash_in, list, number, split};
@@ -21,7 +21,7 @@ pub fn put_byte(out: &mut Vec<u8>, n: u8) -> Result<(), AllocError>
 }
 
 impl Spell for BatchId {
-    ghost spelled = { batch };
+    ghost spelled = { batch_bytes };
 
     fn put(&self, out: &mut Vec<u8>) -> Result<(), AllocError> {
         put_number(out, self.lane.0 as u64)?;
@@ -30,7 +30,7 @@ impl Spell for BatchId {
 }
 
 impl Spell for CompactTx {
-    ghost spelled = { compact };
+    ghost spelled = { compact_bytes };
 
     fn put(&self, out: &mut Vec<u8>) -> Result<(), AllocError> {
         put_hash(out, &self.id)?;
@@ -40,7 +40,7 @@ impl Spell for CompactTx {
 }
 
 impl Spell for Entry {
-    ghost spelled = { entry };
+    ghost spelled = { entry_bytes };
 
     fn put(&self, out: &mut Vec<u8>) -> Result<(), AllocError> {
         put_number(out, self.place as u64)?;
@@ -51,7 +51,7 @@ impl Spell for Entry {
 }
 
 impl Spell for Reply {
-    ghost spelled = { reply };
+    ghost spelled = { reply_bytes };
 
     fn put(&self, out: &mut Vec<u8>) -> Result<(), AllocError> {
         match self {
@@ -70,7 +70,7 @@ impl Spell for Reply {
 }
 
 impl Spell for Answered {
-    ghost spelled = { answered };
+    ghost spelled = { answered_bytes };
 
     fn put(&self, out: &mut Vec<u8>) -> Result<(), AllocError> {
         self.entry.put(out)?;
@@ -79,7 +79,7 @@ impl Spell for Answered {
 }
 
 impl Spell for Outcome {
-    ghost spelled = { outcome };
+    ghost spelled = { outcome_bytes };
 
     fn put(&self, out: &mut Vec<u8>) -> Result<(), AllocError> {
         match self {
@@ -100,7 +100,7 @@ impl Spell for Outcome {
 }
 
 impl Spell for bool {
-    ghost spelled = { decision };
+    ghost spelled = { decision_bytes };
 
     fn put(&self, out: &mut Vec<u8>) -> Result<(), AllocError> {
         if *self {
@@ -225,9 +225,9 @@ fn locked_reply(bytes: &[u8]) -> Result<(Reply, &[u8]), ReadError>
     Ok((Reply::Locked(x, by), rest))
 }
 
-#[tactic(auto, unfolding(crate::specs::Records::reply_at))]
+#[tactic(auto, unfolding(crate::specs::Records::reply_field_at))]
 fn reply_in(bytes: &[u8]) -> Result<(Reply, &[u8]), ReadError>
-    ensures { Gives (λ x. (x.0, x.1.now)) result (reply_at bytes.now) }
+    ensures { Gives (λ x. (x.0, x.1.now)) result (reply_field_at bytes.now) }
 {
     let (tag, rest) = byte(bytes)?;
     if tag == 0 {
@@ -246,7 +246,7 @@ fn reply_in(bytes: &[u8]) -> Result<(Reply, &[u8]), ReadError>
 }
 
 impl Item for Reply {
-    ghost item_at = { reply_at };
+    ghost item_at = { reply_field_at };
 
     fn read(_alloc: Global, bytes: &[u8]) -> Result<(Reply, &[u8]), ReadError> {
         reply_in(bytes)
@@ -295,9 +295,9 @@ fn locked_outcome(bytes: &[u8]) -> Result<(Outcome, &[u8]), ReadError>
     Ok((Outcome::Locked(shard, x, by), rest))
 }
 
-#[tactic(auto, unfolding(crate::specs::Records::outcome_at))]
+#[tactic(auto, unfolding(crate::specs::Records::outcome_field_at))]
 fn outcome_in(bytes: &[u8]) -> Result<(Outcome, &[u8]), ReadError>
-    ensures { Gives (λ x. (x.0, x.1.now)) result (outcome_at bytes.now) }
+    ensures { Gives (λ x. (x.0, x.1.now)) result (outcome_field_at bytes.now) }
 {
     let (tag, rest) = byte(bytes)?;
     if tag == 0 {
@@ -316,7 +316,7 @@ fn outcome_in(bytes: &[u8]) -> Result<(Outcome, &[u8]), ReadError>
 }
 
 impl Item for Outcome {
-    ghost item_at = { outcome_at };
+    ghost item_at = { outcome_field_at };
 
     fn read(_alloc: Global, bytes: &[u8]) -> Result<(Outcome, &[u8]), ReadError> {
         outcome_in(bytes)

@@ -83,7 +83,8 @@ impl Spell for List<u8> {
 pub fn put_list<T: Spell>(out: &mut Vec<u8>, list: &List<T>) -> Result<(), AllocError>
     ensures ok { OnOk result (out.new.items ≡ out.old.items ++ counted T.spelled list.now) }
     ensures len { OnOk result (vec_len out.new ≡ vec_len out.old + length (counted T.spelled list.now)) }
-    ensures full { OnErr result (vec_capacity out.old < vec_len out.old + length (counted T.spelled list.now)) }
+    ensures full { OnErr result (vec_capacity out.old
+        < vec_len out.old + length (counted T.spelled list.now)) }
     ensures capacity { vec_capacity out.old ≤ vec_capacity out.new }
 {
     put_number(out, list.len() as u64)?;
@@ -94,7 +95,8 @@ pub fn put_list<T: Spell>(out: &mut Vec<u8>, list: &List<T>) -> Result<(), Alloc
 pub fn put_items<T: Spell>(out: &mut Vec<u8>, items: &[T]) -> Result<(), AllocError>
     ensures ok { OnOk result (out.new.items ≡ out.old.items ++ flat_map T.spelled items.now) }
     ensures len { OnOk result (vec_len out.new ≡ vec_len out.old + length (flat_map T.spelled items.now)) }
-    ensures full { OnErr result (vec_capacity out.old < vec_len out.old + length (flat_map T.spelled items.now)) }
+    ensures full { OnErr result (vec_capacity out.old
+        < vec_len out.old + length (flat_map T.spelled items.now)) }
     ensures capacity { vec_capacity out.old ≤ vec_capacity out.new }
 {
     'items: for item in items {

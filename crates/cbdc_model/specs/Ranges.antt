@@ -10,6 +10,10 @@ first_byte x = slice_index x 0 % 256
 unfoldable pub shard_of : ℕ → Digest → ℕ
 shard_of shards x = first_byte x * shards / 256
 
+-- how many nodes a ledger has: its coordinators, then its shards
+abbrev pub node_count : Shape → ℕ
+node_count K = K.coordinators + K.shards
+
 -- the node of a shard
 abbrev pub shard_node : Shape → ℕ → ℕ
 shard_node K s = K.coordinators + s

@@ -4,7 +4,7 @@ use Rattle.std.proofs.Common.{◌≡◌, ◌≢◌, ℕ, zero, suc, ◌+◌, ◌
 use Rattle.std.proofs.lemmas.Bool.{cases_lt, le-ltb, lt-ltb}
 use Rattle.std.proofs.lemmas.List.{append-nil, take-append-drop, take_all, take-append-le, drop-append-le}
 use Rattle.std.proofs.Math.Seq.{drop-append-add}
-use Rattle.outside.specs.Images.{Told, Tells, filled}
+use Rattle.outside.specs.Images.{IsToldAnd, Tells, filled}
 use Rattle.base_types.specs.declared.faults.InputKind.{InputKind}
 use Rattle.base_types.specs.declared.faults.InputKind.TheVariants as kinds
 use Rattle.cbdc_types.specs.declared.tx.FullTx.{FullTx}
@@ -26,7 +26,7 @@ use Rattle.client_files.specs.declared.fault.BadFile.{BadFile}
 use Rattle.client_files.specs.declared.fault.StreamFault.{StreamFault}
 use Rattle.client_files.specs.declared.fault.StreamFault.TheVariants as faults
 use Rattle.client_files.specs.Files.{front, goes_on, bad_at, extra, counted_behind}
-use Rattle.client_files.specs.Streams.{WindowOf, HasRead, OfRead, HasCome, HasMore, IsEnd, Took, Meets, IsCut, GoesOn, Stops, Holds, count_at}
+use Rattle.client_files.specs.Streams.{WindowOf, HasRead, OfRead, HasCome, HasMore, IsFileEnd, TookPieces, MeetsBadField, IsFileCut, GoesOn, Stops, FileHolds, count_at}
 
 -- ---- why reading stops
 
@@ -98,7 +98,7 @@ rest_of (Some c) bytes read = record {
 -- a bad field, whatever comes behind
 pub meets_stop : {X : Type 0} (told : Option (List ℕ)) (read : List ℕ → Result X Fault) (unread pieces : List ℕ) (old new left : ℕ) (kind : InputKind) (bad : BadFile) → HasCome told old new pieces
     → kind ≢ kinds.Cut → ((later : List ℕ) → read (unread ++ (pieces ++ later)) ≡ Err (record { left = left + length later; kind = kind })) → bad ≡ bad_at new false left kind
-    → OfRead told old (Meets told read unread bad)
+    → OfRead told old (MeetsBadField told read unread bad)
 meets_stop told read unread pieces old new left kind bad come other is at bytes len had =
     let r = rest_of told (bytes ++ pieces) (come.read bytes len had) in
     let size : new - left ≡ length (bytes ++ (pieces ++ r.rest)) - (left + length r.rest) = omega (arith, come.had, len, length-append bytes (pieces ++ r.rest), length-append pieces r.rest) in
@@ -113,7 +113,7 @@ meets_stop told read unread pieces old new left kind bad come other is at bytes 
 
 -- the file ends within a field
 pub meets_cut : {X : Type 0} (told : Option (List ℕ)) (read : List ℕ → Result X Fault) (unread pieces : List ℕ) (old new left : ℕ) (bad : BadFile) → HasCome told old new pieces
-    → read (unread ++ pieces) ≡ Err (record { left = left; kind = kinds.Cut }) → OfRead told new (IsCut told new left bad) → OfRead told old (Meets told read unread bad)
+    → read (unread ++ pieces) ≡ Err (record { left = left; kind = kinds.Cut }) → OfRead told new (IsFileCut told new left bad) → OfRead told old (MeetsBadField told read unread bad)
 meets_cut told read unread pieces old new left bad come is cut bytes len had =
     let more : length (bytes ++ pieces) ≡ new = omega (arith, length-append bytes pieces, come.had, len) in
     let k = cut (bytes ++ pieces) more (come.read bytes len had) in
@@ -129,7 +129,7 @@ meets_cut told read unread pieces old new left bad come is cut bytes len had =
 -- a bad field behind what was read
 pub meets_later : {X Y : Type 0} (told : Option (List ℕ)) (read : List ℕ → Result X Fault) (next : List ℕ → Result Y Fault) (unread after pieces : List ℕ) (old new : ℕ) (bad : BadFile)
     → HasCome told old new pieces → ((later : List ℕ) (f : Fault) → next (after ++ later) ≡ Err f → read (unread ++ (pieces ++ later)) ≡ Err f)
-    → OfRead told new (Meets told next after bad) → OfRead told old (Meets told read unread bad)
+    → OfRead told new (MeetsBadField told next after bad) → OfRead told old (MeetsBadField told read unread bad)
 meets_later told read next unread after pieces old new bad come on meets bytes len had =
     let more : length (bytes ++ pieces) ≡ new = omega (arith, length-append bytes pieces, come.had, len) in
     let k = meets (bytes ++ pieces) more (come.read bytes len had) in
@@ -144,7 +144,7 @@ meets_later told read next unread after pieces old new bad come on meets bytes l
 
 -- ---- one read
 
-told_is : (told : Option (List ℕ)) (P : List ℕ → Type 0) → Told told P → Tells told P
+told_is : (told : Option (List ℕ)) (P : List ℕ → Type 0) → IsToldAnd told P → Tells told P
 told_is None P h c e = absurd (cc)
 told_is (Some d) P h c e = let same : d ≡ c = cc in subst P same h
 
@@ -159,7 +159,7 @@ at_limit told w full = record {
 }
 
 pub one_more : (told : Option (List ℕ)) (old new : WindowOf) (buf after : List ℕ) (n : ℕ) → n ≤ length buf → length after ≡ length buf → 0 < length buf → old.had + length buf ≤ 1073741824
-    → Told told (λ c. after ≡ filled c old.had n buf) → Told told (λ c. old.had < length c → 0 < length buf → 0 < n)
+    → IsToldAnd told (λ c. after ≡ filled c old.had n buf) → IsToldAnd told (λ c. old.had < length c → 0 < length buf → 0 < n)
     → new ≡ record { unread = old.unread ++ take n after; had = old.had + length (take n after) } → HasMore told old new n
 one_more told old new buf after n fits same some room bytes inside is =
     let size : length (take n after) ≡ n = omega (arith, length-take n after, same, fits) in
@@ -189,25 +189,25 @@ one_more told old new buf after n fits same some room bytes inside is =
     }
 
 pub one_more_at : (told : Option (List ℕ)) (old new : WindowOf) (buf after : List ℕ) (n at : ℕ) → at ≡ old.had → n ≤ length buf → length after ≡ length buf → 0 < length buf → old.had + length buf ≤ 1073741824
-    → Told told (λ c. after ≡ filled c at n buf) → Told told (λ c. at < length c → 0 < length buf → 0 < n)
+    → IsToldAnd told (λ c. after ≡ filled c at n buf) → IsToldAnd told (λ c. at < length c → 0 < length buf → 0 < n)
     → new ≡ record { unread = old.unread ++ take n after; had = old.had + length (take n after) } → HasMore told old new n
 one_more_at told old new buf after n at place fits same some room bytes inside is =
-    one_more told old new buf after n fits same some room (subst (λ (k : ℕ). Told told (λ c. after ≡ filled c k n buf)) place bytes)
-    (subst (λ (k : ℕ). Told told (λ c. k < length c → 0 < length buf → 0 < n)) place inside) is
+    one_more told old new buf after n fits same some room (subst (λ (k : ℕ). IsToldAnd told (λ c. after ≡ filled c k n buf)) place bytes)
+    (subst (λ (k : ℕ). IsToldAnd told (λ c. k < length c → 0 < length buf → 0 < n)) place inside) is
 
 -- the end is reached where no byte came
-pub end_now : (told : Option (List ℕ)) (old new : WindowOf) (n : ℕ) → HasMore told old new n → n ≡ 0 → IsEnd told new.had
-end_now told old new n more z = subst (IsEnd told) (let same : old.had ≡ new.had = omega (arith, more.come.had, more.size, z) in same) (more.ended z)
+pub end_now : (told : Option (List ℕ)) (old new : WindowOf) (n : ℕ) → HasMore told old new n → n ≡ 0 → IsFileEnd told new.had
+end_now told old new n more z = subst (IsFileEnd told) (let same : old.had ≡ new.had = omega (arith, more.come.had, more.size, z) in same) (more.ended z)
 
-pub not_cut_off : (told : Option (List ℕ)) (had : ℕ) → had < 1073741824 → IsEnd told had → OfRead told had (λ bytes. Tells told (λ c. false ≡ goes_on c))
+pub not_cut_off : (told : Option (List ℕ)) (had : ℕ) → had < 1073741824 → IsFileEnd told had → OfRead told had (λ bytes. Tells told (λ c. false ≡ goes_on c))
 not_cut_off told had lt end bytes len read c e =
     let all : bytes ≡ take 1073741824 c = end bytes len read c e in
     sym (le-ltb 1073741824 (length c) (omega (arith, ap length all, length-take 1073741824 c, len, lt)))
 
-pub cut_here : (told : Option (List ℕ)) (had left before now : ℕ) (more : Bool) (result : StreamFault) → result ≡ faults.Bad (bad_at had more left kinds.Cut) → IsEnd told had
-    → OfRead told had (λ bytes. Tells told (λ c. more ≡ goes_on c)) → Stops (λ bad. OfRead told had (IsCut told had left bad)) before now result
+pub cut_here : (told : Option (List ℕ)) (had left before now : ℕ) (more : Bool) (result : StreamFault) → result ≡ faults.Bad (bad_at had more left kinds.Cut) → IsFileEnd told had
+    → OfRead told had (λ bytes. Tells told (λ c. more ≡ goes_on c)) → Stops (λ bad. OfRead told had (IsFileCut told had left bad)) before now result
 cut_here told had left before now more result is end on =
-    subst (λ (r : StreamFault). Stops (λ bad. OfRead told had (IsCut told had left bad)) before now r) (sym is)
+    subst (λ (r : StreamFault). Stops (λ bad. OfRead told had (IsFileCut told had left bad)) before now r) (sym is)
     (λ bytes len read. record { more = more; whole = λ c e. (end bytes len read c e, on bytes len read c e); at = refl })
 
 -- ---- what came since
@@ -243,7 +243,7 @@ number_short : (u : List ℕ) → length u < 8 → number_at u ≡ Err (record {
 number_short u few = let short : ltb (length u) 8 ≡ true = lt-ltb _ _ few in rw short refl
 
 pub head_took : (told : Option (List ℕ)) (old new : WindowOf) (u field : List ℕ) (had n : ℕ) → SoFar told old had u → 8 ≤ length u → field ≡ take 8 u → n ≡ number_of field
-    → new ≡ record { unread = drop 8 u; had = had } → Took told number_at old new n
+    → new ≡ record { unread = drop 8 u; had = had } → TookPieces told number_at old new n
 head_took told old new u field had n so enough field_is is new_is = record {
   pieces = so.pieces;
   come = subst (λ (k : ℕ). HasCome told old.had k so.pieces) (sym (ap (λ (w : WindowOf). w.had) new_is)) so.come;
@@ -257,7 +257,7 @@ head_took told old new u field had n so enough field_is is new_is = record {
     read k l = Ok (k, l)
 
 pub head_cut : (told : Option (List ℕ)) (old : WindowOf) (u : List ℕ) (had left : ℕ) (bad : BadFile) → SoFar told old had u → length u < 8 → left ≡ length u
-    → OfRead told had (IsCut told had left bad) → OfRead told old.had (Meets told number_at old.unread bad)
+    → OfRead told had (IsFileCut told had left bad) → OfRead told old.had (MeetsBadField told number_at old.unread bad)
 head_cut told old u had left bad so few is cut =
     meets_cut told number_at old.unread so.pieces old.had had left bad so.come
     (ap number_at (sym so.is) ∙ number_short u few ∙ ap (λ (k : ℕ). failed k) (sym is)) cut
@@ -288,14 +288,14 @@ counts_many before n bytes rest many e =
     let t : ltb 1000000 (before + n) ≡ true = lt-ltb _ _ many in
     bind_at (number_at bytes) (counting before bytes) (n, rest) e ∙ rw t refl
 
-pub count_took : (told : Option (List ℕ)) (old new : WindowOf) (before n : ℕ) → before + n ≤ 1000000 → Took told number_at old new n → Took told (count_at before) old new n
+pub count_took : (told : Option (List ℕ)) (old new : WindowOf) (before n : ℕ) → before + n ≤ 1000000 → TookPieces told number_at old new n → TookPieces told (count_at before) old new n
 count_took told old new before n few t = record {
   pieces = t.pieces;
   come = t.come;
   is = λ later. counts_few before n (old.unread ++ (t.pieces ++ later)) (new.unread ++ later) few (t.is later);
 }
 
-pub count_cut : (told : Option (List ℕ)) (before : ℕ) (unread bytes : List ℕ) (bad : BadFile) → Meets told number_at unread bad bytes → Meets told (count_at before) unread bad bytes
+pub count_cut : (told : Option (List ℕ)) (before : ℕ) (unread bytes : List ℕ) (bad : BadFile) → MeetsBadField told number_at unread bad bytes → MeetsBadField told (count_at before) unread bad bytes
 count_cut told before unread bytes bad m = record {
   rest = m.rest;
   more = m.more;
@@ -305,8 +305,8 @@ count_cut told before unread bytes bad m = record {
   at = m.at;
 }
 
-pub count_many : (told : Option (List ℕ)) (old new : WindowOf) (before n at : ℕ) (bad : BadFile) → 1000000 < before + n → Took told number_at old new n → at + length old.unread ≡ old.had
-    → bad ≡ bad_at new.had false (new.had - at) kinds.TooMany → OfRead told old.had (Meets told (count_at before) old.unread bad)
+pub count_many : (told : Option (List ℕ)) (old new : WindowOf) (before n at : ℕ) (bad : BadFile) → 1000000 < before + n → TookPieces told number_at old new n → at + length old.unread ≡ old.had
+    → bad ≡ bad_at new.had false (new.had - at) kinds.TooMany → OfRead told old.had (MeetsBadField told (count_at before) old.unread bad)
 count_many told old new before n at bad many t place is =
     meets_stop told (count_at before) old.unread t.pieces old.had new.had (new.had - at) kinds.TooMany bad t.come (λ e. absurd (cc))
     (λ later. counts_many before n (old.unread ++ (t.pieces ++ later)) (new.unread ++ later) many (t.is later)
@@ -349,7 +349,7 @@ pub cut_none : (bytes : List ℕ) → bytes ≡ [] → CutAt bytes 0
 cut_none bytes e = subst (λ (b : List ℕ). CutAt b 0) (sym e) (record { left = 0; is = nothing_read; place = refl })
 
 pub tx_cut : (told : Option (List ℕ)) (bytes : List ℕ) (had start at : ℕ) (bad : BadFile) → CutAt bytes at → start + length bytes ≡ had
-    → OfRead told had (IsCut told had (had - (start + at)) bad) → OfRead told had (Meets told transaction_at bytes bad)
+    → OfRead told had (IsFileCut told had (had - (start + at)) bad) → OfRead told had (MeetsBadField told transaction_at bytes bad)
 tx_cut told bytes had start at bad k place cut =
     let left : k.left ≡ had - (start + at) = omega (arith, k.place, place) in
     meets_cut told transaction_at bytes [] had had (had - (start + at)) bad (none_come told had)
@@ -358,13 +358,13 @@ tx_cut told bytes had start at bad k place cut =
     failed : ℕ → Result (FullTx × List ℕ) Fault
     failed n = Err (record { left = n; kind = kinds.Cut })
 
-pub tx_cut_later : (told : Option (List ℕ)) (old : WindowOf) (had : ℕ) (bytes : List ℕ) (bad : BadFile) → SoFar told old had bytes → OfRead told had (Meets told transaction_at bytes bad)
-    → OfRead told old.had (Meets told transaction_at old.unread bad)
+pub tx_cut_later : (told : Option (List ℕ)) (old : WindowOf) (had : ℕ) (bytes : List ℕ) (bad : BadFile) → SoFar told old had bytes → OfRead told had (MeetsBadField told transaction_at bytes bad)
+    → OfRead told old.had (MeetsBadField told transaction_at old.unread bad)
 tx_cut_later told old had bytes bad so meets =
     meets_later told transaction_at transaction_at old.unread bytes so.pieces old.had had bad so.come (λ later f e. ap transaction_at (behind bytes old.unread so.pieces later so.is) ∙ e) meets
 
 pub tx_took : (told : Option (List ℕ)) (old new : WindowOf) (fed unread : List ℕ) (had taken : ℕ) (tx : FullTx) → SoFar told old had (fed ++ unread) → IsSpelledAt (fed ++ unread) 0 (length fed + taken) tx
-    → new ≡ record { unread = drop taken unread; had = had } → Took told transaction_at old new tx
+    → new ≡ record { unread = drop taken unread; had = had } → TookPieces told transaction_at old new tx
 tx_took told old new fed unread had taken tx so spelled new_is = record {
   pieces = so.pieces;
   come = subst (λ (k : ℕ). HasCome told old.had k so.pieces) (sym (ap (λ (w : WindowOf). w.had) new_is)) so.come;
@@ -377,7 +377,7 @@ tx_took told old new fed unread had taken tx so spelled new_is = record {
     read l = Ok (tx, l)
 
 pub tx_bad : (told : Option (List ℕ)) (old : WindowOf) (all : List ℕ) (had start : ℕ) (field : BadTx) (bad : BadFile) → SoFar told old had all → start + length old.unread ≡ old.had → IsBadIn all field
-    → bad ≡ bad_at had false (had - (start + field.at)) field.kind → OfRead told old.had (Meets told transaction_at old.unread bad)
+    → bad ≡ bad_at had false (had - (start + field.at)) field.kind → OfRead told old.had (MeetsBadField told transaction_at old.unread bad)
 tx_bad told old all had start field bad so place b is =
     let size : start + length all ≡ had = omega (arith, place, so.come.had, ap length so.is, length-append old.unread so.pieces) in
     meets_stop told transaction_at old.unread so.pieces old.had had (had - (start + field.at)) field.kind bad so.come b.kind
@@ -407,7 +407,7 @@ items_first told count w txs none = record {
 }
 
 pub items_more : (told now : Option (List ℕ)) (count i : ℕ) (old w new : WindowOf) (txs next : List FullTx) (tx : FullTx) → now ≡ told → i < count → ItemsSoFar told count i old w txs
-    → Took now transaction_at w new tx → next ≡ txs ++ tx ∷ [] → ItemsSoFar told count (i + 1) old new next
+    → TookPieces now transaction_at w new tx → next ≡ txs ++ tx ∷ [] → ItemsSoFar told count (i + 1) old new next
 items_more told now count i old w new txs next tx same lt so t is = record {
   pieces = so.pieces ++ t.pieces;
   come = come_then told old.had w.had new.had so.pieces t.pieces so.come (subst (λ (k : Option (List ℕ)). HasCome k w.had new.had t.pieces) same t.come);
@@ -417,7 +417,7 @@ items_more told now count i old w new txs next tx same lt so t is = record {
       ∙ ap (λ (l : List ℕ). items_at transaction_at count (old.unread ++ l)) (sym (append_assoc so.pieces t.pieces later));
 }
 
-pub items_took : (told : Option (List ℕ)) (count i : ℕ) (old new : WindowOf) (txs : List FullTx) → count ≤ i → ItemsSoFar told count i old new txs → Took told (items_at transaction_at count) old new txs
+pub items_took : (told : Option (List ℕ)) (count i : ℕ) (old new : WindowOf) (txs : List FullTx) → count ≤ i → ItemsSoFar told count i old new txs → TookPieces told (items_at transaction_at count) old new txs
 items_took told count i old new txs le so = record {
   pieces = so.pieces;
   come = so.come;
@@ -425,7 +425,7 @@ items_took told count i old new txs le so = record {
 }
 
 pub items_bad : (told : Option (List ℕ)) (count i : ℕ) (old new : WindowOf) (txs : List FullTx) (bad : BadFile) → i < count → ItemsSoFar told count i old new txs
-    → OfRead told new.had (Meets told transaction_at new.unread bad) → OfRead told old.had (Meets told (items_at transaction_at count) old.unread bad)
+    → OfRead told new.had (MeetsBadField told transaction_at new.unread bad) → OfRead told old.had (MeetsBadField told (items_at transaction_at count) old.unread bad)
 items_bad told count i old new txs bad lt so meets =
     meets_later told (items_at transaction_at count) transaction_at old.unread new.unread so.pieces old.had new.had bad so.come
     (λ later f e. items_end transaction_at (errors.Bad f) txs count i (new.unread ++ later) (items_at transaction_at count (old.unread ++ (so.pieces ++ later))) lt e (so.is later)) meets
@@ -461,7 +461,7 @@ goes_on_later told now w new n bad same m goes bytes len read =
           ∙ ap (λ (l : List ℕ). bad_at (length (bytes ++ (m.piece ++ g.rest))) g.more (length l) kinds.Extra) all;
     }
 
-pub goes_on_past : (told : Option (List ℕ)) (w : WindowOf) (bad : BadFile) → IsEnd told w.had → OfRead told w.had (λ bytes. Tells told (λ c. true ≡ goes_on c))
+pub goes_on_past : (told : Option (List ℕ)) (w : WindowOf) (bad : BadFile) → IsFileEnd told w.had → OfRead told w.had (λ bytes. Tells told (λ c. true ≡ goes_on c))
     → bad ≡ bad_at w.had true (length w.unread) kinds.Extra → OfRead told w.had (GoesOn told w.unread bad)
 goes_on_past told w bad end on is bytes len read = record {
   rest = [];
@@ -493,8 +493,8 @@ counted_is before bytes = go (number_at bytes)
 starts : (told : Option (List ℕ)) → HasRead told []
 starts told = record { few = omega arith; first = λ c e. (omega arith, refl) }
 
-pub whole_took : (told now : Option (List ℕ)) (before n : ℕ) (old mid new : WindowOf) (txs : List FullTx) → now ≡ told → Took told (count_at before) old mid n → Took now (items_at transaction_at n) mid new txs
-    → Took told (counted_behind before) old new txs
+pub whole_took : (told now : Option (List ℕ)) (before n : ℕ) (old mid new : WindowOf) (txs : List FullTx) → now ≡ told → TookPieces told (count_at before) old mid n → TookPieces now (items_at transaction_at n) mid new txs
+    → TookPieces told (counted_behind before) old new txs
 whole_took told now before n old mid new txs same a b = record {
   pieces = a.pieces ++ b.pieces;
   come = come_then told old.had mid.had new.had a.pieces b.pieces a.come (subst (λ (t : Option (List ℕ)). HasCome t mid.had new.had b.pieces) same b.come);
@@ -503,8 +503,8 @@ whole_took told now before n old mid new txs same a b = record {
       ∙ bind_at (count_at before (old.unread ++ (a.pieces ++ (b.pieces ++ later)))) (λ n. items_at transaction_at n.0 n.1) (n, mid.unread ++ (b.pieces ++ later)) (a.is (b.pieces ++ later)) ∙ b.is later;
 }
 
-pub holds_all : (told now : Option (List ℕ)) (before : ℕ) (old new : WindowOf) (txs : List FullTx) → now ≡ told → old ≡ record { unread = []; had = 0 } → Took told (counted_behind before) old new txs → new.unread ≡ []
-    → OfRead now new.had (λ bytes. Tells now (λ c. (bytes ≡ front c) × (false ≡ goes_on c))) → Holds told before (Ok txs)
+pub holds_all : (told now : Option (List ℕ)) (before : ℕ) (old new : WindowOf) (txs : List FullTx) → now ≡ told → old ≡ record { unread = []; had = 0 } → TookPieces told (counted_behind before) old new txs → new.unread ≡ []
+    → OfRead now new.had (λ bytes. Tells now (λ c. (bytes ≡ front c) × (false ≡ goes_on c))) → FileHolds told before (Ok txs)
 holds_all told now before old new txs same first t used whole =
     let had : 0 ≡ old.had = sym (ap (λ (w : WindowOf). w.had) first) in
     let none : old.unread ≡ [] = ap (λ (w : WindowOf). w.unread) first in
@@ -521,7 +521,7 @@ holds_all told now before old new txs same first t used whole =
     read : List ℕ → Result (List FullTx × List ℕ) Fault
     read l = Ok (txs, l)
 
-pub holds_bad : (told : Option (List ℕ)) (before : ℕ) (old : WindowOf) (bad : BadFile) → old ≡ record { unread = []; had = 0 } → OfRead told old.had (Meets told (counted_behind before) old.unread bad) → Holds told before (Err bad)
+pub holds_bad : (told : Option (List ℕ)) (before : ℕ) (old : WindowOf) (bad : BadFile) → old ≡ record { unread = []; had = 0 } → OfRead told old.had (MeetsBadField told (counted_behind before) old.unread bad) → FileHolds told before (Err bad)
 holds_bad told before old bad first meets =
     let had : 0 ≡ old.had = sym (ap (λ (w : WindowOf). w.had) first) in
     let none : old.unread ≡ [] = ap (λ (w : WindowOf). w.unread) first in
@@ -536,7 +536,7 @@ holds_bad told before old bad first meets =
     told_bad : BadFile → Result (List FullTx) BadFile
     told_bad b = Err b
 
-pub count_bad : (told : Option (List ℕ)) (before : ℕ) (unread bytes : List ℕ) (bad : BadFile) → Meets told (count_at before) unread bad bytes → Meets told (counted_behind before) unread bad bytes
+pub count_bad : (told : Option (List ℕ)) (before : ℕ) (unread bytes : List ℕ) (bad : BadFile) → MeetsBadField told (count_at before) unread bad bytes → MeetsBadField told (counted_behind before) unread bad bytes
 count_bad told before unread bytes bad m = record {
   rest = m.rest;
   more = m.more;
@@ -546,15 +546,15 @@ count_bad told before unread bytes bad m = record {
   at = m.at;
 }
 
-pub whole_bad : (told now : Option (List ℕ)) (before n : ℕ) (old mid : WindowOf) (bad : BadFile) → now ≡ told → Took told (count_at before) old mid n → OfRead now mid.had (Meets now (items_at transaction_at n) mid.unread bad)
-    → OfRead told old.had (Meets told (counted_behind before) old.unread bad)
+pub whole_bad : (told now : Option (List ℕ)) (before n : ℕ) (old mid : WindowOf) (bad : BadFile) → now ≡ told → TookPieces told (count_at before) old mid n → OfRead now mid.had (MeetsBadField now (items_at transaction_at n) mid.unread bad)
+    → OfRead told old.had (MeetsBadField told (counted_behind before) old.unread bad)
 whole_bad told now before n old mid bad same a meets =
     meets_later told (counted_behind before) (items_at transaction_at n) old.unread mid.unread a.pieces old.had mid.had bad a.come
     (λ later f e. counted_is before (old.unread ++ (a.pieces ++ later)) ∙ bind_at (count_at before (old.unread ++ (a.pieces ++ later))) (λ n. items_at transaction_at n.0 n.1) (n, mid.unread ++ later) (a.is later) ∙ e)
-    (subst (λ (t : Option (List ℕ)). OfRead t mid.had (Meets t (items_at transaction_at n) mid.unread bad)) same meets)
+    (subst (λ (t : Option (List ℕ)). OfRead t mid.had (MeetsBadField t (items_at transaction_at n) mid.unread bad)) same meets)
 
-pub holds_extra : (told now : Option (List ℕ)) (before : ℕ) (old new : WindowOf) (txs : List FullTx) (bad : BadFile) → now ≡ told → old ≡ record { unread = []; had = 0 } → Took told (counted_behind before) old new txs
-    → OfRead now new.had (GoesOn now new.unread bad) → Holds told before (Err bad)
+pub holds_extra : (told now : Option (List ℕ)) (before : ℕ) (old new : WindowOf) (txs : List FullTx) (bad : BadFile) → now ≡ told → old ≡ record { unread = []; had = 0 } → TookPieces told (counted_behind before) old new txs
+    → OfRead now new.had (GoesOn now new.unread bad) → FileHolds told before (Err bad)
 holds_extra told now before old new txs bad same first t goes =
     let had : 0 ≡ old.had = sym (ap (λ (w : WindowOf). w.had) first) in
     let none : old.unread ≡ [] = ap (λ (w : WindowOf). w.unread) first in
@@ -576,22 +576,22 @@ holds_extra told now before old new txs bad same first t goes =
 pub stop_bad : (P : BadFile → Type 0) (before now : ℕ) (result : StreamFault) (bad : BadFile) → result ≡ faults.Bad bad → P bad → Stops P before now result
 stop_bad P before now result bad is p = subst (λ (r : StreamFault). Stops P before now r) (sym is) p
 
-pub end_for : (told now : Option (List ℕ)) (old new : WindowOf) (n had : ℕ) → now ≡ told → had ≡ new.had → HasMore told old new n → n ≡ 0 → IsEnd now had
-end_for told now old new n had same is more z = subst (λ (t : Option (List ℕ)). IsEnd t had) (sym same) (subst (IsEnd told) (sym is) (end_now told old new n more z))
+pub end_for : (told now : Option (List ℕ)) (old new : WindowOf) (n had : ℕ) → now ≡ told → had ≡ new.had → HasMore told old new n → n ≡ 0 → IsFileEnd now had
+end_for told now old new n had same is more z = subst (λ (t : Option (List ℕ)). IsFileEnd t had) (sym same) (subst (IsFileEnd told) (sym is) (end_now told old new n more z))
 
 pub head_cut_at : (told last : Option (List ℕ)) (old new : WindowOf) (had place : ℕ) (bad : BadFile) → last ≡ told → had ≡ new.had → place + length new.unread ≡ new.had → SoFar told old new.had new.unread
-    → length new.unread < 8 → OfRead last had (IsCut last had (had - place) bad) → OfRead told old.had (Meets told number_at old.unread bad)
+    → length new.unread < 8 → OfRead last had (IsFileCut last had (had - place) bad) → OfRead told old.had (MeetsBadField told number_at old.unread bad)
 head_cut_at told last old new had place bad same is at so few cut =
     head_cut told old new.unread new.had (new.had - place) bad so few (omega (arith, at))
-    (subst (λ (k : ℕ). OfRead told k (IsCut told k (k - place) bad)) is (subst (λ (t : Option (List ℕ)). OfRead t had (IsCut t had (had - place) bad)) same cut))
+    (subst (λ (k : ℕ). OfRead told k (IsFileCut told k (k - place) bad)) is (subst (λ (t : Option (List ℕ)). OfRead t had (IsFileCut t had (had - place) bad)) same cut))
 
 pub so_at : (told : Option (List ℕ)) (old : WindowOf) (had last : ℕ) (all next : List ℕ) → last ≡ had → next ≡ all → SoFar told old had all → SoFar told old last next
 so_at told old had last all next same is so = subst (λ (k : ℕ). SoFar told old k next) (sym same) (subst (SoFar told old had) (sym is) so)
 
-pub cut_on : (told now : Option (List ℕ)) (had last : ℕ) (b v : Bool) → now ≡ told → had ≡ last → b ≡ v → IsEnd told last → (IsEnd now had → OfRead now had (λ bytes. Tells now (λ c. b ≡ goes_on c)))
+pub cut_on : (told now : Option (List ℕ)) (had last : ℕ) (b v : Bool) → now ≡ told → had ≡ last → b ≡ v → IsFileEnd told last → (IsFileEnd now had → OfRead now had (λ bytes. Tells now (λ c. b ≡ goes_on c)))
     → OfRead told last (λ bytes. Tells told (λ c. v ≡ goes_on c))
 cut_on told now had last b v same is value end on =
-    let ended : IsEnd now had = subst (λ (t : Option (List ℕ)). IsEnd t had) (sym same) (subst (IsEnd told) (sym is) end) in
+    let ended : IsFileEnd now had = subst (λ (t : Option (List ℕ)). IsFileEnd t had) (sym same) (subst (IsFileEnd told) (sym is) end) in
     let here : OfRead told last (λ bytes. Tells told (λ c. b ≡ goes_on c)) =
     subst (λ (k : ℕ). OfRead told k (λ bytes. Tells told (λ c. b ≡ goes_on c))) is (subst (λ (t : Option (List ℕ)). OfRead t had (λ bytes. Tells t (λ c. b ≡ goes_on c))) same (on ended)) in
     λ bytes len read c e. sym value ∙ here bytes len read c e
@@ -609,5 +609,5 @@ pub some_bytes : (b : Bool) (n : ℕ) → b ≡ (n == 0) → b ≡ false → 0 <
 some_bytes b zero is e = absurd (let t : (0 == 0) ≡ true = refl in cc)
 some_bytes b (suc n) is e = omega arith
 
-pub of_same : (told now : Option (List ℕ)) (w : WindowOf) (bad : BadFile) → now ≡ told → OfRead now w.had (Meets now transaction_at w.unread bad) → OfRead told w.had (Meets told transaction_at w.unread bad)
-of_same told now w bad same meets = subst (λ (t : Option (List ℕ)). OfRead t w.had (Meets t transaction_at w.unread bad)) same meets
+pub of_same : (told now : Option (List ℕ)) (w : WindowOf) (bad : BadFile) → now ≡ told → OfRead now w.had (MeetsBadField now transaction_at w.unread bad) → OfRead told w.had (MeetsBadField told transaction_at w.unread bad)
+of_same told now w bad same meets = subst (λ (t : Option (List ℕ)). OfRead t w.had (MeetsBadField t transaction_at w.unread bad)) same meets

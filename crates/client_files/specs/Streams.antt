@@ -32,8 +32,8 @@ pub record HasCome (told : Option (List ℕ)) (old new : ℕ) (piece : List ℕ)
   pub read : OfRead told old (λ bytes. HasRead told (bytes ++ piece))
 
 -- those are all that is read of the file
-abbrev pub IsEnd : Option (List ℕ) → ℕ → Type 0
-IsEnd told had = OfRead told had (λ bytes. Tells told (λ c. bytes ≡ front c))
+abbrev pub IsFileEnd : Option (List ℕ) → ℕ → Type 0
+IsFileEnd told had = OfRead told had (λ bytes. Tells told (λ c. bytes ≡ front c))
 
 -- so many bytes came, behind those that were not used; none at the end
 pub record HasMore (told : Option (List ℕ)) (old new : WindowOf) (n : ℕ) : Type 0 where
@@ -42,16 +42,16 @@ pub record HasMore (told : Option (List ℕ)) (old new : WindowOf) (n : ℕ) : T
   pub unread : new.unread ≡ old.unread ++ piece
   pub come : HasCome told old.had new.had piece
   pub bound : new.had ≤ 1073741824
-  pub ended : n ≡ 0 → IsEnd told old.had
+  pub ended : n ≡ 0 → IsFileEnd told old.had
 
 -- this was read of the bytes that were not used and those that came, whatever comes behind them
-pub record Took {X : Type 0} (told : Option (List ℕ)) (read : List ℕ → Result (X × List ℕ) Fault) (old new : WindowOf) (x : X) : Type 0 where
+pub record TookPieces {X : Type 0} (told : Option (List ℕ)) (read : List ℕ → Result (X × List ℕ) Fault) (old new : WindowOf) (x : X) : Type 0 where
   pub pieces : List ℕ
   pub come : HasCome told old.had new.had pieces
   pub is : (later : List ℕ) → read (old.unread ++ (pieces ++ later)) ≡ Ok (x, new.unread ++ later)
 
 -- with the rest of the file behind the bytes that were not used, reading meets this bad field
-pub record Meets {X : Type 0} (told : Option (List ℕ)) (read : List ℕ → Result X Fault) (unread : List ℕ) (bad : BadFile) (bytes : List ℕ) : Type 0 where
+pub record MeetsBadField {X : Type 0} (told : Option (List ℕ)) (read : List ℕ → Result X Fault) (unread : List ℕ) (bad : BadFile) (bytes : List ℕ) : Type 0 where
   pub rest : List ℕ
   pub more : Bool
   pub whole : Tells told (λ c. (bytes ++ rest ≡ front c) × (more ≡ goes_on c))
@@ -60,7 +60,7 @@ pub record Meets {X : Type 0} (told : Option (List ℕ)) (read : List ℕ → Re
   pub at : bad ≡ bad_at (length (bytes ++ rest)) more first.left first.kind
 
 -- the file ends within a field, so many bytes before its end
-pub record IsCut (told : Option (List ℕ)) (had left : ℕ) (bad : BadFile) (bytes : List ℕ) : Type 0 where
+pub record IsFileCut (told : Option (List ℕ)) (had left : ℕ) (bad : BadFile) (bytes : List ℕ) : Type 0 where
   pub more : Bool
   pub whole : Tells told (λ c. (bytes ≡ front c) × (more ≡ goes_on c))
   pub at : bad ≡ bad_at had more left Cut
@@ -86,7 +86,7 @@ count_at before bytes = do
   if nat_lt 1000000 (before + n.0) then Err (fault TooMany bytes) else Ok n
 
 -- what the file holds, as far as it is told
-pub record Holds (told : Option (List ℕ)) (before : ℕ) (held : Result (List FullTx) BadFile) : Type 0 where
+pub record FileHolds (told : Option (List ℕ)) (before : ℕ) (held : Result (List FullTx) BadFile) : Type 0 where
   pub bytes : List ℕ
   pub more : Bool
   pub whole : Tells told (λ c. (bytes ≡ front c) × (more ≡ goes_on c))

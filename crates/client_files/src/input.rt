@@ -20,12 +20,15 @@ fn read_more<I: Inbox>(
     room: usize,
 ) -> Result<usize, FetchFault>
     requires { 0 < room }
-    ensures bytes { IfOk result (λ n. Tells (I.file inbox.old name.now) (λ c. bytes.new.items ≡ bytes.old.items ++ take n (drop (length bytes.old.items) c))) }
+    ensures bytes { IfOk result (λ n. Tells (I.file inbox.old name.now)
+        (λ c. bytes.new.items ≡ bytes.old.items ++ take n (drop (length bytes.old.items) c))) }
     ensures len { IfOk result (λ n. (length bytes.new.items ≡ length bytes.old.items + n) × (n ≤ room)) }
-    ensures end { IfOk result (λ n. Tells (I.file inbox.old name.now) (λ c. n ≡ 0 → length c ≤ length bytes.old.items)) }
+    ensures end { IfOk result
+        (λ n. Tells (I.file inbox.old name.now) (λ c. n ≡ 0 → length c ≤ length bytes.old.items)) }
     ensures same { (other : List ℕ) → I.file inbox.new other ≡ I.file inbox.old other }
     ensures later { (other : List ℕ) → I.count inbox.old other ≤ I.count inbox.new other }
-    ensures failed { IsErrOf result FetchFault.ReadFault → Rose (I.count inbox.old name.now) (I.count inbox.new name.now) }
+    ensures failed { IsErrOf result FetchFault.ReadFault
+        → Rose (I.count inbox.old name.now) (I.count inbox.new name.now) }
 {
     let mut buf = [0u8; PIECE];
     let piece = &mut buf[..PIECE.min(room)];
@@ -43,7 +46,8 @@ pub(crate) fn is_longer<I: Inbox>(inbox: &mut I, name: &str, at: usize) -> Resul
     ensures more { IfOk result (λ b. Tells (I.file inbox.old name.now) (λ c. IsTrue b ↔ (at < length c))) }
     ensures same { (other : List ℕ) → I.file inbox.new other ≡ I.file inbox.old other }
     ensures later { (other : List ℕ) → I.count inbox.old other ≤ I.count inbox.new other }
-    ensures failed { IsErrOf result FetchFault.ReadFault → Rose (I.count inbox.old name.now) (I.count inbox.new name.now) }
+    ensures failed { IsErrOf result FetchFault.ReadFault
+        → Rose (I.count inbox.old name.now) (I.count inbox.new name.now) }
 {
     let mut next = [0u8; 1];
     match inbox.read(name, at as u64, &mut next) {
@@ -61,10 +65,12 @@ pub fn fetch<I: Inbox>(
     name: &str,
 ) -> Result<(List<u8>, bool), FetchFault>
     ensures bytes { IfOk result (λ r. Tells (I.file inbox.old name.now) (λ c. r.0 ≡ take 1073741824 c)) }
-    ensures more { IfOk result (λ r. Tells (I.file inbox.old name.now) (λ c. IsTrue r.1 ↔ (1073741824 < length c))) }
+    ensures more { IfOk result
+        (λ r. Tells (I.file inbox.old name.now) (λ c. IsTrue r.1 ↔ (1073741824 < length c))) }
     ensures same { (other : List ℕ) → I.file inbox.new other ≡ I.file inbox.old other }
     ensures later { (other : List ℕ) → I.count inbox.old other ≤ I.count inbox.new other }
-    ensures failed { IsErrOf result FetchFault.ReadFault → Rose (I.count inbox.old name.now) (I.count inbox.new name.now) }
+    ensures failed { IsErrOf result FetchFault.ReadFault
+        → Rose (I.count inbox.old name.now) (I.count inbox.new name.now) }
 {
     let mut bytes = Vec::new(alloc);
     'pieces: while bytes.len() < LIMIT {

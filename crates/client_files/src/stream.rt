@@ -5,7 +5,7 @@ ghost use Rattle.byte_fields.specs.Reading.{number_at, items_at};
 ghost use Rattle.byte_fields.specs.Transactions.{transaction_at};
 ghost use Rattle.tx_codec.specs.Feeds.{IsGoing};
 ghost use Rattle.client_files.specs.Files.{front, goes_on, bad_at};
-ghost use Rattle.client_files.specs.Streams.{OfRead, IsEnd, HasMore, Took, Meets, IsCut, GoesOn, Stops, Holds, count_at};
+ghost use Rattle.client_files.specs.Streams.{OfRead, IsFileEnd, HasMore, TookPieces, MeetsBadField, IsFileCut, GoesOn, Stops, FileHolds, count_at};
 ghost use Rattle.base_types.specs.declared.faults.InputKind.TheVariants as kinds;
 ghost use Rattle.client_files.specs.declared.fault.StreamFault.TheVariants as faults;
 
@@ -29,7 +29,8 @@ fn read_next<I: Inbox>(
     requires some { 0 < length buf.old }
     requires room { window.old.had + length buf.old ≤ 1073741824 }
     ensures more { IfOk result (λ n. HasMore (I.file inbox.old name.now) window.old window.new n) }
-    ensures fault { IfErr result (Stops (λ bad. ⊥) (I.count inbox.old name.now) (I.count inbox.new name.now)) }
+    ensures fault { IfErr result
+        (Stops (λ bad. ⊥) (I.count inbox.old name.now) (I.count inbox.new name.now)) }
     ensures same { (other : Items ℕ) → I.file inbox.new other ≡ I.file inbox.old other }
     ensures later { (other : Items ℕ) → I.count inbox.old other ≤ I.count inbox.new other }
 {
@@ -45,7 +46,8 @@ fn read_next<I: Inbox>(
 // One read of what comes next of a file. None at its end, and where no more of it is read.
 fn more<I: Inbox>(inbox: &mut I, name: &str, window: &mut Window) -> Result<usize, StreamFault>
     ensures more { IfOk result (λ n. HasMore (I.file inbox.old name.now) window.old window.new n) }
-    ensures fault { IfErr result (Stops (λ bad. ⊥) (I.count inbox.old name.now) (I.count inbox.new name.now)) }
+    ensures fault { IfErr result
+        (Stops (λ bad. ⊥) (I.count inbox.old name.now) (I.count inbox.new name.now)) }
     ensures same { (other : Items ℕ) → I.file inbox.new other ≡ I.file inbox.old other }
     ensures later { (other : Items ℕ) → I.count inbox.old other ≤ I.count inbox.new other }
 {
@@ -60,8 +62,10 @@ fn more<I: Inbox>(inbox: &mut I, name: &str, window: &mut Window) -> Result<usiz
 // Whether a file of which no more is read goes on there.
 fn is_cut_off<I: Inbox>(inbox: &mut I, name: &str, had: usize) -> Result<bool, StreamFault>
     requires { had ≤ 1073741824 }
-    ensures more { IfOk result (λ b. IsEnd (I.file inbox.old name.now) had → OfRead (I.file inbox.old name.now) had (λ bytes. Tells (I.file inbox.old name.now) (λ c. b ≡ goes_on c))) }
-    ensures fault { IfErr result (Stops (λ bad. ⊥) (I.count inbox.old name.now) (I.count inbox.new name.now)) }
+    ensures more { IfOk result (λ b. IsFileEnd (I.file inbox.old name.now) had → OfRead
+        (I.file inbox.old name.now) had (λ bytes. Tells (I.file inbox.old name.now) (λ c. b ≡ goes_on c))) }
+    ensures fault { IfErr result
+        (Stops (λ bad. ⊥) (I.count inbox.old name.now) (I.count inbox.new name.now)) }
     ensures same { (other : Items ℕ) → I.file inbox.new other ≡ I.file inbox.old other }
     ensures later { (other : Items ℕ) → I.count inbox.old other ≤ I.count inbox.new other }
 {
@@ -94,8 +98,10 @@ fn bad(had: usize, more: bool, at: usize, kind: InputKind) -> StreamFault
 fn cut<I: Inbox>(inbox: &mut I, name: &str, had: usize, at: usize) -> StreamFault
     requires at { at ≤ had }
     requires had { had ≤ 1073741824 }
-    requires end { IsEnd (I.file inbox.old name.now) had }
-    ensures fault { Stops (λ bad. OfRead (I.file inbox.old name.now) had (IsCut (I.file inbox.old name.now) had (had - at) bad)) (I.count inbox.old name.now) (I.count inbox.new name.now) result }
+    requires end { IsFileEnd (I.file inbox.old name.now) had }
+    ensures fault { Stops (λ bad.
+        OfRead (I.file inbox.old name.now) had (IsFileCut (I.file inbox.old name.now) had (had - at) bad))
+        (I.count inbox.old name.now) (I.count inbox.new name.now) result }
     ensures same { (other : Items ℕ) → I.file inbox.new other ≡ I.file inbox.old other }
     ensures later { (other : Items ℕ) → I.count inbox.old other ≤ I.count inbox.new other }
 {
@@ -107,8 +113,11 @@ fn cut<I: Inbox>(inbox: &mut I, name: &str, had: usize, at: usize) -> StreamFaul
 
 // The number at the front.
 fn head<I: Inbox>(inbox: &mut I, name: &str, window: &mut Window) -> Result<u64, StreamFault>
-    ensures taken { IfOk result (λ n. Took (I.file inbox.old name.now) number_at window.old window.new n) }
-    ensures fault { IfErr result (Stops (λ bad. OfRead (I.file inbox.old name.now) window.old.had (Meets (I.file inbox.old name.now) number_at window.old.unread bad)) (I.count inbox.old name.now) (I.count inbox.new name.now)) }
+    ensures taken { IfOk result
+        (λ n. TookPieces (I.file inbox.old name.now) number_at window.old window.new n) }
+    ensures fault { IfErr result (Stops (λ bad. OfRead (I.file inbox.old name.now) window.old.had
+        (MeetsBadField (I.file inbox.old name.now) number_at window.old.unread bad))
+        (I.count inbox.old name.now) (I.count inbox.new name.now)) }
     ensures same { (other : Items ℕ) → I.file inbox.new other ≡ I.file inbox.old other }
     ensures later { (other : Items ℕ) → I.count inbox.old other ≤ I.count inbox.new other }
 {
@@ -130,8 +139,11 @@ fn count_of<I: Inbox>(
     window: &mut Window,
     before: u64,
 ) -> Result<u64, StreamFault>
-    ensures taken { IfOk result (λ n. Took (I.file inbox.old name.now) (count_at before) window.old window.new n) }
-    ensures fault { IfErr result (Stops (λ bad. OfRead (I.file inbox.old name.now) window.old.had (Meets (I.file inbox.old name.now) (count_at before) window.old.unread bad)) (I.count inbox.old name.now) (I.count inbox.new name.now)) }
+    ensures taken { IfOk result
+        (λ n. TookPieces (I.file inbox.old name.now) (count_at before) window.old window.new n) }
+    ensures fault { IfErr result (Stops (λ bad. OfRead (I.file inbox.old name.now) window.old.had
+        (MeetsBadField (I.file inbox.old name.now) (count_at before) window.old.unread bad))
+        (I.count inbox.old name.now) (I.count inbox.new name.now)) }
     ensures same { (other : Items ℕ) → I.file inbox.new other ≡ I.file inbox.old other }
     ensures later { (other : Items ℕ) → I.count inbox.old other ≤ I.count inbox.new other }
 {
@@ -154,8 +166,10 @@ fn cut_tx<I: Inbox>(
     requires going { IsGoing feed.now.state }
     requires start { start + length feed.now.bytes ≡ had }
     requires had { had ≤ 1073741824 }
-    requires end { IsEnd (I.file inbox.old name.now) had }
-    ensures fault { Stops (λ bad. OfRead (I.file inbox.old name.now) had (λ bytes. Meets (I.file inbox.old name.now) transaction_at feed.now.bytes bad bytes)) (I.count inbox.old name.now) (I.count inbox.new name.now) result }
+    requires end { IsFileEnd (I.file inbox.old name.now) had }
+    ensures fault { Stops (λ bad. OfRead (I.file inbox.old name.now) had
+        (λ bytes. MeetsBadField (I.file inbox.old name.now) transaction_at feed.now.bytes bad bytes))
+        (I.count inbox.old name.now) (I.count inbox.new name.now) result }
     ensures same { (other : Items ℕ) → I.file inbox.new other ≡ I.file inbox.old other }
     ensures later { (other : Items ℕ) → I.count inbox.old other ≤ I.count inbox.new other }
 {
@@ -173,8 +187,11 @@ fn next_tx<I: Inbox>(
     name: &str,
     window: &mut Window,
 ) -> Result<FullTx, StreamFault>
-    ensures taken { IfOk result (λ tx. Took (I.file inbox.old name.now) transaction_at window.old window.new tx) }
-    ensures fault { IfErr result (Stops (λ bad. OfRead (I.file inbox.old name.now) window.old.had (Meets (I.file inbox.old name.now) transaction_at window.old.unread bad)) (I.count inbox.old name.now) (I.count inbox.new name.now)) }
+    ensures taken { IfOk result
+        (λ tx. TookPieces (I.file inbox.old name.now) transaction_at window.old window.new tx) }
+    ensures fault { IfErr result (Stops (λ bad. OfRead (I.file inbox.old name.now) window.old.had
+        (MeetsBadField (I.file inbox.old name.now) transaction_at window.old.unread bad))
+        (I.count inbox.old name.now) (I.count inbox.new name.now)) }
     ensures same { (other : Items ℕ) → I.file inbox.new other ≡ I.file inbox.old other }
     ensures later { (other : Items ℕ) → I.count inbox.old other ≤ I.count inbox.new other }
 {
@@ -208,8 +225,11 @@ fn txs_of<I: Inbox>(
     window: &mut Window,
     count: u64,
 ) -> Result<List<FullTx>, StreamFault>
-    ensures taken { IfOk result (λ txs. Took (I.file inbox.old name.now) (items_at transaction_at count) window.old window.new txs) }
-    ensures fault { IfErr result (Stops (λ bad. OfRead (I.file inbox.old name.now) window.old.had (Meets (I.file inbox.old name.now) (items_at transaction_at count) window.old.unread bad)) (I.count inbox.old name.now) (I.count inbox.new name.now)) }
+    ensures taken { IfOk result (λ txs.
+        TookPieces (I.file inbox.old name.now) (items_at transaction_at count) window.old window.new txs) }
+    ensures fault { IfErr result (Stops (λ bad. OfRead (I.file inbox.old name.now) window.old.had
+        (MeetsBadField (I.file inbox.old name.now) (items_at transaction_at count) window.old.unread bad))
+        (I.count inbox.old name.now) (I.count inbox.new name.now)) }
     ensures same { (other : Items ℕ) → I.file inbox.new other ≡ I.file inbox.old other }
     ensures later { (other : Items ℕ) → I.count inbox.old other ≤ I.count inbox.new other }
 {
@@ -233,8 +253,12 @@ fn extra(window: &Window, more: bool) -> StreamFault
 
 // Nothing is behind the last transaction.
 fn ended<I: Inbox>(inbox: &mut I, name: &str, window: &mut Window) -> Result<(), StreamFault>
-    ensures whole { IfOk result (λ u. (window.old.unread ≡ []) × OfRead (I.file inbox.old name.now) window.old.had (λ bytes. Tells (I.file inbox.old name.now) (λ c. (bytes ≡ front c) × (false ≡ goes_on c)))) }
-    ensures fault { IfErr result (Stops (λ bad. OfRead (I.file inbox.old name.now) window.old.had (GoesOn (I.file inbox.old name.now) window.old.unread bad)) (I.count inbox.old name.now) (I.count inbox.new name.now)) }
+    ensures whole { IfOk result (λ u. (window.old.unread ≡ [])
+        × OfRead (I.file inbox.old name.now) window.old.had
+        (λ bytes. Tells (I.file inbox.old name.now) (λ c. (bytes ≡ front c) × (false ≡ goes_on c)))) }
+    ensures fault { IfErr result (Stops (λ bad. OfRead
+        (I.file inbox.old name.now) window.old.had (GoesOn (I.file inbox.old name.now) window.old.unread bad))
+        (I.count inbox.old name.now) (I.count inbox.new name.now)) }
     ensures same { (other : Items ℕ) → I.file inbox.new other ≡ I.file inbox.old other }
     ensures later { (other : Items ℕ) → I.count inbox.old other ≤ I.count inbox.new other }
 {
@@ -260,8 +284,9 @@ pub fn stream_clients<I: Inbox>(
     before: u64,
 ) -> Result<List<FullTx>, StreamFault>
     // What is answered is what the file holds, as far as it is told.
-    ensures read { IfOk result (λ txs. Holds (I.file inbox.old name.now) before (Ok txs)) }
-    ensures fault { IfErr result (Stops (λ bad. Holds (I.file inbox.old name.now) before (Err bad)) (I.count inbox.old name.now) (I.count inbox.new name.now)) }
+    ensures read { IfOk result (λ txs. FileHolds (I.file inbox.old name.now) before (Ok txs)) }
+    ensures fault { IfErr result (Stops (λ bad. FileHolds (I.file inbox.old name.now) before (Err bad))
+        (I.count inbox.old name.now) (I.count inbox.new name.now)) }
     ensures same { (other : Items ℕ) → I.file inbox.new other ≡ I.file inbox.old other }
     ensures later { (other : Items ℕ) → I.count inbox.old other ≤ I.count inbox.new other }
 {

@@ -75,7 +75,8 @@ impl Window {
     /// Puts the next bytes behind them.
     pub(crate) fn put(&mut self, piece: &[u8]) -> Result<(), AllocError>
         requires { self.old.had + length piece.now ≤ 1073741824 }
-        ensures { OnOk result (self.new ≡ record { unread = self.old.unread ++ piece.now; had = self.old.had + length piece.now }) }
+        ensures { OnOk result (self.new
+            ≡ record { unread = self.old.unread ++ piece.now; had = self.old.had + length piece.now }) }
     {
         if self.from == self.bytes.len() {
             self.bytes.clear();

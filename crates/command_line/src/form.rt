@@ -148,7 +148,8 @@ fn with_nodes<'a>(
     about: &'a str,
     sizes: Sizes<'a>,
 ) -> Result<Command<'a>, AllocError>
-    ensures { IfOk result (λ c. IsLeaf c (nodes_shape name.now sizes.entry.shards.now sizes.entry.coordinators.now)) }
+    ensures { IfOk result
+        (λ c. IsLeaf c (nodes_shape name.now sizes.entry.shards.now sizes.entry.coordinators.now)) }
 {
     Command::new(alloc, name)
         .about(about)
@@ -163,7 +164,8 @@ fn with_sizes<'a>(
     about: &'a str,
     sizes: Sizes<'a>,
 ) -> Result<Command<'a>, AllocError>
-    ensures { IfOk result (λ c. IsLeaf c (sized_shape (nodes_shape name.now sizes.entry.shards.now sizes.entry.coordinators.now) sizes.entry.lanes.now sizes.entry.batch.now)) }
+    ensures { IfOk result (λ c. IsLeaf c (sized_shape (nodes_shape name.now
+        sizes.entry.shards.now sizes.entry.coordinators.now) sizes.entry.lanes.now sizes.entry.batch.now)) }
 {
     let command = with_nodes(alloc, name, about, sizes)?;
     command

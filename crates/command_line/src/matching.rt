@@ -13,7 +13,8 @@ pub(crate) fn matches_of<'a, S: AsStr>(
     alloc: Global,
     words: &'a [S],
 ) -> Result<ArgMatches<'a>, Error>
-    ensures met { IfOk result (λ m. subcommand_of hamilton (map S.text words.entry.now) ≡ subcommand_rows_of m) }
+    ensures met { IfOk result
+        (λ m. subcommand_of hamilton (map S.text words.entry.now) ≡ subcommand_rows_of m) }
     ensures fails { FailsBy (fault_of hamilton (map S.text words.entry.now)) result }
 {
     let command = program(alloc)?;

@@ -106,7 +106,9 @@ fn option_there<'a>(
 ) -> Option<OptionWord<'a>>
     requires inside { place < length words.now }
     requires trailing { trailing ≡ is_trailing (texts words.now) place }
-    ensures { MatchOption result (names_option name.now (texts words.entry.now) place ≡ false) (λ o. (o.place ≡ place) × (option_at (texts words.entry.now) place ≡ Some (name.now, option_map (λ s. s.now) o.value))) }
+    ensures { MatchOption result (names_option name.now (texts words.entry.now) place ≡ false)
+        (λ o. (o.place ≡ place)
+        × (option_at (texts words.entry.now) place ≡ Some (name.now, option_map (λ s. s.now) o.value))) }
 {
     if trailing {
         return None;
@@ -120,7 +122,8 @@ fn option_there<'a>(
 /// The first option of a name.
 pub(crate) fn option_of<'a>(words: &'a [String], name: &str) -> Option<OptionWord<'a>>
     ensures place { option_map (λ o. o.place) result ≡ option_place name.now (texts words.entry.now) }
-    ensures value { IfSome result (λ o. option_at (texts words.entry.now) o.place ≡ Some (name.now, option_map (λ s. s.now) o.value)) }
+    ensures value { IfSome result
+        (λ o. option_at (texts words.entry.now) o.place ≡ Some (name.now, option_map (λ s. s.now) o.value)) }
 {
     let mut trailing = false;
     'words: for place in FIRST..words.len() {

@@ -36,7 +36,8 @@ fn answer_to<'a>(alloc: Global, error: &Error) -> Result<Request<'a>, WordsFault
 fn help_by<'a, 'b>(alloc: Global, words: &'b [&'b str]) -> Result<Request<'a>, WordsFault>
     ensures shows { IfOk result IsShow }
     ensures wish { IsOk result → HasWish (fault_of hamilton (map (λ w. w.now) words.entry.now)) }
-    ensures refuses { IsErrOf result WordsFault.Bad → HasMistake (fault_of hamilton (map (λ w. w.now) words.entry.now)) }
+    ensures refuses { IsErrOf result WordsFault.Bad
+        → HasMistake (fault_of hamilton (map (λ w. w.now) words.entry.now)) }
 {
     match matches_of(alloc, words) {
         Ok(_) => Err(WordsFault::Memory),
@@ -57,7 +58,8 @@ fn help_on_all<'a>(alloc: Global) -> Result<Request<'a>, WordsFault>
 fn help_on<'a>(alloc: Global, topic: &str) -> Result<Request<'a>, WordsFault>
     ensures shows { IfOk result IsShow }
     ensures wish { IsOk result → HasWish (fault_of hamilton (help_words (Some topic.now))) }
-    ensures refuses { IsErrOf result WordsFault.Bad → HasMistake (fault_of hamilton (help_words (Some topic.now))) }
+    ensures refuses { IsErrOf result WordsFault.Bad
+        → HasMistake (fault_of hamilton (help_words (Some topic.now))) }
 {
     help_by(alloc, &["hamilton", topic, "--help"])
 }
@@ -66,8 +68,10 @@ fn help_on<'a>(alloc: Global, topic: &str) -> Result<Request<'a>, WordsFault>
 #[tactic(auto, using(crate::proofs::Rows::rows))]
 fn help_request<'a, 'b>(alloc: Global, inner: &ArgMatches<'b>) -> Result<Request<'a>, WordsFault>
     ensures shows { IfOk result IsShow }
-    ensures wish { IsOk result → HasWish (fault_of hamilton (help_words (first_of (codes "command") (rows_of (found_of inner.now))))) }
-    ensures refuses { IsErrOf result WordsFault.Bad → HasMistake (fault_of hamilton (help_words (first_of (codes "command") (rows_of (found_of inner.now))))) }
+    ensures wish { IsOk result → HasWish
+        (fault_of hamilton (help_words (first_of (codes "command") (rows_of (found_of inner.now))))) }
+    ensures refuses { IsErrOf result WordsFault.Bad → HasMistake
+        (fault_of hamilton (help_words (first_of (codes "command") (rows_of (found_of inner.now))))) }
 {
     match inner.get_str("command") {
         None => help_on_all(alloc),
@@ -93,7 +97,8 @@ fn help_asked<'a, 'b>(
 fn number<'a>(inner: &ArgMatches<'a>, option: &str, most: u32) -> Result<u32, WordsFault>
     requires { most ≤ 10000 }
     ensures number { IfOk result (λ n. HasNumber (rows_of (found_of inner.now)) option.now most n) }
-    ensures none { IsErrOf result WordsFault.Bad → HasNoNumber (rows_of (found_of inner.now)) option.now most }
+    ensures none { IsErrOf result WordsFault.Bad
+        → HasNoNumber (rows_of (found_of inner.now)) option.now most }
 {
     let Some(text) = inner.get_str(option) else {
         return Err(WordsFault::Memory);
@@ -142,7 +147,8 @@ fn files_at<'a>(
     places: &[usize],
     names: &[&'a str],
 ) -> Option<Vec<FileWord<'a>>>
-    ensures { IfSome result (λ files. AreFiles (texts words.entry.now) places.now (map (λ n. n.now) names.now) files.items) }
+    ensures { IfSome result
+        (λ files. AreFiles (texts words.entry.now) places.now (map (λ n. n.now) names.now) files.items) }
 {
     if places.len() != names.len() {
         return None;
@@ -289,7 +295,8 @@ fn rest_of<'a>(
     places: &[usize],
     inner: &ArgMatches<'a>,
 ) -> Option<Vec<FileWord<'a>>>
-    ensures { IfSome result (λ files. AreFiles (texts words.entry.now) places.now (names_or_none (all_of (codes "client") (rows_of (found_of inner.now)))) files.items) }
+    ensures { IfSome result (λ files. AreFiles (texts words.entry.now) places.now
+        (names_or_none (all_of (codes "client") (rows_of (found_of inner.now)))) files.items) }
 {
     match inner.get_strs("client") {
         Some(names) => files_at(alloc, words, places, names),
@@ -327,7 +334,8 @@ fn audit_request<'a>(
 
 // The hashes that texts spell.
 fn hashes_of(alloc: Global, given: &[&str]) -> Result<Vec<Hash>, WordsFault>
-    ensures hashes { IfOk result (λ hs. map decode_of (map (λ t. t.now) given.now) ≡ map (λ h. Ok h) hs.items) }
+    ensures hashes { IfOk result
+        (λ hs. map decode_of (map (λ t. t.now) given.now) ≡ map (λ h. Ok h) hs.items) }
     ensures none { IsErrOf result WordsFault.Bad → HasNoHashes (map (λ t. t.now) given.now) }
 {
     let mut hashes = Vec::new(alloc);

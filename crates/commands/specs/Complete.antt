@@ -19,7 +19,7 @@ use Rattle.file_runs.specs.Runs.{joined}
 use Rattle.workload.specs.Generator.{mint_of}
 use Rattle.submission_laws.specs.Files.{all_submissions}
 use Rattle.command_answers.specs.Scene.{Scene}
-use Rattle.rack_laws.specs.Shown.{node_count}
+use Rattle.cbdc_model.specs.Ranges.{node_count}
 use Rattle.rack_laws.specs.Files.{HoldsFile, HoldsVerdicts, HoldClients}
 use Rattle.rack_laws.specs.Making.{CanMake}
 use Rattle.rack_laws.specs.Ready.{IsRackReady, ShowsKept, NoneRises, limit_at}

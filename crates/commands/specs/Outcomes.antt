@@ -18,23 +18,23 @@ use Rattle.run_command.specs.RecoverOutcomes.{DidRecover}
 use Rattle.run_command.specs.Outcomes.{DidRun, WhyNoRun}
 
 -- the output took this text between the two moments, all of it at Ok, and at WriteFault a front
-abbrev pub Took : {D : Type 0} → Scene D → Scene D → Answer → Text → Type 0
-Took before after answer = IsPrinted before.printed after.printed answer
+abbrev pub OutputTook : {D : Type 0} → Scene D → Scene D → Answer → Text → Type 0
+OutputTook before after answer = IsPrinted before.printed after.printed answer
 
--- what was asked for was done, and its lines were printed (`Took`): a ledger was made (`DidInit`), files were run over one (`DidRun`), its open batches
+-- what was asked for was done, and its lines were printed (`OutputTook`): a ledger was made (`DidInit`), files were run over one (`DidRun`), its open batches
 -- were brought to their end (`DidRecover`), hashes were looked up (`DidStatus`), its journals were audited and are sound (`DidAudit`), a workload was
 -- run in memory, and the disks are as before (`PrintsWorkload`), or a text was shown
 abbrev pub Did : {D : Type 0} → Ghosts D → Scene D → Scene D → Request → Answer → Type 0
-Did device before after (Init shape mint) answer = DidInit device before.file before.disks after.disks (Took before after answer) shape mint
+Did device before after (Init shape mint) answer = DidInit device before.file before.disks after.disks (OutputTook before after answer) shape mint
 Did device before after (Run verdicts clients options) answer =
-    DidRun device before.file before.disks after.disks (Took before after answer) verdicts clients.items
-Did device before after Recover answer = DidRecover device before.disks after.disks (Took before after answer)
-Did device before after (Status hashes) answer = DidStatus device before.disks after.disks (Took before after answer) hashes.items
+    DidRun device before.file before.disks after.disks (OutputTook before after answer) verdicts clients.items
+Did device before after Recover answer = DidRecover device before.disks after.disks (OutputTook before after answer)
+Did device before after (Status hashes) answer = DidStatus device before.disks after.disks (OutputTook before after answer) hashes.items
 Did device before after (Audit mint clients) answer =
-    DidAudit device before.file before.disks after.disks (Took before after answer) mint clients.items
+    DidAudit device before.file before.disks after.disks (OutputTook before after answer) mint clients.items
 Did device before after (Gen shape seed size) answer =
-    ((n : ℕ) → after.disks.held n ≡ before.disks.held n) × PrintsWorkload (Took before after answer) shape seed size
-Did device before after (Show text) answer = Took before after answer (string_bytes text)
+    ((n : ℕ) → after.disks.held n ≡ before.disks.held n) × PrintsWorkload (OutputTook before after answer) shape seed size
+Did device before after (Show text) answer = OutputTook before after answer (string_bytes text)
 
 -- why what was asked for was not done: of `init`, `run`, `recover`, `status` and `audit` a file that is the first not read, what the disks told of the
 -- ledger, a lane's fault, or what an audit found; of a workload that hashes of it clash; a text that is shown has no other cause

@@ -15,7 +15,8 @@ use Rattle.file_runs.specs.Runs.{joined}
 use Rattle.record_log.specs.Held.{OpensTo}
 use Rattle.rack_ledgers.specs.Racked.{OfTold}
 use Rattle.command_answers.specs.Scene.{Scene}
-use Rattle.rack_laws.specs.Shown.{AreImagesLeft, OfShown, OpenTo, node_count}
+use Rattle.rack_laws.specs.Shown.{AreImagesLeft, OfShown, OpenTo}
+use Rattle.cbdc_model.specs.Ranges.{node_count}
 
 -- whatever a crash leaves of the disks opens to kept journals
 abbrev pub IsKeptWhatever : {D : Type 0} → Ghosts D → (ℕ → Option D) → Shape → List Output → List FullTx → Type 0

@@ -36,7 +36,8 @@ fn spent_hashes(alloc: Global, inputs: &[Input]) -> Result<List<Hash>, AllocErro
 // The hash of the coin that an output makes at a place.
 #[tactic(auto, unfolding(cbdc_model::specs::Coins::coin_hash))]
 fn made_hash(id: &Hash, index: u64, output: &Output) -> Hash
-    ensures { result ≡ coin_hash (record { point = record { tx = id.now; index = index }; output = output.now }) }
+    ensures { result
+        ≡ coin_hash (record { point = record { tx = id.now; index = index }; output = output.now }) }
 {
     uhs_id(id, index, output)
 }

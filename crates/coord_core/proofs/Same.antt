@@ -1,9 +1,10 @@
 -- What a coordinator's lanes stand for where room is made, and their header where a record is taken in.
 use Rattle.std.proofs.Common.{◌≡◌, ℕ, List, ap, ◌∙◌, sym, subst}
 use Rattle.cbdc_model.specs.Records.{Header, Record, txs_of, Genesis, Start}
+use Rattle.cbdc_model.specs.Due.{open_batch}
 use Rattle.coord_core.specs.Masks.{masks_of}
 use Rattle.coord_core.specs.Lanes.{CoordOf, IsOwnLane, IsSameButRoom, CoordTakes}
-use Rattle.coord_core.specs.Stands.{CoordStands, slot_batch}
+use Rattle.coord_core.specs.Stands.{CoordStands}
 
 -- a record that is taken in leaves the header
 pub takes_header : (c d : CoordOf) (r : Record) → CoordTakes c d r → d.header ≡ c.header
@@ -16,7 +17,7 @@ pub stands_same : (c d : CoordOf) (past : List Record) → IsSameButRoom c d →
 stands_same c d past same stands = record {
   last = same.last ∙ stands.last;
   slots = λ lane own. same.slots lane ∙ stands.slots lane (owned lane own);
-  masks = λ lane own phase. same.masks lane ∙ stands.masks lane (owned lane own) phase ∙ ap (λ h. masks_of h.shape.shards (txs_of past (slot_batch past lane))) (sym same.header);
+  masks = λ lane own phase. same.masks lane ∙ stands.masks lane (owned lane own) phase ∙ ap (λ h. masks_of h.shape.shards (txs_of past (open_batch past lane))) (sym same.header);
 }
   where
     owned : (lane : ℕ) → IsOwnLane d.header lane → IsOwnLane c.header lane

@@ -7,9 +7,10 @@ use Rattle.std.proofs.Math.Nat.{div-add-mod}
 use Rattle.std.specs.Prelude.{All}
 use Rattle.cbdc_model.specs.Records.{Header, Record, Batch, Compact, Outcome, same_batch, txs_of, Start, Prepare, Commit, Discard, Done}
 use Rattle.cbdc_model.specs.Slots.{Slot, slot, Idle, InPrepare, InCommit, InDiscard}
+use Rattle.cbdc_model.specs.Due.{open_batch}
 use Rattle.coord_core.specs.Masks.{masks_of}
 use Rattle.coord_core.specs.Lanes.{CoordOf, CoordLaneOf, no_lane, IsOwnLane, coord_lane, with_lane, with_prepared, CoordTakes, CoordAdmits, IsCoordWhole, IsIdleLane, IsFreshCoord}
-use Rattle.coord_core.specs.Stands.{CoordStands, slot_batch}
+use Rattle.coord_core.specs.Stands.{CoordStands}
 
 -- two lanes of one coordinator with one place are one lane
 pub same_lane : (n L p q : ℕ) → p / L ≡ n → q / L ≡ n → p % L ≡ q % L → p ≡ q
@@ -75,7 +76,7 @@ slots_set c d past r stamp lane l is stands own lt sets q own' =
 masks_kept : (c d : CoordOf) (past : List Record) (r : Record) (stamp lane : ℕ) (l : CoordLaneOf)
     → d ≡ record (with_lane c lane l) { last = stamp } → CoordStands c past → IsOwnLane c.header lane
     → Sets past r lane l.slot → ((b : Batch) → txs_of (r ∷ past) b ≡ txs_of past b) → (l.slot.phase ≡ InPrepare → ⊥)
-    → (q : ℕ) → IsOwnLane d.header q → (slot (r ∷ past) q).phase ≡ InPrepare → (coord_lane d q).masks ≡ masks_of d.header.shape.shards (txs_of (r ∷ past) (slot_batch (r ∷ past) q))
+    → (q : ℕ) → IsOwnLane d.header q → (slot (r ∷ past) q).phase ≡ InPrepare → (coord_lane d q).masks ≡ masks_of d.header.shape.shards (txs_of (r ∷ past) (open_batch (r ∷ past) q))
 masks_kept c d past r stamp lane l is stands own sets same never q own' phase =
     rw is (go (eqb_tells q lane))
   where
@@ -83,13 +84,13 @@ masks_kept c d past r stamp lane l is stands own sets same never q own' phase =
     own'' = let P : CoordOf → Type 0 = λ x. IsOwnLane x.header q in subst P is own'
 
     go : ((eqb q lane ≡ true) × (q ≡ lane)) ⊎ ((eqb q lane ≡ false) × (q ≢ lane))
-        → (coord_lane (with_lane c lane l) q).masks ≡ masks_of c.header.shape.shards (txs_of (r ∷ past) (slot_batch (r ∷ past) q))
+        → (coord_lane (with_lane c lane l) q).masks ≡ masks_of c.header.shape.shards (txs_of (r ∷ past) (open_batch (r ∷ past) q))
     go (inl (t, e)) = absurd (never (sym (ap (λ x. x.phase) sets.own) ∙ ap (λ x. (slot (r ∷ past) x).phase) (sym e) ∙ phase))
     go (inr (f, ne)) =
         ap (λ x. x.masks) (lane_kept c lane q l own own'' ne)
         ∙ stands.masks q own'' (ap (λ x. x.phase) (sym (sets.other q ne)) ∙ phase)
         ∙ ap (λ x. masks_of c.header.shape.shards (txs_of past (record { lane = q; number = x.number }))) (sym (sets.other q ne))
-        ∙ ap (masks_of c.header.shape.shards) (sym (same (slot_batch (r ∷ past) q)))
+        ∙ ap (masks_of c.header.shape.shards) (sym (same (open_batch (r ∷ past) q)))
 
 same_self : (b : Batch) → same_batch b b ≡ true
 same_self b = rw (eqb-self b.lane) (eqb-self b.number)
@@ -97,7 +98,7 @@ same_self b = rw (eqb-self b.lane) (eqb-self b.number)
 prepare_masks : (c d : CoordOf) (past : List Record) (stamp : ℕ) (b : Batch) (txs : List Compact)
     → d ≡ with_prepared c stamp b txs → CoordStands c past → IsOwnLane c.header b.lane → b.lane % c.header.shape.lanes < length c.lanes
     → (q : ℕ) → IsOwnLane d.header q → (slot (Prepare stamp b txs ∷ past) q).phase ≡ InPrepare
-    → (coord_lane d q).masks ≡ masks_of d.header.shape.shards (txs_of (Prepare stamp b txs ∷ past) (slot_batch (Prepare stamp b txs ∷ past) q))
+    → (coord_lane d q).masks ≡ masks_of d.header.shape.shards (txs_of (Prepare stamp b txs ∷ past) (open_batch (Prepare stamp b txs ∷ past) q))
 prepare_masks c d past stamp b txs is stands own lt q own' phase =
     rw is (go (eqb_tells q b.lane))
   where
@@ -110,13 +111,13 @@ prepare_masks c d past stamp b txs is stands own lt q own' phase =
     l : CoordLaneOf
     l = record (coord_lane c b.lane) { slot = record { number = b.number; phase = InPrepare }; masks = masks_of c.header.shape.shards txs }
 
-    here : txs_of (Prepare stamp b txs ∷ past) (slot_batch (Prepare stamp b txs ∷ past) b.lane) ≡ txs
+    here : txs_of (Prepare stamp b txs ∷ past) (open_batch (Prepare stamp b txs ∷ past) b.lane) ≡ txs
     here = rw (eqb-self b.lane) (rw (eqb-self b.number) refl)
 
     go : ((eqb q b.lane ≡ true) × (q ≡ b.lane)) ⊎ ((eqb q b.lane ≡ false) × (q ≢ b.lane))
-        → (coord_lane (with_prepared c stamp b txs) q).masks ≡ masks_of c.header.shape.shards (txs_of (Prepare stamp b txs ∷ past) (slot_batch (Prepare stamp b txs ∷ past) q))
+        → (coord_lane (with_prepared c stamp b txs) q).masks ≡ masks_of c.header.shape.shards (txs_of (Prepare stamp b txs ∷ past) (open_batch (Prepare stamp b txs ∷ past) q))
     go (inl (t, e)) =
-        let P : ℕ → Type 0 = λ x. (coord_lane (with_prepared c stamp b txs) x).masks ≡ masks_of c.header.shape.shards (txs_of (Prepare stamp b txs ∷ past) (slot_batch (Prepare stamp b txs ∷ past) x)) in
+        let P : ℕ → Type 0 = λ x. (coord_lane (with_prepared c stamp b txs) x).masks ≡ masks_of c.header.shape.shards (txs_of (Prepare stamp b txs ∷ past) (open_batch (Prepare stamp b txs ∷ past) x)) in
         subst P (sym e) (ap (λ x. x.masks) (lane_set c b.lane l lt) ∙ ap (masks_of c.header.shape.shards) (sym here))
     go (inr (f, ne)) =
         ap (λ x. x.masks) (lane_kept c b.lane q l own own'' ne)

@@ -1,19 +1,16 @@
 -- Which journals a coordinator's lanes stand for.
 use Rattle.std.specs.Prelude.{◌≡◌, ℕ, List, ◌∷◌}
-use Rattle.cbdc_model.specs.Records.{Record, Batch, last_stamp, txs_of}
+use Rattle.cbdc_model.specs.Records.{Record, last_stamp, txs_of}
 use Rattle.cbdc_model.specs.Slots.{slot, InPrepare}
+use Rattle.cbdc_model.specs.Due.{open_batch}
 use Rattle.coord_core.specs.Masks.{masks_of}
 use Rattle.coord_core.specs.Lanes.{CoordOf, IsOwnLane, CoordTakes, coord_lane, AllRoomed}
-
--- the batch that a lane's slot names
-abbrev pub slot_batch : List Record → ℕ → Batch
-slot_batch J lane = record { lane = lane; number = (slot J lane).number }
 
 -- the coordinator is as this journal, newest first, leaves it
 pub record CoordStands (c : CoordOf) (J : List Record) : Type 0 where
   pub last : c.last ≡ last_stamp J
   pub slots : (lane : ℕ) → IsOwnLane c.header lane → (coord_lane c lane).slot ≡ slot J lane
-  pub masks : (lane : ℕ) → IsOwnLane c.header lane → (slot J lane).phase ≡ InPrepare → (coord_lane c lane).masks ≡ masks_of c.header.shape.shards (txs_of J (slot_batch J lane))
+  pub masks : (lane : ℕ) → IsOwnLane c.header lane → (slot J lane).phase ≡ InPrepare → (coord_lane c lane).masks ≡ masks_of c.header.shape.shards (txs_of J (open_batch J lane))
 
 -- the coordinator is as this journal leaves it, and its prepared batches have room for their outcomes
 pub record IsRoomyFor (c : CoordOf) (J : List Record) : Type 0 where

@@ -11,7 +11,8 @@ use cbdc_types::{Hash, Outcome, Reply, ShardReplies};
 // The outcome with one shard's reply, given that of the greater shards.
 fn outcome_with(shard: u32, reply: &Reply, rest: Outcome) -> Outcome
     ensures value { result ≡ outcome_by (Some reply.now) shard rest }
-    ensures grammar { (K : Shape) → shard < K.shards → NamesBatch K reply.now → IsOutcome K rest → IsOutcome K result }
+    ensures grammar { (K : Shape) → shard < K.shards → NamesBatch K reply.now → IsOutcome K rest
+        → IsOutcome K result }
 {
     match *reply {
         Reply::Held => rest,
@@ -26,7 +27,8 @@ fn tell(shard: u32, masks: &[u64], replies: &[Reply], outcomes: &mut Vec<Outcome
     requires same_length { vec_len outcomes.old ≡ length masks.now }
     ensures items { outcomes.new.items ≡ replied_outcomes shard masks.now replies.now outcomes.old.items }
     ensures same_length { vec_len outcomes.new ≡ length masks.now }
-    ensures grammar { (K : Shape) → shard < K.shards → All (NamesBatch K) replies.now → All (IsOutcome K) outcomes.old.items → All (IsOutcome K) outcomes.new.items }
+    ensures grammar { (K : Shape) → shard < K.shards → All (NamesBatch K) replies.now
+        → All (IsOutcome K) outcomes.old.items → All (IsOutcome K) outcomes.new.items }
 {
     let mut next = 0;
     for k in 0..masks.len() {
@@ -43,7 +45,8 @@ pub(crate) fn combine(masks: &[u64], replies: &[ShardReplies], outcomes: &mut Ve
     requires room { length masks.now ≤ vec_capacity outcomes.old }
     requires rising { ShardsRise 0 64 replies.now }
     ensures value { outcomes.new.items ≡ combined_outcomes masks.now replies.now }
-    ensures grammar { (K : Shape) → ShardsRise 0 K.shards replies.now → AllNameBatches K replies.now → All (IsOutcome K) outcomes.new.items }
+    ensures grammar { (K : Shape) → ShardsRise 0 K.shards replies.now → AllNameBatches K replies.now
+        → All (IsOutcome K) outcomes.new.items }
 {
     for _ in masks {
         outcomes.push_reserved(Outcome::Held);

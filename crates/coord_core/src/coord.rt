@@ -86,7 +86,8 @@ impl CoordCore {
     /// Where a lane stands. One of another coordinator has no batch here.
     pub fn phase(&self, lane: LaneId) -> LanePhase
         ensures own { IsOwnLane self.now.header lane → slot_of result ≡ (coord_lane self.now lane).slot }
-        ensures other { home_of self.now.header.shape lane ≢ self.now.header.node → slot_of result ≡ no_lane.slot }
+        ensures other { home_of self.now.header.shape lane ≢ self.now.header.node
+            → slot_of result ≡ no_lane.slot }
         ensures whole { IsCoordWhole self.now }
     {
         let _ = &self.lanes;
@@ -116,7 +117,8 @@ impl CoordCore {
         requires idle { (coord_lane self.old lane).slot.phase ≡ Idle }
         requires some { 1 ≤ length txs.now }
         requires limit { length txs.now ≤ self.old.header.shape.batch }
-        ensures record { IfOk result (λ r. r ≡ Prepare (self.old.last + 1) (next_core_batch self.old lane) txs.now) }
+        ensures record { IfOk result
+            (λ r. r ≡ Prepare (self.old.last + 1) (next_core_batch self.old lane) txs.now) }
         ensures same { IsSameButRoom self.old self.new }
         ensures grown { HasNoLessRoom self.old self.new }
         ensures room { OnOk result (HasLaneRoom self.new lane (length txs.now)) }
@@ -162,20 +164,25 @@ impl CoordCore {
         requires room { HasLaneRoom self.old lane (length (coord_lane self.old lane).masks) }
         requires rising { ShardsRise 0 self.old.header.shape.shards replies.now }
         requires earlier { StampsBelow (2 ^ 63) replies.now }
-        ensures record { result ≡ Commit (suc (latest_reply self.old.last replies.now)) (core_batch self.old lane) (combined_outcomes (coord_lane self.old lane).masks replies.now) }
+        ensures record { result ≡ Commit (suc (latest_reply self.old.last replies.now))
+            (core_batch self.old lane) (combined_outcomes (coord_lane self.old lane).masks replies.now) }
         ensures same { IsSameButRoom self.old self.new }
         ensures others { KeepsOtherRooms self.old self.new lane }
         ensures whole { IsCoordWhole self.new }
 
         // It is what becomes of these transactions, if the replies are to their parts.
-        ensures decided { (txs : List Compact) → (coord_lane self.old lane).masks ≡ masks_of self.old.header.shape.shards txs → AreRepliesTo self.old.header.shape txs replies.now
-            → result ≡ Commit (suc (max self.old.last (reply_cause self.old.header.shape replies.now))) (core_batch self.old lane) (decided self.old.header.shape txs replies.now) }
+        ensures decided { (txs : List Compact) → (coord_lane self.old lane).masks
+            ≡ masks_of self.old.header.shape.shards txs → AreRepliesTo self.old.header.shape txs replies.now
+            → result ≡ Commit (suc (max self.old.last (reply_cause self.old.header.shape replies.now)))
+            (core_batch self.old lane) (decided self.old.header.shape txs replies.now) }
 
         // Its outcomes are in the grammar.
-        ensures outcomes { AllNameBatches self.old.header.shape replies.now → All (IsOutcome self.old.header.shape) (outcomes_in (Some result)) }
+        ensures outcomes { AllNameBatches self.old.header.shape replies.now
+            → All (IsOutcome self.old.header.shape) (outcomes_in (Some result)) }
 
         // It may be taken in.
-        ensures next { suc (latest_reply self.old.last replies.now) ≤ 2 ^ 62 + 2 ^ 20 → CoordAdmits self.new result }
+        ensures next { suc (latest_reply self.old.last replies.now) ≤ 2 ^ 62 + 2 ^ 20
+            → CoordAdmits self.new result }
     {
         let _ = &self.lanes;
         let stamp = self.commit_stamp(replies);
@@ -241,7 +248,8 @@ impl CoordCore {
         requires rising { ShardsRise 0 64 replies.now }
         ensures whole { IsCoordWhole self.new }
         ensures value { result ≡ combined_outcomes (coord_lane self.old lane).masks replies.now }
-        ensures grammar { (K : Shape) → ShardsRise 0 K.shards replies.now → AllNameBatches K replies.now → All (IsOutcome K) result }
+        ensures grammar { (K : Shape) → ShardsRise 0 K.shards replies.now → AllNameBatches K replies.now
+            → All (IsOutcome K) result }
         ensures same { IsSameButRoom self.old self.new }
         ensures others { KeepsOtherRooms self.old self.new lane }
     {
@@ -337,10 +345,12 @@ impl CoordCore {
     /// number one more than the last, a Commit behind it with as many outcomes, a Discard behind the Commit, a Done
     /// behind the Discard; on lanes of this coordinator, with stamps that rise. The memory to take it in is taken then.
     pub fn admit(&mut self, next: &Record) -> Result<bool, AllocError>
-        ensures next { IfOk result (λ b. IsTrue b ↔ (IsInGrammar self.old.header next.now × IsCoordNext self.old next.now)) }
+        ensures next { IfOk result (λ b. IsTrue b
+            ↔ (IsInGrammar self.old.header next.now × IsCoordNext self.old next.now)) }
 
         // It is next just where it may come behind the journal that the lanes stand for.
-        ensures after { IfOk result (λ b. (J : List AnyRecord) → CoordStands self.old J → J ≢ [] → (IsTrue b ↔ After self.old.header J next.now)) }
+        ensures after { IfOk result (λ b. (J : List AnyRecord) → CoordStands self.old J → J ≢ []
+            → (IsTrue b ↔ After self.old.header J next.now)) }
         ensures same { IsSameButRoom self.old self.new }
         ensures grown { HasNoLessRoom self.old self.new }
         ensures room { IfOk result (λ b. IsTrue b → CoordAdmits self.new next.now) }
@@ -356,7 +366,8 @@ impl CoordCore {
     pub(crate) fn admit_known(&mut self, next: &Record) -> Result<bool, AllocError>
         requires { IsInGrammar self.old.header next.now }
         ensures next { IfOk result (λ b. IsTrue b ↔ IsCoordNext self.old next.now) }
-        ensures after { IfOk result (λ b. (J : List AnyRecord) → CoordStands self.old J → J ≢ [] → (IsTrue b ↔ After self.old.header J next.now)) }
+        ensures after { IfOk result (λ b. (J : List AnyRecord) → CoordStands self.old J → J ≢ []
+            → (IsTrue b ↔ After self.old.header J next.now)) }
         ensures same { IsSameButRoom self.old self.new }
         ensures grown { HasNoLessRoom self.old self.new }
         ensures room { IfOk result (λ b. IsTrue b → CoordAdmits self.new next.now) }
@@ -424,7 +435,8 @@ impl CoordCore {
         ensures whole { IsCoordWhole self.old }
 
         // The lanes are then as the journal with the record leaves them.
-        ensures stands { (past : List AnyRecord) → CoordStands self.old past → CoordStands self.new (r.now ∷ past) }
+        ensures stands { (past : List AnyRecord) → CoordStands self.old past
+            → CoordStands self.new (r.now ∷ past) }
     {
         self.take(r);
     }

@@ -108,7 +108,8 @@ impl Lane {
         requires room { length self.old.masks ≤ self.old.room }
         requires rising { ShardsRise 0 64 replies.now }
         ensures outcomes { result.items ≡ combined_outcomes self.old.masks replies.now }
-        ensures grammar { (K : Shape) → ShardsRise 0 K.shards replies.now → AllNameBatches K replies.now → All (IsOutcome K) result.items }
+        ensures grammar { (K : Shape) → ShardsRise 0 K.shards replies.now → AllNameBatches K replies.now
+            → All (IsOutcome K) result.items }
         ensures slot { self.new.slot ≡ self.old.slot }
         ensures masks { self.new.masks ≡ self.old.masks }
     {

@@ -72,10 +72,12 @@ impl<D: Disk> CoordLog<D> {
         // A record is in flight exactly where an append has failed since, and it had room.
         ensures landed { self.now.broken ≡ None → self.now.flight ≡ None }
         ensures unbroken { self.now.flight ≡ None → self.now.broken ≡ None }
-        ensures fits { IfSome self.now.flight (λ r. used_of self.now.journal + need_of self.now.header.shape self.now.journal r ≤ self.now.capacity) }
+        ensures fits { IfSome self.now.flight (λ r.
+            used_of self.now.journal + need_of self.now.header.shape self.now.journal r ≤ self.now.capacity) }
 
         // What its journal takes, with what is kept for its open batches, lies within the capacity.
-        ensures room { used_of self.now.journal + kept_room self.now.header.shape self.now.journal ≤ self.now.capacity }
+        ensures room { used_of self.now.journal + kept_room self.now.header.shape self.now.journal
+            ≤ self.now.capacity }
     {
         let _core = self.core.header();
         &self.log.header
@@ -136,7 +138,8 @@ impl<D: Disk> CoordLog<D> {
         requires short { All HasShortLists txs.now }
 
         // It does what the journal says, or wants memory.
-        ensures meets { Meets true (prepare_due self.old.header.shape self.old.capacity lane txs.now self.old.broken self.old.journal) (sight self.old) (sight self.new) self.old.journal result }
+        ensures meets { Meets true (prepare_due self.old.header.shape self.old.capacity lane txs.now
+            self.old.broken self.old.journal) (sight self.old) (sight self.new) self.old.journal result }
         ensures broken { self.new.broken ≡ broken_behind result self.new.faults self.old.broken }
         ensures journal { IsJournal self.new.header self.new.journal }
         ensures header { self.new.header ≡ self.old.header }
@@ -187,20 +190,27 @@ impl<D: Disk> CoordLog<D> {
         requires rising { ShardsRise 0 self.old.header.shape.shards replies.now }
         requires earlier { StampsBelow (2 ^ 63) replies.now }
         requires named { AllNameBatches self.old.header.shape replies.now }
-        requires room { length (txs_of self.old.journal (open_batch self.old.journal lane)) ≤ vec_capacity out.old }
+        requires room { length (txs_of self.old.journal (open_batch self.old.journal lane))
+            ≤ vec_capacity out.old }
 
         // It does what the journal and the replies say, if each shard replied to its part.
-        ensures meets { AreRepliesTo self.old.header.shape (txs_of self.old.journal (open_batch self.old.journal lane)) replies.now
-            → Meets false (decide_due self.old.header.shape lane replies.now self.old.broken self.old.journal) (sight self.old) (sight self.new) self.old.journal result }
+        ensures meets { AreRepliesTo self.old.header.shape
+            (txs_of self.old.journal (open_batch self.old.journal lane)) replies.now
+            → Meets false (decide_due self.old.header.shape lane replies.now self.old.broken self.old.journal)
+            (sight self.old) (sight self.new) self.old.journal result }
         // Whatever they replied, a fault is its disk's, or has its cause in the stamp that follows theirs.
-        ensures fault { IfErr result (λ f. (r : Record) × MeetsFault false (commit_due self.old.header.shape replies.now r self.old.broken self.old.journal) (sight self.old) (sight self.new) self.old.journal f) }
+        ensures fault { IfErr result (λ f. (r : Record) × MeetsFault false
+            (commit_due self.old.header.shape replies.now r self.old.broken self.old.journal)
+            (sight self.old) (sight self.new) self.old.journal f) }
         ensures as_before { OnErr result (self.new.journal ≡ self.old.journal) }
         // A record that it leaves in flight is of the lane.
         ensures own { IfSome self.new.flight (λ r. (self.old.flight ≡ Some r) ⊎ (is_in_lane lane r ≡ true)) }
         ensures whole { OnOk result (self.old.broken ≡ None) }
-        ensures appended { IfOk result (λ t. self.new.journal ≡ Commit t (open_batch self.old.journal lane) out.new.items ∷ self.old.journal) }
+        ensures appended { IfOk result (λ t.
+            self.new.journal ≡ Commit t (open_batch self.old.journal lane) out.new.items ∷ self.old.journal) }
         ensures bound { IfOk result (λ t. t ≤ 2 ^ 62 + 2 ^ 20) }
-        ensures count { OnOk result (length out.new.items ≡ length (txs_of self.old.journal (open_batch self.old.journal lane))) }
+        ensures count { OnOk result (length out.new.items
+            ≡ length (txs_of self.old.journal (open_batch self.old.journal lane))) }
         ensures node { IsSameNode (sight self.old) (sight self.new) }
         ensures broken { self.new.broken ≡ broken_behind result self.new.faults self.old.broken }
         ensures journal { IsJournal self.new.header self.new.journal }
@@ -236,7 +246,8 @@ impl<D: Disk> CoordLog<D> {
         requires own { IsOwnLane self.old.header lane }
         requires committed { (slot self.old.journal lane).phase ≡ InCommit }
         requires cause { cause < 2 ^ 63 }
-        ensures meets { Meets false (discard_due lane cause self.old.broken self.old.journal) (sight self.old) (sight self.new) self.old.journal result }
+        ensures meets { Meets false (discard_due lane cause self.old.broken self.old.journal)
+            (sight self.old) (sight self.new) self.old.journal result }
         ensures broken { self.new.broken ≡ broken_behind result self.new.faults self.old.broken }
         ensures journal { IsJournal self.new.header self.new.journal }
         ensures header { self.new.header ≡ self.old.header }
@@ -270,7 +281,8 @@ impl<D: Disk> CoordLog<D> {
         requires own { IsOwnLane self.old.header lane }
         requires discarded { (slot self.old.journal lane).phase ≡ InDiscard }
         requires cause { cause < 2 ^ 63 }
-        ensures meets { Meets false (done_due lane cause self.old.broken self.old.journal) (sight self.old) (sight self.new) self.old.journal result }
+        ensures meets { Meets false (done_due lane cause self.old.broken self.old.journal)
+            (sight self.old) (sight self.new) self.old.journal result }
         ensures broken { self.new.broken ≡ broken_behind result self.new.faults self.old.broken }
         ensures journal { IsJournal self.new.header self.new.journal }
         ensures header { self.new.header ≡ self.old.header }

@@ -27,19 +27,23 @@ impl<D: Disk> CoordLog<D> {
     /// Out of memory: the disk comes back as it was read.
     pub fn open(alloc: Global, disk: D) -> Result<CoordLog<D>, (D, NodeOpenFault)>
         // The content opens to just this journal, and a crash leaves nothing else.
-        ensures opens { IfOk result (λ l. Tells (D.content disk) (λ c. IsCoordJournal l.header l.journal c × HoldsJournal D.Disk l)) }
+        ensures opens { IfOk result
+            (λ l. Tells (D.content disk) (λ c. IsCoordJournal l.header l.journal c × HoldsJournal D.Disk l)) }
         ensures journal { IfOk result (λ l. IsJournal l.header l.journal) }
         ensures coordinator { IfOk result (λ l. IsCoord l.header) }
 
         // Its bytes, with those that are kept for its open batches, lie within the capacity.
-        ensures room { IfOk result (λ l. used_of l.journal + kept_room l.header.shape l.journal ≤ l.capacity) }
+        ensures room { IfOk result
+            (λ l. used_of l.journal + kept_room l.header.shape l.journal ≤ l.capacity) }
 
         // Which refusal it is.
         ensures refusal { IfErr result (λ e. Tells (D.content disk) (λ c. IsNoCoord (D.limit disk) c e.1)) }
         ensures fresh { IfOk result (λ l. (l.flight ≡ None) × (l.broken ≡ None) × (l.opened ≡ l.faults)) }
         ensures later { MatchResult result (λ l. D.count disk ≤ l.faults) (λ e. D.count disk ≤ D.count e.0) }
-        ensures fault { IfErr result (λ e. e.1 ≡ NodeOpenFault.DiskFault → Rose (D.count disk) (D.count e.0)) }
-        ensures limit { MatchResult result (λ l. l.capacity ≡ D.limit disk) (λ e. D.limit e.0 ≡ D.limit disk) }
+        ensures fault { IfErr result (λ e. e.1 ≡ NodeOpenFault.DiskFault
+            → Rose (D.count disk) (D.count e.0)) }
+        ensures limit { MatchResult result
+            (λ l. l.capacity ≡ D.limit disk) (λ e. D.limit e.0 ≡ D.limit disk) }
         ensures shows { IfOk result (λ l. (l.faults ≡ D.count l.disk) × (l.capacity ≡ D.limit l.disk)) }
 
         // Unless it failed, the disk reads as before, and a crash may leave nothing more than before.

@@ -33,12 +33,16 @@ pub(crate) fn write<D: Disk>(
     next: Record,
 ) -> Result<(), NodeFault>
     requires { IsDue log.old core.old flight.old next }
-    ensures told { (opened : ℕ) → MatchResult result
-        (λ _. Appends (sight (shown log.old opened flight.old)) (sight (shown log.new opened flight.new)) (reverse log.old.records.items) next)
-        (λ e. (e ≡ NodeFault.DiskFault) × Fails (sight (shown log.old opened flight.old)) (sight (shown log.new opened flight.new)) (reverse log.old.records.items) next) }
-    ensures sound { (opened : ℕ) → opened ≤ D.count (disk_of log.old.journal) → IsCoordSound log.new core.new opened flight.new }
-    ensures broken { MatchResult result (λ _. broken_of log.new.journal ≡ None) (λ _. broken_of log.new.journal ≡ Option.Some (D.count (disk_of log.new.journal))) }
-    ensures holds { (opened : ℕ) → HoldsJournal D.Disk (shown log.old opened flight.old) → HoldsJournal D.Disk (shown log.new opened flight.new) }
+    ensures told { (opened : ℕ) → MatchResult result (λ _. Appends (sight (shown log.old opened flight.old))
+        (sight (shown log.new opened flight.new)) (reverse log.old.records.items) next)
+        (λ e. (e ≡ NodeFault.DiskFault) × Fails (sight (shown log.old opened flight.old))
+        (sight (shown log.new opened flight.new)) (reverse log.old.records.items) next) }
+    ensures sound { (opened : ℕ) → opened ≤ D.count (disk_of log.old.journal)
+        → IsCoordSound log.new core.new opened flight.new }
+    ensures broken { MatchResult result (λ _. broken_of log.new.journal ≡ None)
+        (λ _. broken_of log.new.journal ≡ Option.Some (D.count (disk_of log.new.journal))) }
+    ensures holds { (opened : ℕ) → HoldsJournal D.Disk (shown log.old opened flight.old)
+        → HoldsJournal D.Disk (shown log.new opened flight.new) }
     ensures leaves { (opened : ℕ) → HoldsJournal D.Disk (shown log.old opened flight.old)
         → LeavesBetween D.Disk (shown log.old opened flight.old) (shown log.new opened flight.new) }
     ensures journal { IsJournal log.new.header (reverse log.new.records.items) }
@@ -64,9 +68,12 @@ pub(crate) fn make_room<D: Disk>(
     ensures records { log.new.records.items ≡ log.old.records.items }
     ensures untouched { IsUntouched log.old log.new }
     ensures keeps { KeepsRoom log.old log.new }
-    ensures room { OnOk result (HasLogRoom log.new (ahead_of core.now.lanes + 4) size × HasLogRoom log.new (ahead_of core.now.lanes + 4) largest) }
-    ensures space { OnOk result (gate_of log.old.journal + 1 + (size + room_behind_prepare count + kept_of core.now.lanes) ≤ D.limit (disk_of log.old.journal)) }
-    ensures refusal { IfErr result (λ e. IsNoRoom (gate_of log.old.journal + 1) (size + room_behind_prepare count + kept_of core.now.lanes) (D.limit (disk_of log.old.journal)) e) }
+    ensures room { OnOk result (HasLogRoom log.new (ahead_of core.now.lanes + 4) size
+        × HasLogRoom log.new (ahead_of core.now.lanes + 4) largest) }
+    ensures space { OnOk result (gate_of log.old.journal + 1
+        + (size + room_behind_prepare count + kept_of core.now.lanes) ≤ D.limit (disk_of log.old.journal)) }
+    ensures refusal { IfErr result (λ e. IsNoRoom (gate_of log.old.journal + 1)
+        (size + room_behind_prepare count + kept_of core.now.lanes) (D.limit (disk_of log.old.journal)) e) }
 {
     let used = log.used();
     let need = size + BEHIND_PREPARE + OUTCOME * count as u64 + core.kept_room();

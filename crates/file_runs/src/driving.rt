@@ -76,13 +76,17 @@ pub(crate) fn drive_resume<W: Wait, D: Disk, G: Gate>(
 ) -> Result<ResumedBatch, LaneFault>
     requires ledger { IsLedger header.now ports.old.log.logs.items ports.old.shards.nodes.items }
     requires lane { IsLaneOf header.now.shape lane }
-    requires told { open_lane (sight_at sight ports.old.log.logs.items (home_of header.now.shape lane)).seen lane ≡ Some unfinished.now }
+    requires told { open_lane (sight_at sight ports.old.log.logs.items
+        (home_of header.now.shape lane)).seen lane ≡ Some unfinished.now }
     requires plan { plan ≡ record { shape = header.now.shape; lanes = unfinished.now ∷ [] } }
-    requires checked { HaveCheckedJournals header.now.shape ports.old.log.logs.items ports.old.shards.nodes.items }
-    ensures step { IsStep D.Disk header.now lane ports.old.log.logs.items ports.old.shards.nodes.items ports.new.log.logs.items ports.new.shards.nodes.items }
-    ensures outcome { LaneResumes header.now.shape lane unfinished.now result
-        ports.old.log.logs.items ports.old.shards.nodes.items ports.new.log.logs.items ports.new.shards.nodes.items }
-    ensures idle { OnOk result (lane_phase header.now.shape (node_journals header.now.shape ports.new.log.logs.items ports.new.shards.nodes.items) lane ≡ Idle) }
+    requires checked { HaveCheckedJournals
+        header.now.shape ports.old.log.logs.items ports.old.shards.nodes.items }
+    ensures step { IsStep D.Disk header.now lane ports.old.log.logs.items
+        ports.old.shards.nodes.items ports.new.log.logs.items ports.new.shards.nodes.items }
+    ensures outcome { LaneResumes header.now.shape lane unfinished.now result ports.old.log.logs.items
+        ports.old.shards.nodes.items ports.new.log.logs.items ports.new.shards.nodes.items }
+    ensures idle { OnOk result (lane_phase header.now.shape
+        (node_journals header.now.shape ports.new.log.logs.items ports.new.shards.nodes.items) lane ≡ Idle) }
 {
     ports.log.at = home(&header.shape, lane);
     ports.shards.lane = lane;

@@ -172,7 +172,8 @@ fn run_beside<
         thread::scope_env(),
         rt,
         move |scope|
-            requires { IsSync W.row × IsSend D.row × IsSync V.row × IsSend F.row × IsSync F.row × IsSync G.row }
+            requires { IsSync W.row
+                × IsSend D.row × IsSync V.row × IsSend F.row × IsSync F.row × IsSync G.row }
         {
             'feeders: for feeder in feeders {
                 let _ = scope.spawn(move || feed(rt, alloc, &shape, file, feeder, gate));

@@ -51,8 +51,10 @@ fn wave_room<'a, W: Wait, V: Verifier, F: Deals>(
     alloc: Global,
     file: &FileOf<'a, V, F>,
 ) -> Result<WaveRoom<'a, W, V, F>, AllocError>
-    ensures sources { IfOk result (λ r. (r.sources.items ≡ []) × (count_of_lanes F.shape ≤ vec_capacity r.sources)) }
-    ensures lanes { IfOk result (λ r. (r.lanes.items ≡ []) × (count_of_lanes F.shape ≤ vec_capacity r.lanes)) }
+    ensures sources { IfOk result (λ r. (r.sources.items ≡ [])
+        × (count_of_lanes F.shape ≤ vec_capacity r.sources)) }
+    ensures lanes { IfOk result (λ r. (r.lanes.items ≡ [])
+        × (count_of_lanes F.shape ≤ vec_capacity r.lanes)) }
     ensures checked { IfOk result (λ r. (r.checked.items ≡ []) × (length F.file ≤ vec_capacity r.checked)) }
 {
     Ok(WaveRoom {

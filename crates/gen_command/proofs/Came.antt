@@ -12,7 +12,7 @@ use Rattle.cbdc_model.specs.Coins.{Output, FullTx, genesis_id}
 use Rattle.cbdc_model.specs.Due.{used_of}
 use Rattle.cbdc_model.specs.History.{header_of}
 use Rattle.cbdc_model.specs.Lanes.{IsEnd}
-use Rattle.cbdc_model.specs.Ranges.{home_of}
+use Rattle.cbdc_model.specs.Ranges.{home_of, node_count}
 use Rattle.cbdc_model.specs.Slots.{slot}
 use Rattle.cbdc_model.specs.World.{KeptJournals, AreIdle}
 use Rattle.mem_devices.specs.declared.plain_disk.PlainDisk.{PlainDisk}
@@ -32,7 +32,7 @@ use Rattle.audit.specs.declared.verdict.Verdict.TheVariants.{Sound, Unsound}
 use Rattle.audit.specs.Verdicts.{IsVerdict}
 use Rattle.rack_ledgers.specs.Caused.{IsToldHistory}
 use Rattle.rack_ledgers.specs.Audited.{IsAudited}
-use Rattle.rack_laws.specs.Shown.{Shows, HoldsEach, node_count}
+use Rattle.rack_laws.specs.Shown.{Shows, HoldsEach}
 use Rattle.rack_ledgers.specs.Racked.{SameRoom}
 use Rattle.rack_runs.specs.Runs.{file_turns}
 use Rattle.rack_runs.specs.Stops.{WhyNoTurns}

@@ -8,7 +8,7 @@ use Rattle.sha2.proofs.Facts256.{length-sha256}
 use Rattle.cbdc_types.specs.Limits.{IsWithinLimits}
 use Rattle.cbdc_model.specs.Records.{Digest, Shape, Header, Record, Row, journal, Genesis, Start}
 use Rattle.cbdc_model.specs.Coins.{Output, Coin, FullTx, coin_hash, made_coins, id_of, genesis_id, genesis_hashes}
-use Rattle.cbdc_model.specs.Ranges.{shard_of, shard_node, on_shard}
+use Rattle.cbdc_model.specs.Ranges.{shard_of, shard_node, on_shard, node_count}
 use Rattle.cbdc_model.specs.Grammar.{IsHash, AreHere}
 use Rattle.cbdc_model.specs.After.{After, IsJournal}
 use Rattle.cbdc_model.specs.Clean.{IsProperCompact}
@@ -19,7 +19,7 @@ use Rattle.ledger_laws.proofs.Ledger.{steady}
 use Rattle.run_laws.proofs.Rests.{none_beyond}
 use Rattle.record_log.specs.Held.{OpensTo}
 use Rattle.ledger_init.specs.Made.{HoldsFirst, first_record_of}
-use Rattle.rack_laws.specs.Shown.{Shows, node_count}
+use Rattle.rack_laws.specs.Shown.{Shows}
 use Rattle.submission_laws.specs.Files.{mint_journals}
 
 -- ---- first records are of the grammar

@@ -20,7 +20,7 @@ use Rattle.rack_laws.specs.Ready.{limit_at}
 use Rattle.rack_laws.specs.Small.{AreSmall, AllSmall}
 use Rattle.rack_laws.proofs.Small.{new_room}
 use Rattle.gen_command.specs.Generated.{all_good, files_of}
-use Rattle.cbdc_model.specs.Ranges.{on_shard}
+use Rattle.cbdc_model.specs.Ranges.{on_shard, node_count}
 use Rattle.cbdc_model.specs.Room.{size_of}
 use Rattle.mem_devices.specs.declared.plain_disk.PlainDisk.{PlainDisk}
 use Rattle.mem_devices.specs.declared.plain_rack.PlainRack.{PlainRack}
@@ -29,7 +29,7 @@ use Rattle.mem_devices.specs.PlainRacks.{NoPlainDiskOut, IsEmptyAt, disk_at, pla
 use Rattle.record_log.specs.Bodies.{body_of}
 use Rattle.gate_journal.specs.Rows.{row}
 use Rattle.rack_ledgers.specs.Blank.{IsInUse}
-use Rattle.ledger_init.specs.Made.{node_count, first_record_of, IsUnmade}
+use Rattle.ledger_init.specs.Made.{first_record_of, IsUnmade}
 use Rattle.workload.specs.Generator.{coin, coin_value, mint_of, minted_of, joined_of, split_of, join_of}
 use Rattle.gen_command.specs.InMemory.{AreDisksReady, HaveRoomForFiles}
 use Rattle.gen_command.proofs.FirstShown.{on_length, made_length}

@@ -13,7 +13,8 @@ use Rattle.mem_devices.specs.PlainRacks.{disk_at, plain}
 use Rattle.run_laws.specs.Ample.{Ample}
 use Rattle.submissions.specs.SoundTest.{sound_by}
 use Rattle.rack_laws.specs.Ready.{limit_at}
-use Rattle.ledger_init.specs.Made.{node_count, first_record_of}
+use Rattle.cbdc_model.specs.Ranges.{node_count}
+use Rattle.ledger_init.specs.Made.{first_record_of}
 use Rattle.audit.specs.declared.verdict.Totals.{Totals}
 use Rattle.audit.specs.declared.verdict.Verdict.TheVariants.{Sound}
 use Rattle.rack_ledgers.specs.Audited.{IsAudited}

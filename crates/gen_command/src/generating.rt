@@ -8,7 +8,7 @@ ghost use Rattle.gen_command.specs.InMemory.{AreDisksReady, HaveRoomForFiles, Te
 ghost use Rattle.command_answers.specs.Texts.{IsPrinted, IsSilent};
 ghost use Rattle.file_runs.specs.Runs.{joined as all_joined};
 ghost use Rattle.input_files.specs.Limits.{IsShort};
-ghost use Rattle.ledger_init.specs.Made.{node_count};
+ghost use Rattle.cbdc_model.specs.Ranges.{node_count};
 ghost use Rattle.mem_devices.specs.PlainRacks.{NoPlainDiskOut, IsEmptyAt};
 ghost use Rattle.workload.specs.Generator.{mint_of};
 

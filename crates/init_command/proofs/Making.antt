@@ -8,7 +8,8 @@ use Rattle.cbdc_model.specs.Coins.{Output, genesis_id}
 use Rattle.cbdc_model.specs.Clean.{value_out}
 use Rattle.requests.specs.declared.FileWord.{FileWord}
 use Rattle.input_files.specs.Contents.{mint_of_file}
-use Rattle.ledger_init.specs.Made.{MayBeMade, HasPlaceFor, HoldsFirst, first_record_of, node_count}
+use Rattle.cbdc_model.specs.Ranges.{node_count}
+use Rattle.ledger_init.specs.Made.{MayBeMade, HasPlaceFor, HoldsFirst, first_record_of}
 use Rattle.ledger_init.specs.declared.making.Made.{Made}
 use Rattle.line_text.specs.Lines.{Text, init_text}
 use Rattle.cbdc_model.specs.History.{minted}

@@ -11,7 +11,8 @@ use Rattle.record_log.specs.Held.{OpensTo}
 use Rattle.requests.specs.declared.FileWord.{FileWord}
 use Rattle.command_answers.specs.Scene.{Disks, Scene}
 use Rattle.input_files.specs.Contents.{mint_of_file, IsNotRead}
-use Rattle.ledger_init.specs.Made.{MayBeMade, HasPlaceFor, HoldsFirst, first_record_of, node_count, IsUnmade, AreDisksLeft}
+use Rattle.cbdc_model.specs.Ranges.{node_count}
+use Rattle.ledger_init.specs.Made.{MayBeMade, HasPlaceFor, HoldsFirst, first_record_of, IsUnmade, AreDisksLeft}
 use Rattle.printed_lines.specs.Reports.{init_lines}
 use Rattle.rack_ledgers.specs.Racked.{OfTold, SameRoom}
 use Rattle.submission_laws.specs.Files.{mint_journals}

@@ -5,7 +5,7 @@ use Rattle.cbdc_types.specs.declared.answer.Answer.{Answer}
 use Rattle.cbdc_types.specs.declared.answer.Answer.TheVariants as answers
 use Rattle.cbdc_types.specs.declared.tx.FullTx.{FullTx}
 use Rattle.client_files.specs.Files.{GivesFile, clients_in}
-use Rattle.client_files.specs.Streams.{Stops, Holds}
+use Rattle.client_files.specs.Streams.{Stops, FileHolds}
 use Rattle.client_files.specs.declared.fault.StreamFault.{StreamFault}
 use Rattle.client_files.specs.declared.fault.StreamFault.TheVariants as stream_fault
 use Rattle.client_files.specs.declared.fault.BadFile.{BadFile}
@@ -47,10 +47,10 @@ unfetched place told read before now answers.WriteFault h = h
 unfetched place told read before now (answers.DiskFault node) h = h
 
 -- what a client file holds is read of it
-pub held : (told : Option (List ℕ)) (before : ℕ) (r : Result (List FullTx) BadFile) → Holds told before r → Tells told (λ c. txs_of_file before c ≡ r)
+pub held : (told : Option (List ℕ)) (before : ℕ) (r : Result (List FullTx) BadFile) → FileHolds told before r → Tells told (λ c. txs_of_file before c ≡ r)
 held told before r h c e = subst (λ b. clients_in before (goes_on c) b ≡ r) (h.whole c e).0 (subst (λ m. clients_in before m h.bytes ≡ r) (h.whole c e).1 h.is)
 
-pub stream_not_read : (place : ℕ) (told : Option (List ℕ)) (before old now : ℕ) (fault : StreamFault) (answer : Answer) → IsStreamFaultOf place fault answer → Stops (λ bad. Holds told before (Err bad)) old now fault
+pub stream_not_read : (place : ℕ) (told : Option (List ℕ)) (before old now : ℕ) (fault : StreamFault) (answer : Answer) → IsStreamFaultOf place fault answer → Stops (λ bad. FileHolds told before (Err bad)) old now fault
     → IsNotRead place told (txs_of_file before) old now answer
 stream_not_read place told before old now (stream_fault.Bad bad) answer is stops =
     subst (λ a. IsNotRead place told (txs_of_file before) old now a) (sym is) (refl, held told before (Err bad) stops)

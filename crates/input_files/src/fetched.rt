@@ -23,9 +23,11 @@ pub(crate) fn bytes_of<I: Inbox>(
     inbox: &mut I,
     file: &FileWord,
 ) -> Result<Fetched, Answer>
-    ensures bytes { IfOk result (λ r. Tells (I.file inbox.old file.now.name.now) (λ c. (r.bytes ≡ front c) × (r.more ≡ goes_on c))) }
+    ensures bytes { IfOk result
+        (λ r. Tells (I.file inbox.old file.now.name.now) (λ c. (r.bytes ≡ front c) × (r.more ≡ goes_on c))) }
     ensures same { (other : Text) → I.file inbox.new other ≡ I.file inbox.old other }
-    ensures fault { IfErr result (IsUnfetched file.now.place (I.count inbox.old file.now.name.now) (I.count inbox.new file.now.name.now)) }
+    ensures fault { IfErr result (IsUnfetched file.now.place
+        (I.count inbox.old file.now.name.now) (I.count inbox.new file.now.name.now)) }
     ensures later { (other : Text) → I.count inbox.old other ≤ I.count inbox.new other }
 {
     match fetch(alloc, inbox, file.name) {

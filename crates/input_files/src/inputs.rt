@@ -50,7 +50,8 @@ pub fn inputs_in<I: Inbox>(
     ensures few { IfOk result (λ r. all_txs r.files.items ≤ 1000000) }
     ensures short { IfOk result (λ r. All (λ txs. All IsShort txs) r.files.items) }
     ensures verdicts { IfOk result (λ r. AreVerdicts (I.file inbox.old verdicts.now.name.now) r.verdicts) }
-    ensures fault { IfErr result (AreNoInputs (I.file inbox.old) (I.count inbox.old) (I.count inbox.new) clients.now verdicts.now) }
+    ensures fault { IfErr result
+        (AreNoInputs (I.file inbox.old) (I.count inbox.old) (I.count inbox.new) clients.now verdicts.now) }
     ensures same { (other : Text) → I.file inbox.new other ≡ I.file inbox.old other }
     ensures later { (other : Text) → I.count inbox.old other ≤ I.count inbox.new other }
 {

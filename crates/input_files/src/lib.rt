@@ -36,9 +36,11 @@ fn answer_of(file: &FileWord, fault: FileFault) -> Answer
 
 /// The mint in a file.
 pub fn mint_in<I: Inbox>(alloc: Global, inbox: &mut I, file: &FileWord) -> Result<Mint, Answer>
-    ensures read { IfOk result (λ m. Tells (I.file inbox.old file.now.name.now) (λ c. mint_of_file c ≡ Ok m)) }
+    ensures read { IfOk result
+        (λ m. Tells (I.file inbox.old file.now.name.now) (λ c. mint_of_file c ≡ Ok m)) }
     ensures few { IfOk result (λ m. length m ≤ 1000000) }
-    ensures fault { IfErr result (IsNotRead file.now.place (I.file inbox.old file.now.name.now) mint_of_file (I.count inbox.old file.now.name.now) (I.count inbox.new file.now.name.now)) }
+    ensures fault { IfErr result (IsNotRead file.now.place (I.file inbox.old file.now.name.now) mint_of_file
+        (I.count inbox.old file.now.name.now) (I.count inbox.new file.now.name.now)) }
     ensures same { (other : Text) → I.file inbox.new other ≡ I.file inbox.old other }
     ensures later { (other : Text) → I.count inbox.old other ≤ I.count inbox.new other }
 {
@@ -73,10 +75,12 @@ pub fn clients_in<I: Inbox>(
     file: &FileWord,
     before: u64,
 ) -> Result<List<FullTx>, Answer>
-    ensures read { IfOk result (λ txs. Tells (I.file inbox.old file.now.name.now) (λ c. txs_of_file before c ≡ Ok txs)) }
+    ensures read { IfOk result
+        (λ txs. Tells (I.file inbox.old file.now.name.now) (λ c. txs_of_file before c ≡ Ok txs)) }
     ensures few { IfOk result (λ txs. length txs ≤ 1000000 - before) }
     ensures short { IfOk result (λ txs. All IsShort txs) }
-    ensures fault { IfErr result (IsNotRead file.now.place (I.file inbox.old file.now.name.now) (txs_of_file before) (I.count inbox.old file.now.name.now) (I.count inbox.new file.now.name.now)) }
+    ensures fault { IfErr result (IsNotRead file.now.place (I.file inbox.old file.now.name.now)
+        (txs_of_file before) (I.count inbox.old file.now.name.now) (I.count inbox.new file.now.name.now)) }
     ensures same { (other : Text) → I.file inbox.new other ≡ I.file inbox.old other }
     ensures later { (other : Text) → I.count inbox.old other ≤ I.count inbox.new other }
 {
@@ -114,7 +118,8 @@ pub fn all_clients_in<I: Inbox>(
     ensures read { IfOk result (λ v. AreRead (I.file inbox.old) 0 files.now v.items) }
     ensures few { IfOk result (λ v. all_txs v.items ≤ 1000000) }
     ensures short { IfOk result (λ v. All (λ txs. All IsShort txs) v.items) }
-    ensures fault { IfErr result (FirstNotRead (I.file inbox.old) (I.count inbox.old) (I.count inbox.new) files.now) }
+    ensures fault { IfErr result
+        (FirstNotRead (I.file inbox.old) (I.count inbox.old) (I.count inbox.new) files.now) }
     ensures same { (other : Text) → I.file inbox.new other ≡ I.file inbox.old other }
     ensures later { (other : Text) → I.count inbox.old other ≤ I.count inbox.new other }
 {

@@ -15,7 +15,7 @@ use Rattle.cbdc_model.specs.Sights.{Sight}
 use Rattle.lane_laws.specs.Calls.{Every, IsPart, AreParts}
 use Rattle.lane_laws.specs.Parts.{IsFitPart}
 use Rattle.lane_laws.proofs.PartCalls.{part_fits}
-use Rattle.lane_driver.specs.Calls.{shard, lock_of, finish_of, forget_of}
+use Rattle.lane_driver.specs.Calls.{shard, lock_call_of, finish_call_of, forget_call_of}
 use Rattle.cbdc_model.specs.Slots.{Phase}
 use Rattle.lane_driver.specs.Told.{IsLane, KeepsOtherLanes, AreShards, AreShardsOf, KeepNodes, AreLockCalls, AreFinishCalls, AreForgetCalls, AreFitParts, IsStamp}
 
@@ -75,34 +75,34 @@ forget_fit : (K : Shape) (h : Header) (b : Batch) (t : ℕ) → h.shape ≡ K �
 forget_fit K h b t e batch cause = record { batch = subst (λ K. IsBatchOf K b) (sym e) batch; cause = cause }
 
 module _ (K : Shape) (I : ℕ → Sight) (ledger : AreShardsOf K I) (b : Batch) (t : ℕ) (batch : IsBatchOf K b) (cause : IsStamp t) where
-  locks : (ps : List (ℕ × List Entry)) → All (λ p. shard p < K.shards) ps → AreFitParts I ps → AreLockCalls I (map (lock_of b t) ps)
+  locks : (ps : List (ℕ × List Entry)) → All (λ p. shard p < K.shards) ps → AreFitParts I ps → AreLockCalls I (map (lock_call_of b t) ps)
   locks [] within fit = All-nil (λ c. IsLockCall (I c.0).header c.1)
   locks (p ∷ ps) within fit =
-      All-cons (λ c. IsLockCall (I c.0).header c.1) (lock_of b t p) (map (lock_of b t) ps)
+      All-cons (λ c. IsLockCall (I c.0).header c.1) (lock_call_of b t p) (map (lock_call_of b t) ps)
       (lock_fit K (I p.0).header b t p.1 (ledger p.0 (All-head (λ p. shard p < K.shards) p ps within)).0 batch cause (All-head (λ p. IsFitPart (I p.0).header p.1) p ps fit))
       (locks ps (All-tail (λ p. shard p < K.shards) p ps within) (All-tail (λ p. IsFitPart (I p.0).header p.1) p ps fit))
 
-  pub locks_ready : (ps : List (ℕ × List Entry)) (cs : List (ℕ × LockCall)) → cs ≡ map (lock_of b t) ps → AreShards shard K.shards ps → AreFitParts I ps → AreLockCalls I cs
+  pub locks_ready : (ps : List (ℕ × List Entry)) (cs : List (ℕ × LockCall)) → cs ≡ map (lock_call_of b t) ps → AreShards shard K.shards ps → AreFitParts I ps → AreLockCalls I cs
   locks_ready ps cs e within fit = subst (λ cs. AreLockCalls I cs) (sym e) (locks ps within.1 fit)
 
-  finishes : (os : List Outcome) (cs : List (ℕ × LockCall)) → All (λ c. shard c < K.shards) cs → AreLockCalls I cs → AreFinishCalls I (map (finish_of b t os) cs)
+  finishes : (os : List Outcome) (cs : List (ℕ × LockCall)) → All (λ c. shard c < K.shards) cs → AreLockCalls I cs → AreFinishCalls I (map (finish_call_of b t os) cs)
   finishes os [] within fit = All-nil (λ c. IsFinishCall (I c.0).header c.1)
   finishes os (c ∷ cs) within fit =
-      All-cons (λ c. IsFinishCall (I c.0).header c.1) (finish_of b t os c) (map (finish_of b t os) cs)
+      All-cons (λ c. IsFinishCall (I c.0).header c.1) (finish_call_of b t os c) (map (finish_call_of b t os) cs)
       (finish_fit K (I c.0).header b t os c.1 (ledger c.0 (All-head (λ c. shard c < K.shards) c cs within)).0 batch cause (All-head (λ c. IsLockCall (I c.0).header c.1) c cs fit))
       (finishes os cs (All-tail (λ c. shard c < K.shards) c cs within) (All-tail (λ c. IsLockCall (I c.0).header c.1) c cs fit))
 
-  pub finishes_ready : (os : List Outcome) (cs : List (ℕ × LockCall)) (fs : List (ℕ × FinishCall)) → fs ≡ map (finish_of b t os) cs → AreShards shard K.shards cs → AreLockCalls I cs → AreFinishCalls I fs
+  pub finishes_ready : (os : List Outcome) (cs : List (ℕ × LockCall)) (fs : List (ℕ × FinishCall)) → fs ≡ map (finish_call_of b t os) cs → AreShards shard K.shards cs → AreLockCalls I cs → AreFinishCalls I fs
   finishes_ready os cs fs e within fit = subst (λ fs. AreFinishCalls I fs) (sym e) (finishes os cs within.1 fit)
 
-  forgets : (cs : List (ℕ × LockCall)) → All (λ c. shard c < K.shards) cs → AreForgetCalls I (map (forget_of b t) cs)
+  forgets : (cs : List (ℕ × LockCall)) → All (λ c. shard c < K.shards) cs → AreForgetCalls I (map (forget_call_of b t) cs)
   forgets [] within = All-nil (λ c. IsForgetCall (I c.0).header c.1)
   forgets (c ∷ cs) within =
-      All-cons (λ c. IsForgetCall (I c.0).header c.1) (forget_of b t c) (map (forget_of b t) cs)
+      All-cons (λ c. IsForgetCall (I c.0).header c.1) (forget_call_of b t c) (map (forget_call_of b t) cs)
       (forget_fit K (I c.0).header b t (ledger c.0 (All-head (λ c. shard c < K.shards) c cs within)).0 batch cause)
       (forgets cs (All-tail (λ c. shard c < K.shards) c cs within))
 
-  pub forgets_ready : (cs : List (ℕ × LockCall)) (fs : List (ℕ × ForgetCall)) → fs ≡ map (forget_of b t) cs → AreShards shard K.shards cs → AreForgetCalls I fs
+  pub forgets_ready : (cs : List (ℕ × LockCall)) (fs : List (ℕ × ForgetCall)) → fs ≡ map (forget_call_of b t) cs → AreShards shard K.shards cs → AreForgetCalls I fs
   forgets_ready cs fs e within = subst (λ fs. AreForgetCalls I fs) (sym e) (forgets cs within.1)
 
 -- ---- the parts of a batch

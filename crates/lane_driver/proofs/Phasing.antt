@@ -10,7 +10,7 @@ use Rattle.cbdc_model.specs.Records.{Shape}
 use Rattle.cbdc_model.specs.Grammar.{IsReply}
 use Rattle.cbdc_model.specs.Sights.{Sight}
 use Rattle.lane_driver.specs.Calls.{shard, AllAbove, IsRising}
-use Rattle.lane_driver.specs.Gathering.{FirstFault, Gathered, ok_stamp, latest_of, replied_of}
+use Rattle.lane_driver.specs.Gathering.{FirstFault, Gathered, ok_stamp, latest_of, gathered_reply}
 use Rattle.lane_driver.specs.Told.{AreShards, AreShardsOf, AreReplies, EachAnswer, LockTold, StampTold, IsStamp}
 
 -- the shard of a fault is one of those called
@@ -64,24 +64,24 @@ shards_alike n f g cs rs e h = (rising_alike f g cs rs e h.0, below_alike n f g 
 
 module _ (I : ℕ → Sight) where
   replied_stamps : (cs : List (ℕ × LockCall)) (answers : List (Result Replied NodeFault)) (rs : List ShardReplies)
-      → map (λ r. Ok (replied_of r)) rs ≡ answers → EachAnswer (LockTold I) cs answers → All (λ r. IsStamp r.stamp) rs
+      → map (λ r. Ok (gathered_reply r)) rs ≡ answers → EachAnswer (LockTold I) cs answers → All (λ r. IsStamp r.stamp) rs
   replied_stamps cs answers [] e h = All-nil (λ r. IsStamp r.stamp)
   replied_stamps cs [] (r ∷ rs) e h = cc
   replied_stamps [] (a ∷ answers) (r ∷ rs) e h = absurd h
   replied_stamps (c ∷ cs) (a ∷ answers) (r ∷ rs) e h =
-      let head : a ≡ Ok (replied_of r) = cc in
-      let tail : map (λ r. Ok (replied_of r)) rs ≡ answers = cc in
+      let head : a ≡ Ok (gathered_reply r) = cc in
+      let tail : map (λ r. Ok (gathered_reply r)) rs ≡ answers = cc in
       let told = subst (λ (a : Result Replied NodeFault). LockTold I c a) head h.0 in
       All-cons (λ r. IsStamp r.stamp) r rs told.0 (replied_stamps cs answers rs tail h.1)
 
   replied_names : (K : Shape) → AreShardsOf K I → (cs : List (ℕ × LockCall)) (answers : List (Result Replied NodeFault)) (rs : List ShardReplies)
-      → map (λ r. Ok (replied_of r)) rs ≡ answers → All (λ c. shard c < K.shards) cs → EachAnswer (LockTold I) cs answers → All (λ r. All (IsReply K) r.replies) rs
+      → map (λ r. Ok (gathered_reply r)) rs ≡ answers → All (λ c. shard c < K.shards) cs → EachAnswer (LockTold I) cs answers → All (λ r. All (IsReply K) r.replies) rs
   replied_names K ledger cs answers [] e within h = All-nil (λ r. All (IsReply K) r.replies)
   replied_names K ledger cs [] (r ∷ rs) e within h = cc
   replied_names K ledger [] (a ∷ answers) (r ∷ rs) e within h = absurd h
   replied_names K ledger (c ∷ cs) (a ∷ answers) (r ∷ rs) e within h =
-      let head : a ≡ Ok (replied_of r) = cc in
-      let tail : map (λ r. Ok (replied_of r)) rs ≡ answers = cc in
+      let head : a ≡ Ok (gathered_reply r) = cc in
+      let tail : map (λ r. Ok (gathered_reply r)) rs ≡ answers = cc in
       let told = subst (λ (a : Result Replied NodeFault). LockTold I c a) head h.0 in
       let at = ledger c.0 (All-head (λ c. shard c < K.shards) c cs within) in
       All-cons (λ r. All (IsReply K) r.replies) r rs (subst (λ K. All (IsReply K) r.replies) at.0 told.1)

@@ -6,7 +6,7 @@ use Rattle.cbdc_types.specs.declared.calls.LockCall.{LockCall}
 use Rattle.cbdc_types.specs.declared.calls.FinishCall.{FinishCall}
 use Rattle.cbdc_types.specs.declared.calls.ForgetCall.{ForgetCall}
 use Rattle.cbdc_model.specs.Records.{Batch, Entry, Outcome}
-use Rattle.lane_driver.specs.Calls.{shard, lock_of, finish_of, forget_of}
+use Rattle.lane_driver.specs.Calls.{shard, lock_call_of, finish_call_of, forget_call_of}
 use Rattle.lane_driver.specs.Told.{AreShards}
 use Rattle.lane_driver.specs.declared.room.LaterRoom.{LaterRoom}
 use Rattle.lane_driver.specs.Rooms.{IsLaterRoom}
@@ -21,20 +21,20 @@ mapped_shards : {X Y : Type 0} (f : ℕ × X → ℕ × Y) → ((x : ℕ × X) �
 mapped_shards f same m n k xs ys e h =
     subst (λ m. AreShards shard m ys) (sym k) (shards_alike n shard shard xs ys (ap (λ zs. map shard zs) e ∙ shards-map f same xs) h)
 
-pub lock_shards : (b : Batch) (t m n : ℕ) → m ≡ n → (ps : List (ℕ × List Entry)) (cs : List (ℕ × LockCall)) → cs ≡ map (lock_of b t) ps → AreShards shard n ps → AreShards shard m cs
-lock_shards b t m n k ps cs e h = mapped_shards (lock_of b t) (λ x. refl) m n k ps cs e h
+pub lock_shards : (b : Batch) (t m n : ℕ) → m ≡ n → (ps : List (ℕ × List Entry)) (cs : List (ℕ × LockCall)) → cs ≡ map (lock_call_of b t) ps → AreShards shard n ps → AreShards shard m cs
+lock_shards b t m n k ps cs e h = mapped_shards (lock_call_of b t) (λ x. refl) m n k ps cs e h
 
-pub lock_sizes : (b : Batch) (t : ℕ) (ps : List (ℕ × List Entry)) (cs : List (ℕ × LockCall)) (n m : ℕ) → cs ≡ map (lock_of b t) ps → All (λ p. length p.1 ≤ n) ps → m ≡ n → All (λ c. length c.1.part ≤ m) cs
+pub lock_sizes : (b : Batch) (t : ℕ) (ps : List (ℕ × List Entry)) (cs : List (ℕ × LockCall)) (n m : ℕ) → cs ≡ map (lock_call_of b t) ps → All (λ p. length p.1 ≤ n) ps → m ≡ n → All (λ c. length c.1.part ≤ m) cs
 lock_sizes b t ps cs n m e h k =
     let P : ℕ × LockCall → Type 0 = λ c. length c.1.part ≤ m in
-    All-same P cs (map (lock_of b t) ps) e
-    (All-map P (lock_of b t) ps (All-weaker (λ p. length p.1 ≤ n) (λ p. length p.1 ≤ m) (λ p lt. omega arith) ps h))
+    All-same P cs (map (lock_call_of b t) ps) e
+    (All-map P (lock_call_of b t) ps (All-weaker (λ p. length p.1 ≤ n) (λ p. length p.1 ≤ m) (λ p lt. omega arith) ps h))
 
-pub finish_shards : (b : Batch) (t : ℕ) (os : List Outcome) (m n : ℕ) → m ≡ n → (cs : List (ℕ × LockCall)) (fs : List (ℕ × FinishCall)) → fs ≡ map (finish_of b t os) cs → AreShards shard n cs → AreShards shard m fs
-finish_shards b t os m n k cs fs e h = mapped_shards (finish_of b t os) (λ x. refl) m n k cs fs e h
+pub finish_shards : (b : Batch) (t : ℕ) (os : List Outcome) (m n : ℕ) → m ≡ n → (cs : List (ℕ × LockCall)) (fs : List (ℕ × FinishCall)) → fs ≡ map (finish_call_of b t os) cs → AreShards shard n cs → AreShards shard m fs
+finish_shards b t os m n k cs fs e h = mapped_shards (finish_call_of b t os) (λ x. refl) m n k cs fs e h
 
-pub forget_shards : (b : Batch) (t m n : ℕ) → m ≡ n → (cs : List (ℕ × LockCall)) (fs : List (ℕ × ForgetCall)) → fs ≡ map (forget_of b t) cs → AreShards shard n cs → AreShards shard m fs
-forget_shards b t m n k cs fs e h = mapped_shards (forget_of b t) (λ x. refl) m n k cs fs e h
+pub forget_shards : (b : Batch) (t m n : ℕ) → m ≡ n → (cs : List (ℕ × LockCall)) (fs : List (ℕ × ForgetCall)) → fs ≡ map (forget_call_of b t) cs → AreShards shard n cs → AreShards shard m fs
+forget_shards b t m n k cs fs e h = mapped_shards (forget_call_of b t) (λ x. refl) m n k cs fs e h
 
 pub later_room : (m n k l : ℕ) (r : LaterRoom) → m ≡ n → k ≡ l → IsLaterRoom n l r → IsLaterRoom m k r
 later_room m n k l r e f h = subst (λ m. IsLaterRoom m k r) (sym e) (subst (λ k. IsLaterRoom n k r) (sym f) h)

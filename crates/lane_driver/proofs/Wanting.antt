@@ -6,7 +6,7 @@ use Rattle.cbdc_types.specs.declared.calls.NodeFault.TheVariants.{Broken, Refuse
 use Rattle.cbdc_model.specs.Records.{Shape, Batch, Entry, Record}
 use Rattle.cbdc_model.specs.Due.{Due}
 use Rattle.cbdc_model.specs.Sights.{Sight, MeetsFault, Told}
-use Rattle.lane_laws.specs.Calls.{lock_of}
+use Rattle.lane_laws.specs.Calls.{lock_call_of}
 use Rattle.lane_laws.specs.Answers.{LockAnswer, StoppedAt}
 use Rattle.lane_laws.proofs.ByShard.{every_any, first_at}
 use Rattle.lane_driver.specs.declared.fault.LaneFault.{LaneFault}
@@ -35,11 +35,11 @@ pub decide_free : (f : NodeFault) (now : Sight) → IsDecideCause f now → f �
 decide_free f now is e = subst (λ f. IsDecideCause f now) e is
 
 -- a phase of Locks that wants memory
-pub lock_want : (K : Shape) (a a' : Bool) (b : Batch) (cause : ℕ) (parts : List (ℕ × List Entry)) (cs : List (ℕ × LockCall)) (log : Sight) (I J : ℕ → Sight) (e : Stop) → a ≡ a' → cs ≡ map (lock_of b cause) parts
+pub lock_want : (K : Shape) (a a' : Bool) (b : Batch) (cause : ℕ) (parts : List (ℕ × List Entry)) (cs : List (ℕ × LockCall)) (log : Sight) (I J : ℕ → Sight) (e : Stop) → a ≡ a' → cs ≡ map (lock_call_of b cause) parts
     → IsStoppedAt K (LockAnswer a) cs I J e → e.fault ≡ Memory → IsLockWant K a' b cause parts log log I J e.node
 lock_want K a a' b cause parts cs log I J e same is (s, f, at, stop) want = record {
   shard = s;
-  stopped = subst (λ f. StoppedAt (LockAnswer a') (map (lock_of b cause) parts) I J s f) (sym (ap (λ (x : Stop). x.fault) at) ∙ want) (turn_stopped LockAnswer a a' cs (map (lock_of b cause) parts) I J s f same is stop);
+  stopped = subst (λ f. StoppedAt (LockAnswer a') (map (lock_call_of b cause) parts) I J s f) (sym (ap (λ (x : Stop). x.fault) at) ∙ want) (turn_stopped LockAnswer a a' cs (map (lock_call_of b cause) parts) I J s f same is stop);
   log_same = refl;
   node_is = ap (λ (x : Stop). x.node) at;
 }

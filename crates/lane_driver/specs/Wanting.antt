@@ -5,13 +5,13 @@ use Rattle.cbdc_model.specs.Records.{Shape, Batch, Compact, Entry}
 use Rattle.cbdc_model.specs.Ranges.{home_of, shard_node}
 use Rattle.cbdc_model.specs.Due.{prepare_due}
 use Rattle.cbdc_model.specs.Sights.{Sight, Told}
-use Rattle.lane_laws.specs.Calls.{AreParts, lock_of}
+use Rattle.lane_laws.specs.Calls.{AreParts, lock_call_of}
 use Rattle.lane_laws.specs.Answers.{LockAnswer, StoppedAt}
 
 -- a prepared batch stopped because memory ran out: at the Lock of a shard, with nothing asked behind the Locks
 pub record IsLockWant (K : Shape) (alone : Bool) (b : Batch) (cause : ℕ) (parts : List (ℕ × List Entry)) (log log' : Sight) (I J : ℕ → Sight) (node : ℕ) : Type 0 where
   pub shard : ℕ
-  pub stopped : StoppedAt (LockAnswer alone) (map (lock_of b cause) parts) I J shard Memory
+  pub stopped : StoppedAt (LockAnswer alone) (map (lock_call_of b cause) parts) I J shard Memory
   pub log_same : log' ≡ log
   pub node_is : node ≡ shard_node K shard
 

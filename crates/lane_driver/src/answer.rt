@@ -24,7 +24,8 @@ pub fn gather(
     requires as_many { length answers.items ≡ length calls.now }
     requires empty { replies.items ≡ [] }
     requires room { length calls.now ≤ vec_capacity replies }
-    ensures { MatchResult result (Gathered calls.now answers.items) (λ e. FirstFault shard calls.now answers.items e.shard e.fault) }
+    ensures { MatchResult result (Gathered calls.now answers.items)
+        (λ e. FirstFault shard calls.now answers.items e.shard e.fault) }
 {
     let mut place = 0;
     for answer in answers {
@@ -57,7 +58,8 @@ pub fn latest<C>(
     answers: &[Result<Stamp, NodeFault>],
 ) -> Result<Stamp, ShardFault>
     requires { length answers.now ≡ length calls.now }
-    ensures { MatchResult result (IsLatest answers.now) (λ e. FirstFault shard calls.now answers.now e.shard e.fault) }
+    ensures { MatchResult result (IsLatest answers.now)
+        (λ e. FirstFault shard calls.now answers.now e.shard e.fault) }
 {
     let mut latest = Stamp(0);
     for (place, answer) in answers.iter().enumerate() {

@@ -4,7 +4,7 @@ ghost use Rattle.std.specs.Vec.{vec_capacity};
 ghost use Rattle.cbdc_model.specs.Slots.{Idle, InPrepare, InCommit, InDiscard};
 ghost use Rattle.cbdc_model.specs.Ranges.{home_of};
 ghost use Rattle.cbdc_model.specs.Grammar.{HasSize, IsBatchOf, IsCompact};
-ghost use Rattle.lane_driver.specs.Calls.{shard, forget_of};
+ghost use Rattle.lane_driver.specs.Calls.{shard, forget_call_of};
 ghost use Rattle.lane_driver.specs.Told.{IsLane, AreShardsOf, AreLockCalls, AreFitParts, IsStamp, AreShards};
 ghost use Rattle.lane_driver.specs.Rooms.{IsBatchRoom, IsLaterRoom};
 ghost use Rattle.lane_driver.specs.Reports.{AreBatchReports};
@@ -65,7 +65,7 @@ pub fn from_discarded<S: PortSet<G>, L: LogPort, G: Gate>(
         (DiscardedCame shape.now L.alone batch.now cause repeats locks.now result) }
     ensures phase { OnOk result (L.phase ports.new.log batch.now.lane ≡ Idle) }
     ensures keeps { KeepsLanePorts L.LogPort S.PortSet batch.now.lane ports.old ports.new }
-    ensures calls { forgets.new.items ≡ map (forget_of batch.now cause) locks.now }
+    ensures calls { forgets.new.items ≡ map (forget_call_of batch.now cause) locks.now }
     ensures capacity { vec_capacity stamped.new ≡ vec_capacity stamped.old }
 {
     forget_calls(locks, batch, cause, forgets);

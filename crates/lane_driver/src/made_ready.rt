@@ -68,7 +68,8 @@ impl<'a> Ready<'a> {
             (BatchCame self.entry.shape L.alone self.entry.lane self.entry.txs repeats result) }
         ensures idle { OnOk result (L.phase ports.new.log self.entry.lane ≡ Idle) }
         ensures keeps { KeepsLanePorts L.LogPort S.PortSet self.entry.lane ports.old ports.new }
-        ensures report { IfOk result (λ r. (r.batch.lane ≡ self.entry.lane) × (length r.outcomes ≡ length self.entry.txs)) }
+        ensures report { IfOk result (λ r. (r.batch.lane ≡ self.entry.lane)
+            × (length r.outcomes ≡ length self.entry.txs)) }
     {
         let Ready {
             shape,

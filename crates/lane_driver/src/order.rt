@@ -2,7 +2,7 @@
 ghost use Rattle.std.specs.Prelude.{◌≡◌, ◌<◌, ◌≤◌, List, [], length, map, All};
 ghost use Rattle.std.specs.Vec.{vec_capacity, vec_len};
 ghost use Rattle.cbdc_model.specs.Outcomes.{decisions, won_at};
-ghost use Rattle.lane_driver.specs.Calls.{lock_of, finish_of, forget_of};
+ghost use Rattle.lane_driver.specs.Calls.{lock_call_of, finish_call_of, forget_call_of};
 
 use cbdc_types::{
     BatchId, Decisions, Entry, FinishCall, ForgetCall, List, LockCall, Outcome, Part, Stamp,
@@ -17,7 +17,7 @@ pub fn lock_calls(
 )
     requires empty { out.old.items ≡ [] }
     requires room { length parts ≤ vec_capacity out.old }
-    ensures { out.new.items ≡ map (lock_of batch.now cause) parts }
+    ensures { out.new.items ≡ map (lock_call_of batch.now cause) parts }
 {
     for (shard, part) in parts.into_vec() {
         out.push_reserved((
@@ -68,7 +68,7 @@ pub fn finish_calls(
     requires parts { All (λ c. length c.1.part ≤ length outcomes.now) locks.now }
     requires rooms { All (λ v. (v.items ≡ []) × (length outcomes.now ≤ vec_capacity v)) rooms.old.items }
     requires as_many { length locks.now ≤ vec_len rooms.old }
-    ensures { out.new.items ≡ map (finish_of batch.now cause outcomes.now) locks.now }
+    ensures { out.new.items ≡ map (finish_call_of batch.now cause outcomes.now) locks.now }
 {
     for lock in locks {
         match rooms.pop() {
@@ -97,7 +97,7 @@ pub fn forget_calls(
 )
     requires empty { out.old.items ≡ [] }
     requires room { length locks.now ≤ vec_capacity out.old }
-    ensures { out.new.items ≡ map (forget_of batch.now cause) locks.now }
+    ensures { out.new.items ≡ map (forget_call_of batch.now cause) locks.now }
 {
     for lock in locks {
         out.push_reserved((

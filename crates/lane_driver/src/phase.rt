@@ -44,7 +44,8 @@ pub fn lock_again<S: PortSet<G>, G: Gate>(
     requires room { length calls.now ≤ vec_capacity answers.old }
     ensures capacity { vec_capacity answers.new ≡ vec_capacity answers.old }
     ensures keeps { KeepsShards S.count S.sights S.faults S.holds S.serves shards.old shards.new }
-    ensures told { AskedTimes (LockAnswer S.alone) calls.now repeats (S.sights shards.old) (S.sights shards.new) }
+    ensures told { AskedTimes
+        (LockAnswer S.alone) calls.now repeats (S.sights shards.old) (S.sights shards.new) }
 {
     for _time in 0..repeats {
         answers.clear();
@@ -66,7 +67,8 @@ pub fn finish_again<S: PortSet<G>, G: Gate>(
     requires room { length calls.now ≤ vec_capacity answers.old }
     ensures capacity { vec_capacity answers.new ≡ vec_capacity answers.old }
     ensures keeps { KeepsShards S.count S.sights S.faults S.holds S.serves shards.old shards.new }
-    ensures told { AskedTimes (FinishAnswer S.alone) calls.now repeats (S.sights shards.old) (S.sights shards.new) }
+    ensures told { AskedTimes
+        (FinishAnswer S.alone) calls.now repeats (S.sights shards.old) (S.sights shards.new) }
 {
     for _time in 0..repeats {
         answers.clear();
@@ -88,7 +90,8 @@ pub fn forget_again<S: PortSet<G>, G: Gate>(
     requires room { length calls.now ≤ vec_capacity answers.old }
     ensures capacity { vec_capacity answers.new ≡ vec_capacity answers.old }
     ensures keeps { KeepsShards S.count S.sights S.faults S.holds S.serves shards.old shards.new }
-    ensures told { AskedTimes (ForgetAnswer S.alone) calls.now repeats (S.sights shards.old) (S.sights shards.new) }
+    ensures told { AskedTimes
+        (ForgetAnswer S.alone) calls.now repeats (S.sights shards.old) (S.sights shards.new) }
 {
     for _time in 0..repeats {
         answers.clear();
@@ -116,7 +119,8 @@ pub fn lock_phase<S: PortSet<G>, G: Gate>(
     requires replies_room { length calls.now ≤ vec_capacity replies }
     ensures keeps { KeepsShards S.count S.sights S.faults S.holds S.serves shards.old shards.new }
     ensures told { IfOk result (Locked S.alone calls.now (S.sights shards.old) (S.sights shards.new)) }
-    ensures stopped { IfErr result (IsStoppedAt shape.now (LockAnswer S.alone) calls.now (S.sights shards.old) (S.sights shards.new)) }
+    ensures stopped { IfErr result
+        (IsStoppedAt shape.now (LockAnswer S.alone) calls.now (S.sights shards.old) (S.sights shards.new)) }
     ensures fault { IfErr result (λ e. IsShardCause shape.now (S.sights shards.new) e.node e.fault) }
     ensures replies { IfOk result (AreReplies shape.now) }
 {
@@ -143,8 +147,10 @@ pub fn finish_phase<S: PortSet<G>, G: Gate>(
     requires room { length calls.now ≤ vec_capacity answers.old }
     ensures capacity { vec_capacity answers.new ≡ vec_capacity answers.old }
     ensures keeps { KeepsShards S.count S.sights S.faults S.holds S.serves shards.old shards.new }
-    ensures told { IfOk result (Stamped (FinishAnswer S.alone) calls.now (S.sights shards.old) (S.sights shards.new)) }
-    ensures stopped { IfErr result (IsStoppedAt shape.now (FinishAnswer S.alone) calls.now (S.sights shards.old) (S.sights shards.new)) }
+    ensures told { IfOk result
+        (Stamped (FinishAnswer S.alone) calls.now (S.sights shards.old) (S.sights shards.new)) }
+    ensures stopped { IfErr result
+        (IsStoppedAt shape.now (FinishAnswer S.alone) calls.now (S.sights shards.old) (S.sights shards.new)) }
     ensures fault { IfErr result (λ e. IsShardCause shape.now (S.sights shards.new) e.node e.fault) }
     ensures no_want { IfErr result (λ e. e.fault ≢ Memory) }
     ensures stamp { IfOk result IsStamp }
@@ -173,8 +179,10 @@ pub fn forget_phase<S: PortSet<G>, G: Gate>(
     requires room { length calls.now ≤ vec_capacity answers.old }
     ensures capacity { vec_capacity answers.new ≡ vec_capacity answers.old }
     ensures keeps { KeepsShards S.count S.sights S.faults S.holds S.serves shards.old shards.new }
-    ensures told { IfOk result (Stamped (ForgetAnswer S.alone) calls.now (S.sights shards.old) (S.sights shards.new)) }
-    ensures stopped { IfErr result (IsStoppedAt shape.now (ForgetAnswer S.alone) calls.now (S.sights shards.old) (S.sights shards.new)) }
+    ensures told { IfOk result
+        (Stamped (ForgetAnswer S.alone) calls.now (S.sights shards.old) (S.sights shards.new)) }
+    ensures stopped { IfErr result
+        (IsStoppedAt shape.now (ForgetAnswer S.alone) calls.now (S.sights shards.old) (S.sights shards.new)) }
     ensures fault { IfErr result (λ e. IsShardCause shape.now (S.sights shards.new) e.node e.fault) }
     ensures no_want { IfErr result (λ e. e.fault ≢ Memory) }
     ensures stamp { IfOk result IsStamp }

@@ -19,7 +19,7 @@ use Rattle.cbdc_model.specs.Due.{Due, Answers, Writes, unless_broken, lock_by, l
 use Rattle.cbdc_model.specs.Sights.{Sight, Finds, Told}
 use Rattle.ledger_laws.proofs.Finds.{replaced_at, replaced_away}
 use Rattle.lane_laws.specs.Batches.{view}
-use Rattle.lane_laws.specs.Calls.{is_concerned, IsLock, IsFinish, IsForget, AreLocks, AreFinishes, AreForgets, Every}
+use Rattle.lane_laws.specs.Calls.{is_concerned, IsPartLock, IsPartFinish, IsPartForget, AreLocks, AreFinishes, AreForgets, Every}
 use Rattle.lane_laws.specs.Answers.{EachTold, Others, LockAnswer, FinishAnswer, ForgetAnswer}
 use Rattle.lane_laws.proofs.Own.{finds_record}
 use Rattle.lane_laws.proofs.Steps.{StepAt, stays_there, comes_there, makes_there, fails_there}
@@ -96,7 +96,7 @@ module _ (K : Shape) (pieces : List (List Compact)) (alone : Bool) (lane number 
   -- Lock
   pub locks_step : (t : ℕ) (log : Sight) (I J : ℕ → Sight) (cs : List (ℕ × LockCall)) (answers : List (Result Replied NodeFault)) → record_of 6 log.seen B ≡ Some (Prepare t B txs)
       → AreLocks K txs B t cs → EachTold (LockAnswer alone) cs answers I J → Others cs I J → Every (OkUnless fails) answers → (s : ℕ) → ShardStep log I J s
-  locks_step t log I J cs answers prepare calls each others good s = go (asked_at (LockAnswer alone) (IsLock K txs B t) (OkUnless fails) I J s cs answers each calls.every good)
+  locks_step t log I J cs answers prepare calls each others good s = go (asked_at (LockAnswer alone) (IsPartLock K txs B t) (OkUnless fails) I J s cs answers each calls.every good)
     where
       call : LockCall
       call = record { batch = B; part = part K.shards s 0 txs; cause = t }
@@ -124,7 +124,7 @@ module _ (K : Shape) (pieces : List (List Compact)) (alone : Bool) (lane number 
           (λ L b r e. (lock_wrote (I s).header.shape (I s).capacity L (record { batch = B; part = part K.shards s 0 txs; cause = t }) (next_lock L B (part K.shards s 0 txs) t) b r e).3)
           owes a ok told
 
-      go : AskedAt (LockAnswer alone) (IsLock K txs B t) (OkUnless fails) cs I J s → ShardStep log I J s
+      go : AskedAt (LockAnswer alone) (IsPartLock K txs B t) (OkUnless fails) cs I J s → ShardStep log I J s
       go (no_call n) = untouched log I J s (others s n)
       go (one_call c h e a ok told) = answer a ok (subst (λ (d : ℕ × LockCall). LockAnswer alone d (I s) (J s) a)
           (λ i. (e i, (h.1 ∙ ap (λ (n : ℕ). let d : LockCall = record { batch = B; part = part K.shards n 0 txs; cause = t } in d) e) i)) told)
@@ -133,7 +133,7 @@ module _ (K : Shape) (pieces : List (List Compact)) (alone : Bool) (lane number 
   pub finishes_step : (os : List Outcome) (t : ℕ) (log : Sight) (I J : ℕ → Sight) (cs : List (ℕ × FinishCall)) (answers : List (Result ℕ NodeFault)) → record_of 7 log.seen B ≡ Some (Commit t B os)
       → ((s : ℕ) → is_concerned K txs s ≡ true → entries (lock_of (I s).seen B) ≡ part K.shards s 0 txs)
       → AreFinishes K txs os B t cs → EachTold (FinishAnswer alone) cs answers I J → Others cs I J → Every (OkUnless fails) answers → (s : ℕ) → ShardStep log I J s
-  finishes_step os t log I J cs answers commit locks calls each others good s = go (asked_at (FinishAnswer alone) (IsFinish K txs os B t) (OkUnless fails) I J s cs answers each calls.every good)
+  finishes_step os t log I J cs answers commit locks calls each others good s = go (asked_at (FinishAnswer alone) (IsPartFinish K txs os B t) (OkUnless fails) I J s cs answers each calls.every good)
     where
       ds : List Bool
       ds = decisions os (part K.shards s 0 txs)
@@ -162,7 +162,7 @@ module _ (K : Shape) (pieces : List (List Compact)) (alone : Bool) (lane number 
           (λ L n e. stamp_unbroken (next_finish L B (decisions os (part K.shards s 0 txs)) t) (Finish (next_stamp L t) B (decisions os (part K.shards s 0 txs))) n e)
           wrote (owes c) a ok told
 
-      go : AskedAt (FinishAnswer alone) (IsFinish K txs os B t) (OkUnless fails) cs I J s → ShardStep log I J s
+      go : AskedAt (FinishAnswer alone) (IsPartFinish K txs os B t) (OkUnless fails) cs I J s → ShardStep log I J s
       go (no_call n) = untouched log I J s (others s n)
       go (one_call c h e a ok told) = answer (subst (λ m. is_concerned K txs m ≡ true) e h.0) a ok (subst (λ (d : ℕ × FinishCall). FinishAnswer alone d (I s) (J s) a)
           (λ i. (e i, (h.1 ∙ ap (λ (n : ℕ). let d : FinishCall = record { batch = B; decisions = decisions os (part K.shards n 0 txs); cause = t } in d) e) i)) told)
@@ -170,7 +170,7 @@ module _ (K : Shape) (pieces : List (List Compact)) (alone : Bool) (lane number 
   -- Forget
   pub forgets_step : (t : ℕ) (log : Sight) (I J : ℕ → Sight) (cs : List (ℕ × ForgetCall)) (answers : List (Result ℕ NodeFault)) → record_of 8 log.seen B ≡ Some (Discard t B)
       → AreForgets K txs B t cs → EachTold (ForgetAnswer alone) cs answers I J → Others cs I J → Every (OkUnless fails) answers → (s : ℕ) → ShardStep log I J s
-  forgets_step t log I J cs answers discard calls each others good s = go (asked_at (ForgetAnswer alone) (IsForget K txs B t) (OkUnless fails) I J s cs answers each calls.every good)
+  forgets_step t log I J cs answers discard calls each others good s = go (asked_at (ForgetAnswer alone) (IsPartForget K txs B t) (OkUnless fails) I J s cs answers each calls.every good)
     where
       owes : (found : List Record) → Finds alone lane (I s).seen found → Owes K pieces lane (view K lane log I) (shard_node K s) found (Forget (next_stamp found t) B)
       owes found f =
@@ -189,6 +189,6 @@ module _ (K : Shape) (pieces : List (List Compact)) (alone : Bool) (lane number 
           (λ L n e. stamp_unbroken (next_forget L B t) (Forget (next_stamp L t) B) n e)
           (λ L b r e. (stamp_wrote (next_forget L B t) (Forget (next_stamp L t) B) b r e).1) owes a ok told
 
-      go : AskedAt (ForgetAnswer alone) (IsForget K txs B t) (OkUnless fails) cs I J s → ShardStep log I J s
+      go : AskedAt (ForgetAnswer alone) (IsPartForget K txs B t) (OkUnless fails) cs I J s → ShardStep log I J s
       go (no_call n) = untouched log I J s (others s n)
       go (one_call c h e a ok told) = answer a ok (subst (λ (d : ℕ × ForgetCall). ForgetAnswer alone d (I s) (J s) a) (λ i. (e i, h.1 i)) told)

@@ -10,7 +10,7 @@ use Rattle.cbdc_model.specs.Causes.{greatest}
 use Rattle.cbdc_model.specs.Deciding.{replies_at}
 use Rattle.cbdc_model.specs.Sights.{Sight}
 use Rattle.lane_laws.specs.Calls.{shard, NotAmong, AllAbove, IsRising, Every}
-use Rattle.lane_laws.specs.Gathering.{FirstFault, ok_stamp, latest_of, stamp_at, replied_of}
+use Rattle.lane_laws.specs.Gathering.{FirstFault, ok_stamp, latest_of, stamp_at, gathered_reply}
 use Rattle.lane_laws.specs.Answers.{EachTold, LockAnswer}
 
 is_same : (a b : ℕ) → (a == b) ≡ true → a ≡ b
@@ -54,17 +54,17 @@ every_fine (a ∷ answers) h = (fine a (All-head IsOk a answers h), every_fine a
 -- replies are all there is of a phase in which all went well
 pub data LockedAt (alone : Bool) (P : ℕ × LockCall → Type 0) (cs : List (ℕ × LockCall)) (rs : List ShardReplies) (I J : ℕ → Sight) (s : ℕ) : Type 0 where
   no_lock : NotAmong shard cs s → replies_at rs s ≡ None → LockedAt alone P cs rs I J s
-  one_lock : (c : ℕ × LockCall) → P c → c.0 ≡ s → (rep : ShardReplies) → replies_at rs s ≡ Some rep → LockAnswer alone c (I s) (J s) (Ok (replied_of rep)) → LockedAt alone P cs rs I J s
+  one_lock : (c : ℕ × LockCall) → P c → c.0 ≡ s → (rep : ShardReplies) → replies_at rs s ≡ Some rep → LockAnswer alone c (I s) (J s) (Ok (gathered_reply rep)) → LockedAt alone P cs rs I J s
 
-pub gathered_fine : (cs : List (ℕ × LockCall)) (answers : List (Result Replied NodeFault)) (rs : List ShardReplies) → map (λ r. Ok (replied_of r)) rs ≡ answers → Every Fine answers
+pub gathered_fine : (cs : List (ℕ × LockCall)) (answers : List (Result Replied NodeFault)) (rs : List ShardReplies) → map (λ r. Ok (gathered_reply r)) rs ≡ answers → Every Fine answers
 gathered_fine cs [] rs e = tt
 gathered_fine cs (a ∷ answers) [] e = absurd (let z : [] ≡ a ∷ answers = e in cc)
 gathered_fine cs (a ∷ answers) (r ∷ rs) e =
-    let z : Ok (replied_of r) ∷ map (λ r. Ok (replied_of r)) rs ≡ a ∷ answers = e in
-    ((replied_of r, cc), gathered_fine cs answers rs (cc))
+    let z : Ok (gathered_reply r) ∷ map (λ r. Ok (gathered_reply r)) rs ≡ a ∷ answers = e in
+    ((gathered_reply r, cc), gathered_fine cs answers rs (cc))
 
 pub locked_at : (alone : Bool) (P : ℕ × LockCall → Type 0) (I J : ℕ → Sight) (s : ℕ) (cs : List (ℕ × LockCall)) (answers : List (Result Replied NodeFault)) (rs : List ShardReplies)
-    → EachTold (LockAnswer alone) cs answers I J → map (λ r. r.shard) rs ≡ map shard cs → map (λ r. Ok (replied_of r)) rs ≡ answers → Every P cs → LockedAt alone P cs rs I J s
+    → EachTold (LockAnswer alone) cs answers I J → map (λ r. r.shard) rs ≡ map shard cs → map (λ r. Ok (gathered_reply r)) rs ≡ answers → Every P cs → LockedAt alone P cs rs I J s
 locked_at alone P I J s [] answers [] told h g every = no_lock tt refl
 locked_at alone P I J s [] answers (r ∷ rs) told h g every = absurd (let z : r.shard ∷ map (λ r. r.shard) rs ≡ [] = h in cc)
 locked_at alone P I J s (c ∷ cs) answers [] told h g every = absurd (let z : [] ≡ shard c ∷ map shard cs = h in cc)
@@ -72,7 +72,7 @@ locked_at alone P I J s (c ∷ cs) [] (r ∷ rs) told h g every = absurd told
 locked_at alone P I J s (c ∷ cs) (a ∷ answers) (r ∷ rs) told h g every =
     elim (c.0 == s) as (λ t. (c.0 == s) ≡ t → LockedAt alone P (c ∷ cs) (r ∷ rs) I J s) [
       | true ↦ λ t. one_lock c every.0 (is_same c.0 s t) r (first t)
-          (subst (λ n. LockAnswer alone c (I n) (J n) (Ok (replied_of r))) (is_same c.0 s t) (subst (λ b. LockAnswer alone c (I c.0) (J c.0) b) (sym answer_is) told.0))
+          (subst (λ n. LockAnswer alone c (I n) (J n) (Ok (gathered_reply r))) (is_same c.0 s t) (subst (λ b. LockAnswer alone c (I c.0) (J c.0) b) (sym answer_is) told.0))
       | false ↦ λ t. more t (locked_at alone P I J s cs answers rs told.1 shards_are replies_are every.1)
     ] refl
   where
@@ -82,11 +82,11 @@ locked_at alone P I J s (c ∷ cs) (a ∷ answers) (r ∷ rs) told h g every =
     shards_are : map (λ r. r.shard) rs ≡ map shard cs
     shards_are = let z : r.shard ∷ map (λ r. r.shard) rs ≡ c.0 ∷ map shard cs = h in cc
 
-    answer_is : Ok (replied_of r) ≡ a
-    answer_is = let z : Ok (replied_of r) ∷ map (λ r. Ok (replied_of r)) rs ≡ a ∷ answers = g in cc
+    answer_is : Ok (gathered_reply r) ≡ a
+    answer_is = let z : Ok (gathered_reply r) ∷ map (λ r. Ok (gathered_reply r)) rs ≡ a ∷ answers = g in cc
 
-    replies_are : map (λ r. Ok (replied_of r)) rs ≡ answers
-    replies_are = let z : Ok (replied_of r) ∷ map (λ r. Ok (replied_of r)) rs ≡ a ∷ answers = g in cc
+    replies_are : map (λ r. Ok (gathered_reply r)) rs ≡ answers
+    replies_are = let z : Ok (gathered_reply r) ∷ map (λ r. Ok (gathered_reply r)) rs ≡ a ∷ answers = g in cc
 
     first : (c.0 == s) ≡ true → replies_at (r ∷ rs) s ≡ Some r
     first t = let u : (r.shard == s) ≡ true = ap (λ n. n == s) shard_is ∙ t in rw u

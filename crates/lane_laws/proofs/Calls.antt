@@ -8,7 +8,7 @@ use Rattle.cbdc_model.specs.Outcomes.{decisions}
 use Rattle.cbdc_model.specs.Ranges.{part, is_no_part}
 use Rattle.cbdc_model.specs.Causes.{greatest}
 use Rattle.cbdc_model.specs.Sights.{Sight}
-use Rattle.lane_laws.specs.Calls.{shard, AllAbove, IsRising, NotAmong, is_concerned, Every, AreCalls, AreParts, IsPart, IsLock, IsFinish, IsForget, AreLocks, AreFinishes, AreForgets, lock_of, finish_of, forget_of}
+use Rattle.lane_laws.specs.Calls.{shard, AllAbove, IsRising, NotAmong, is_concerned, Every, AreCalls, AreParts, IsPart, IsPartLock, IsPartFinish, IsPartForget, AreLocks, AreFinishes, AreForgets, lock_call_of, finish_call_of, forget_call_of}
 use Rattle.lane_laws.specs.Gathering.{IsLatest, stamp_at}
 use Rattle.lane_laws.specs.Answers.{Asked}
 use Rattle.lane_laws.proofs.ByShard.{latest_by_shard, told_length}
@@ -38,15 +38,15 @@ calls_mapped K txs P Q f keeps h cs are = record {
 }
 
 module _ (K : Shape) (txs : List Compact) (b : Batch) where
-  pub are_locks : (t : ℕ) (parts : List (ℕ × List Entry)) → AreParts K txs parts → AreLocks K txs b t (map (lock_of b t) parts)
-  are_locks t parts are = calls_mapped K txs (IsPart K txs) (IsLock K txs b t) (lock_of b t) (λ c. refl) (λ c p. (p.0, ap (λ es. let d : LockCall = record { batch = b; part = es; cause = t } in d) p.1)) parts are
+  pub are_locks : (t : ℕ) (parts : List (ℕ × List Entry)) → AreParts K txs parts → AreLocks K txs b t (map (lock_call_of b t) parts)
+  are_locks t parts are = calls_mapped K txs (IsPart K txs) (IsPartLock K txs b t) (lock_call_of b t) (λ c. refl) (λ c p. (p.0, ap (λ es. let d : LockCall = record { batch = b; part = es; cause = t } in d) p.1)) parts are
 
-  pub are_finishes : (os : List Outcome) (u t : ℕ) (locks : List (ℕ × LockCall)) → AreLocks K txs b u locks → AreFinishes K txs os b t (map (finish_of b t os) locks)
-  are_finishes os u t locks are = calls_mapped K txs (IsLock K txs b u) (IsFinish K txs os b t) (finish_of b t os) (λ c. refl)
+  pub are_finishes : (os : List Outcome) (u t : ℕ) (locks : List (ℕ × LockCall)) → AreLocks K txs b u locks → AreFinishes K txs os b t (map (finish_call_of b t os) locks)
+  are_finishes os u t locks are = calls_mapped K txs (IsPartLock K txs b u) (IsPartFinish K txs os b t) (finish_call_of b t os) (λ c. refl)
       (λ c p. (p.0, ap (λ (d : LockCall). let e : FinishCall = record { batch = b; decisions = decisions os d.part; cause = t } in e) p.1)) locks are
 
-  pub are_forgets : (u t : ℕ) (locks : List (ℕ × LockCall)) → AreLocks K txs b u locks → AreForgets K txs b t (map (forget_of b t) locks)
-  are_forgets u t locks are = calls_mapped K txs (IsLock K txs b u) (IsForget K txs b t) (forget_of b t) (λ c. refl) (λ c p. (p.0, refl)) locks are
+  pub are_forgets : (u t : ℕ) (locks : List (ℕ × LockCall)) → AreLocks K txs b u locks → AreForgets K txs b t (map (forget_call_of b t) locks)
+  are_forgets u t locks are = calls_mapped K txs (IsPartLock K txs b u) (IsPartForget K txs b t) (forget_call_of b t) (λ c. refl) (λ c p. (p.0, refl)) locks are
 
 pub in_range : (K : Shape) (txs : List Compact) (s : ℕ) → is_concerned K txs s ≡ true → s < K.shards
 in_range K txs s c = numbers s K.shards (not (is_no_part (part K.shards s 0 txs))) c

@@ -9,7 +9,7 @@ use Rattle.cbdc_model.specs.Sights.{Sight}
 use Rattle.ledger_laws.proofs.Members.{in_contains, contains_in}
 use Rattle.ledger_laws.proofs.Cuts.{made_none, made_trans}
 use Rattle.ledger_laws.proofs.Turns.{holds_more}
-use Rattle.lane_laws.specs.Batches.{view, prepared, Settled, BatchDone, BatchStopped, LaneSo, LaneStopped}
+use Rattle.lane_laws.specs.Batches.{view, prepares_txs, Settled, BatchDone, BatchStopped, LaneSo, LaneStopped}
 
 pub made_more : (K : Shape) (p q : List (List Compact)) (alone : Bool) (lane : ℕ) (I J : ℕ → List Record) → ((txs : List Compact) → Contains p txs → Contains q txs) → Made K p alone lane I J → Made K q alone lane I J
 made_more K p q alone lane I J h m = record {
@@ -52,7 +52,7 @@ module _ (K : Shape) (alone : Bool) (lane : ℕ) (txs rest : List Compact) (log0
     log_same = d.log_same ∙ so.log_same;
     shard_same = λ s. d.shard_same s ∙ so.shard_same s;
     settled = subst (λ n. Settled K lane n log2 shards2) (sym d.settled.number) d.settled;
-    prepares = ap prepared d.grew.log_is ∙ ap (λ L. piece ∷ L) so.prepares;
+    prepares = ap prepares_txs d.grew.log_is ∙ ap (λ L. piece ∷ L) so.prepares;
   }
 
   pub lane_stops : (piece : List Compact) (node : ℕ) (f : NodeFault) → 0 < length rest → piece ≡ take K.batch rest → BatchStopped K alone lane piece log1 shards1 log2 shards2 node f → LaneStopped K alone lane txs log0 shards0 log2 shards2 node f

@@ -3,7 +3,7 @@ use Rattle.std.proofs.Common.{◌≡◌, ℕ, suc, ◌+◌, true, false, List, [
 use Rattle.cbdc_model.specs.Records.{Record, is_in_lane}
 use Rattle.cbdc_model.specs.Slots.{slot, Idle}
 use Rattle.cbdc_model.specs.Lanes.{IsEnd, Left}
-use Rattle.lane_laws.specs.Batches.{own, prepared, prepared_of}
+use Rattle.lane_laws.specs.Batches.{own, prepares_txs, prepared_of}
 use Rattle.lane_laws.proofs.Own.{own_in, own_out, slot_own}
 
 own-append : (lane : ℕ) (A B : List Record) → own lane (A ++ B) ≡ own lane A ++ own lane B
@@ -37,7 +37,7 @@ left_own lane J X l n = ap (λ L. own lane L) (l.is n) ∙ own-append lane (l.mo
 
 -- its Prepares and its idleness at the final journals, from the lane's clause
 pub left_prepared : (lane : ℕ) (J X : ℕ → List Record) → Left lane J X → (n : ℕ) → prepared_of lane (X n) ≡ prepared_of lane (J n)
-left_prepared lane J X l n = ap prepared (left_own lane J X l n)
+left_prepared lane J X l n = ap prepares_txs (left_own lane J X l n)
 
 pub left_idle : (lane : ℕ) (J X : ℕ → List Record) → Left lane J X → (n : ℕ) → (slot (J n) lane).phase ≡ Idle → (slot (X n) lane).phase ≡ Idle
 left_idle lane J X l n i = ap (λ q. q.phase) (slot_own lane (X n) ∙ ap (λ L. slot L lane) (left_own lane J X l n) ∙ sym (slot_own lane (J n))) ∙ i

@@ -14,7 +14,7 @@ use Rattle.cbdc_model.specs.Next.{next_lock, next_finish, next_forget, next_stam
 use Rattle.cbdc_model.specs.Due.{Due, Answers, Writes, unless_broken, lock_by, stamp_by}
 use Rattle.cbdc_model.specs.Sights.{Sight, Finds, Told}
 use Rattle.lane_laws.specs.Batches.{own}
-use Rattle.lane_laws.specs.Calls.{is_concerned, Every, IsLock, IsFinish, IsForget, AreLocks, AreFinishes, AreForgets}
+use Rattle.lane_laws.specs.Calls.{is_concerned, Every, IsPartLock, IsPartFinish, IsPartForget, AreLocks, AreFinishes, AreForgets}
 use Rattle.lane_laws.specs.Answers.{LockAnswer, FinishAnswer, ForgetAnswer, Asked, AskedTimes}
 use Rattle.lane_laws.proofs.Own.{finds_own, finds_slot, slot_own}
 use Rattle.lane_laws.proofs.Steps.{stays_there, comes_there}
@@ -84,12 +84,12 @@ module _ (K : Shape) (pieces : List (List Compact)) (alone : Bool) (lane number 
   -- Lock, where the shards have the batch's number
   pub locks_quiet : (log : Sight) (t n : ℕ) (I J : ℕ → Sight) (cs : List (ℕ × LockCall)) → AreLocks K txs B t cs → ((s : ℕ) → is_concerned K txs s ≡ true → (slot (I s).seen lane).number ≡ number)
       → AskedTimes (LockAnswer alone) cs n I J → Quiet log I J
-  locks_quiet log t n I J cs calls numbers times = many (LockAnswer alone) log cs I (λ M X q asked. once (LockAnswer alone) (IsLock K txs B t) log M X cs calls.every asked (λ s c h e a told. at M X q s c h e a told)) n J times
+  locks_quiet log t n I J cs calls numbers times = many (LockAnswer alone) log cs I (λ M X q asked. once (LockAnswer alone) (IsPartLock K txs B t) log M X cs calls.every asked (λ s c h e a told. at M X q s c h e a told)) n J times
     where
       differs : (m : ℕ) → m ≡ number → (number == m) ≡ false → ⊥
       differs m e h = let z : (number == m) ≡ true = grind (arith, e) in let y : true ≡ false = sym z ∙ h in cc
 
-      at : (M X : ℕ → Sight) → Quiet log I M → (s : ℕ) (c : ℕ × LockCall) → IsLock K txs B t c → c.0 ≡ s → (a : Result Replied NodeFault) → LockAnswer alone c (M s) (X s) a → Silent alone lane (M s) (X s)
+      at : (M X : ℕ → Sight) → Quiet log I M → (s : ℕ) (c : ℕ × LockCall) → IsPartLock K txs B t c → c.0 ≡ s → (a : Result Replied NodeFault) → LockAnswer alone c (M s) (X s) a → Silent alone lane (M s) (X s)
       at M X q s c h e a told = silent alone lane true
           (λ L. lock_by (next_lock L B (part K.shards s 0 txs) t) (M s).header.shape (M s).capacity L (record { batch = B; part = part K.shards s 0 txs; cause = t })) (M s) (X s)
           (λ L m. lock_unbroken (M s).header.shape (M s).capacity L (record { batch = B; part = part K.shards s 0 txs; cause = t }) (next_lock L B (part K.shards s 0 txs) t) m)
@@ -103,9 +103,9 @@ module _ (K : Shape) (pieces : List (List Compact)) (alone : Bool) (lane number 
   -- Finish, where no shard is locked
   pub finishes_quiet : (log : Sight) (os : List Outcome) (t n : ℕ) (I J : ℕ → Sight) (cs : List (ℕ × FinishCall)) → AreFinishes K txs os B t cs
       → ((s : ℕ) → is_concerned K txs s ≡ true → (slot (I s).seen lane).phase ≡ InLock → ⊥) → AskedTimes (FinishAnswer alone) cs n I J → Quiet log I J
-  finishes_quiet log os t n I J cs calls unlocked times = many (FinishAnswer alone) log cs I (λ M X q asked. once (FinishAnswer alone) (IsFinish K txs os B t) log M X cs calls.every asked (λ s c h e a told. at M X q s c h e a told)) n J times
+  finishes_quiet log os t n I J cs calls unlocked times = many (FinishAnswer alone) log cs I (λ M X q asked. once (FinishAnswer alone) (IsPartFinish K txs os B t) log M X cs calls.every asked (λ s c h e a told. at M X q s c h e a told)) n J times
     where
-      at : (M X : ℕ → Sight) → Quiet log I M → (s : ℕ) (c : ℕ × FinishCall) → IsFinish K txs os B t c → c.0 ≡ s → (a : Result ℕ NodeFault) → FinishAnswer alone c (M s) (X s) a → Silent alone lane (M s) (X s)
+      at : (M X : ℕ → Sight) → Quiet log I M → (s : ℕ) (c : ℕ × FinishCall) → IsPartFinish K txs os B t c → c.0 ≡ s → (a : Result ℕ NodeFault) → FinishAnswer alone c (M s) (X s) a → Silent alone lane (M s) (X s)
       at M X q s c h e a told = silent alone lane false
           (λ L. stamp_by (next_finish L B (decisions os (part K.shards s 0 txs)) t) (Finish (next_stamp L t) B (decisions os (part K.shards s 0 txs)))) (M s) (X s)
           (λ L m. stamp_unbroken (next_finish L B (decisions os (part K.shards s 0 txs)) t) (Finish (next_stamp L t) B (decisions os (part K.shards s 0 txs))) m)
@@ -119,9 +119,9 @@ module _ (K : Shape) (pieces : List (List Compact)) (alone : Bool) (lane number 
   -- Forget, where no shard has finished and not forgotten
   pub forgets_quiet : (log : Sight) (t n : ℕ) (I J : ℕ → Sight) (cs : List (ℕ × ForgetCall)) → AreForgets K txs B t cs
       → ((s : ℕ) → is_concerned K txs s ≡ true → (slot (I s).seen lane).phase ≡ InFinish → ⊥) → AskedTimes (ForgetAnswer alone) cs n I J → Quiet log I J
-  forgets_quiet log t n I J cs calls unfinished times = many (ForgetAnswer alone) log cs I (λ M X q asked. once (ForgetAnswer alone) (IsForget K txs B t) log M X cs calls.every asked (λ s c h e a told. at M X q s c h e a told)) n J times
+  forgets_quiet log t n I J cs calls unfinished times = many (ForgetAnswer alone) log cs I (λ M X q asked. once (ForgetAnswer alone) (IsPartForget K txs B t) log M X cs calls.every asked (λ s c h e a told. at M X q s c h e a told)) n J times
     where
-      at : (M X : ℕ → Sight) → Quiet log I M → (s : ℕ) (c : ℕ × ForgetCall) → IsForget K txs B t c → c.0 ≡ s → (a : Result ℕ NodeFault) → ForgetAnswer alone c (M s) (X s) a → Silent alone lane (M s) (X s)
+      at : (M X : ℕ → Sight) → Quiet log I M → (s : ℕ) (c : ℕ × ForgetCall) → IsPartForget K txs B t c → c.0 ≡ s → (a : Result ℕ NodeFault) → ForgetAnswer alone c (M s) (X s) a → Silent alone lane (M s) (X s)
       at M X q s c h e a told = silent alone lane false (λ L. stamp_by (next_forget L B t) (Forget (next_stamp L t) B)) (M s) (X s)
           (λ L m. stamp_unbroken (next_forget L B t) (Forget (next_stamp L t) B) m)
           (λ found f b r w.

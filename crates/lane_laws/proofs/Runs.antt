@@ -15,7 +15,7 @@ use Rattle.cbdc_model.specs.Due.{open_batch}
 use Rattle.cbdc_model.specs.Sights.{Sight}
 use Rattle.ledger_laws.proofs.Moves.{greatest_bound}
 use Rattle.lane_laws.specs.Batches.{own}
-use Rattle.lane_laws.specs.Calls.{shard, is_concerned, AreParts, AreLocks, IsFinish, IsForget, lock_of, finish_of, forget_of}
+use Rattle.lane_laws.specs.Calls.{shard, is_concerned, AreParts, AreLocks, IsPartFinish, IsPartForget, lock_call_of, finish_call_of, forget_call_of}
 use Rattle.lane_laws.specs.Gathering.{stamp_at}
 use Rattle.lane_laws.specs.Answers.{LockAnswer, FinishAnswer, ForgetAnswer, Locked, Stamped, AskedTimes}
 use Rattle.lane_laws.specs.Traces.{ToldDiscarded, ToldCommitted, ToldPrepared}
@@ -69,15 +69,15 @@ module _ (K : Shape) (pieces : List (List Compact)) (alone : Bool) (lane number 
 
   pub forgets_run : (log : Sight) (I M J : ℕ → Sight) (u td m repeats : ℕ) (locks : List (ℕ × LockCall)) → record_of 8 log.seen B ≡ Some (Discard td B)
       → ((s : ℕ) → is_concerned K txs s ≡ false → record_of 4 (I s).seen B ≡ None) → IsForgot K alone lane number txs I → AreLocks K txs B u locks
-      → (f : Stamped (ForgetAnswer alone) (map (forget_of B td) locks) I M m) → AskedTimes (ForgetAnswer alone) (map (forget_of B td) locks) repeats M J
-      → ForgetsRun log I J m (stamp_at shard (map (forget_of B td) locks) f.asked.answers)
+      → (f : Stamped (ForgetAnswer alone) (map (forget_call_of B td) locks) I M m) → AskedTimes (ForgetAnswer alone) (map (forget_call_of B td) locks) repeats M J
+      → ForgetsRun log I J m (stamp_at shard (map (forget_call_of B td) locks) f.asked.answers)
   forgets_run log I M J u td m repeats locks discard none forgot are f again =
       let cs = are_forgets K txs B u td locks are in
-      let shards = forgotten_shard K alone lane number txs td I M (map (forget_of B td) locks) f.asked.answers none forgot cs f.asked.each f.asked.others f.latest.0 in
-      let q = forgets_quiet K pieces alone lane number home txs log td repeats M J (map (forget_of B td) locks) cs (λ s c p. no_end' (slot (M s).seen lane).phase ((shards s).slot_is c).1 p) again in
+      let shards = forgotten_shard K alone lane number txs td I M (map (forget_call_of B td) locks) f.asked.answers none forgot cs f.asked.each f.asked.others f.latest.0 in
+      let q = forgets_quiet K pieces alone lane number home txs log td repeats M J (map (forget_call_of B td) locks) cs (λ s c p. no_end' (slot (M s).seen lane).phase ((shards s).slot_is c).1 p) again in
       record {
         moved = on log log log I M J (shards_moved K lane home pieces alone log I M
-            (forgets_step K pieces alone lane number home txs false td log I M (map (forget_of B td) locks) f.asked.answers discard cs f.asked.each f.asked.others (every_unless f.asked.answers (every_fine f.asked.answers f.latest.0)))) q.moved;
+            (forgets_step K pieces alone lane number home txs false td log I M (map (forget_call_of B td) locks) f.asked.answers discard cs f.asked.each f.asked.others (every_unless f.asked.answers (every_fine f.asked.answers f.latest.0)))) q.moved;
         shards = λ s. record {
           slot_is = λ c. (
             ap (λ z. z.number) (same_slot K pieces alone lane number home txs log M J q s) ∙ ((shards s).slot_is c).0,
@@ -90,21 +90,21 @@ module _ (K : Shape) (pieces : List (List Compact)) (alone : Bool) (lane number 
           some = λ s c. ap is_some (same_record 4 lane B (M s).seen (J s).seen refl (q.own_same s)) ∙ (shards s).some c;
           stamp = λ s. ap stamp_in (same_record 4 lane B (M s).seen (J s).seen refl (q.own_same s)) ∙ (shards s).stamp;
         };
-        greatest_is = latest_greatest K txs (IsForget K txs B td) (ForgetAnswer alone) (λ c p. p.0) (map (forget_of B td) locks) I M m cs f.asked f.latest;
+        greatest_is = latest_greatest K txs (IsPartForget K txs B td) (ForgetAnswer alone) (λ c p. p.0) (map (forget_call_of B td) locks) I M m cs f.asked f.latest;
       }
 
   pub discarded_run : (log log' : Sight) (I J : ℕ → Sight) (t u td repeats : ℕ) (locks : List (ℕ × LockCall)) → Open K lane number txs log t → record_of 8 log.seen B ≡ Some (Discard td B)
       → ((s : ℕ) → is_concerned K txs s ≡ false → record_of 4 (I s).seen B ≡ None) → IsForgot K alone lane number txs I → AreLocks K txs B u locks
-      → (told : ToldDiscarded alone B td repeats locks log log' I J) → DiscardedRun log log' I J told.ended (stamp_at shard (map (forget_of B td) locks) told.forgets.asked.answers)
+      → (told : ToldDiscarded alone B td repeats locks log log' I J) → DiscardedRun log log' I J told.ended (stamp_at shard (map (forget_call_of B td) locks) told.forgets.asked.answers)
   discarded_run log log' I J t u td repeats locks o discard none forgot are told =
       let r = forgets_run log I told.after_forget J u td told.forgotten repeats locks discard none forgot are told.forgets told.forgets_again in
-      let d = done_ok K pieces alone lane number home txs log log' J t o told.forgotten (stamp_at shard (map (forget_of B td) locks) told.forgets.asked.answers) r.looks r.greatest_is told.ended told.done in
-      let above = done_above K pieces alone lane number home txs log log' J t o told.forgotten (stamp_at shard (map (forget_of B td) locks) told.forgets.asked.answers) r.looks r.greatest_is told.ended told.done in
+      let d = done_ok K pieces alone lane number home txs log log' J t o told.forgotten (stamp_at shard (map (forget_call_of B td) locks) told.forgets.asked.answers) r.looks r.greatest_is told.ended told.done in
+      let above = done_above K pieces alone lane number home txs log log' J t o told.forgotten (stamp_at shard (map (forget_call_of B td) locks) told.forgets.asked.answers) r.looks r.greatest_is told.ended told.done in
       record {
         moved = on log log log' I J J r.moved d.0;
         step = d.1;
         shards = r.shards;
-        above = λ s lt. (let h = greatest_bound (λ s. stamp_at shard (map (forget_of B td) locks) told.forgets.asked.answers s) K.shards s lt in let m = r.greatest_is in omega (arith, h, m, above));
+        above = λ s lt. (let h = greatest_bound (λ s. stamp_at shard (map (forget_call_of B td) locks) told.forgets.asked.answers s) K.shards s lt in let m = r.greatest_is in omega (arith, h, m, above));
       }
 
   -- the shards' own records and slots, from a Commit on
@@ -149,20 +149,20 @@ module _ (K : Shape) (pieces : List (List Compact)) (alone : Bool) (lane number 
 
   pub finishes_run : (log : Sight) (I M J : ℕ → Sight) (u tc m : ℕ) (os : List Outcome) (repeats : ℕ) (locks : List (ℕ × LockCall)) → record_of 7 log.seen B ≡ Some (Commit tc B os)
       → ((s : ℕ) → is_concerned K txs s ≡ true → entries (lock_in (I s).seen B) ≡ part K.shards s 0 txs) → ((s : ℕ) → is_concerned K txs s ≡ false → record_of 3 (I s).seen B ≡ None) → AreLocks K txs B u locks
-      → (f : Stamped (FinishAnswer alone) (map (finish_of B tc os) locks) I M m) → AskedTimes (FinishAnswer alone) (map (finish_of B tc os) locks) repeats M J
-      → FinishesRun log I J os m (stamp_at shard (map (finish_of B tc os) locks) f.asked.answers)
+      → (f : Stamped (FinishAnswer alone) (map (finish_call_of B tc os) locks) I M m) → AskedTimes (FinishAnswer alone) (map (finish_call_of B tc os) locks) repeats M J
+      → FinishesRun log I J os m (stamp_at shard (map (finish_call_of B tc os) locks) f.asked.answers)
   finishes_run log I M J u tc m os repeats locks commit part_is none are f again =
       let cs = are_finishes K txs B os u tc locks are in
-      let shards = finished_shard K alone lane number txs os tc I M (map (finish_of B tc os) locks) f.asked.answers none cs f.asked.each f.asked.others f.latest.0 in
-      let q = finishes_quiet K pieces alone lane number home txs log os tc repeats M J (map (finish_of B tc os) locks) cs (λ s c p. no_phase (slot (M s).seen lane).phase ((shards s).slot_is c).1 p) again in
+      let shards = finished_shard K alone lane number txs os tc I M (map (finish_call_of B tc os) locks) f.asked.answers none cs f.asked.each f.asked.others f.latest.0 in
+      let q = finishes_quiet K pieces alone lane number home txs log os tc repeats M J (map (finish_call_of B tc os) locks) cs (λ s c p. no_phase (slot (M s).seen lane).phase ((shards s).slot_is c).1 p) again in
       record {
-        moved = on log log log I M J (shards_moved K lane home pieces alone log I M (finishes_step K pieces alone lane number home txs false os tc log I M (map (finish_of B tc os) locks) f.asked.answers
+        moved = on log log log I M J (shards_moved K lane home pieces alone log I M (finishes_step K pieces alone lane number home txs false os tc log I M (map (finish_call_of B tc os) locks) f.asked.answers
             commit part_is cs f.asked.each f.asked.others (every_unless f.asked.answers (every_fine f.asked.answers f.latest.0)))) q.moved;
         looks = record {
           some = λ s c. ap is_some (same_record 3 lane B (M s).seen (J s).seen refl (q.own_same s)) ∙ (shards s).some c;
           stamp = λ s. ap stamp_in (same_record 3 lane B (M s).seen (J s).seen refl (q.own_same s)) ∙ (shards s).stamp;
         };
-        greatest_is = latest_greatest K txs (IsFinish K txs os B tc) (FinishAnswer alone) (λ c p. p.0) (map (finish_of B tc os) locks) I M m cs f.asked f.latest;
+        greatest_is = latest_greatest K txs (IsPartFinish K txs os B tc) (FinishAnswer alone) (λ c p. p.0) (map (finish_call_of B tc os) locks) I M m cs f.asked f.latest;
         number_is = λ s c. ap (λ z. z.number) (same_slot K pieces alone lane number home txs log M J q s) ∙ ((shards s).slot_is c).0;
         finished = λ s c. ap (λ z. z.phase) (same_slot K pieces alone lane number home txs log M J q s) ∙ ((shards s).slot_is c).1;
         others = λ s c. q.own_same s ∙ ap (λ v. own lane v.seen) ((shards s).others c);
@@ -176,26 +176,26 @@ module _ (K : Shape) (pieces : List (List Compact)) (alone : Bool) (lane number 
   module _ (log log' : Sight) (I J : ℕ → Sight) (t u tc : ℕ) (os : List Outcome) (repeats : ℕ) (locks : List (ℕ × LockCall)) (o : Open K lane number txs log t) (commit : record_of 7 log.seen B ≡ Some (Commit tc B os))
       (part_is : (s : ℕ) → is_concerned K txs s ≡ true → entries (lock_in (I s).seen B) ≡ part K.shards s 0 txs)
       (none : (s kind : ℕ) → (kind ≡ 3) ⊎ (kind ≡ 4) → is_concerned K txs s ≡ false → record_of kind (I s).seen B ≡ None) (are : AreLocks K txs B u locks) (told : ToldCommitted alone B tc os repeats locks log log' I J) where
-    fins_run : FinishesRun log I told.before_discard os told.finished (stamp_at shard (map (finish_of B tc os) locks) told.finishes.asked.answers)
+    fins_run : FinishesRun log I told.before_discard os told.finished (stamp_at shard (map (finish_call_of B tc os) locks) told.finishes.asked.answers)
     fins_run = finishes_run log I told.after_finish told.before_discard u tc told.finished os repeats locks commit part_is (λ s c. none s 3 (inl refl) c) are told.finishes told.finishes_again
 
     discarding : LogDone K pieces alone lane number home txs log told.log_discarded told.before_discard t (Discard told.discarded B) × (record_of 8 told.log_discarded.seen B ≡ Some (Discard told.discarded B))
-    discarding = discard_ok K pieces alone lane number home txs log told.log_discarded told.before_discard t o told.finished (stamp_at shard (map (finish_of B tc os) locks) told.finishes.asked.answers) fins_run.looks fins_run.greatest_is told.discarded told.discard
+    discarding = discard_ok K pieces alone lane number home txs log told.log_discarded told.before_discard t o told.finished (stamp_at shard (map (finish_call_of B tc os) locks) told.finishes.asked.answers) fins_run.looks fins_run.greatest_is told.discarded told.discard
 
-    ending : DiscardedRun told.log_discarded log' told.before_discard told.after_done told.rest.ended (stamp_at shard (map (forget_of B told.discarded) locks) told.rest.forgets.asked.answers)
+    ending : DiscardedRun told.log_discarded log' told.before_discard told.after_done told.rest.ended (stamp_at shard (map (forget_call_of B told.discarded) locks) told.rest.forgets.asked.answers)
     ending = discarded_run told.log_discarded log' told.before_discard told.after_done t u told.discarded repeats locks discarding.0.stays discarding.1
         (λ s c. same_record 4 lane B (I s).seen (told.before_discard s).seen refl (fins_run.others s c) ∙ none s 4 (inr refl) c)
-        (not_forgot log I told.before_discard os told.finished (stamp_at shard (map (finish_of B tc os) locks) told.finishes.asked.answers) fins_run) are told.rest
+        (not_forgot log I told.before_discard os told.finished (stamp_at shard (map (finish_call_of B tc os) locks) told.finishes.asked.answers) fins_run) are told.rest
 
     late : Quiet K pieces alone lane number home txs log' told.after_done J
     late =
         let a = locks_quiet K pieces alone lane number home txs log' u repeats told.after_done told.after_locks locks are (λ s c. ((ending.shards s).slot_is c).0) told.locks_late in
         let sa = λ (s : ℕ). same_slot K pieces alone lane number home txs log' told.after_done told.after_locks a s in
-        let b = finishes_quiet K pieces alone lane number home txs log' os tc repeats told.after_locks told.after_finishes (map (finish_of B tc os) locks) (are_finishes K txs B os u tc locks are)
+        let b = finishes_quiet K pieces alone lane number home txs log' os tc repeats told.after_locks told.after_finishes (map (finish_call_of B tc os) locks) (are_finishes K txs B os u tc locks are)
         (λ s c p. no_idle (slot (told.after_locks s).seen lane).phase (ap (λ q. q.phase) (sa s) ∙ ((ending.shards s).slot_is c).1) p) told.finishes_late in
         let ab = quiet_on K pieces alone lane number home txs log' told.after_done told.after_locks told.after_finishes a b in
         let sb = λ (s : ℕ). same_slot K pieces alone lane number home txs log' told.after_done told.after_finishes ab s in
-        let c = forgets_quiet K pieces alone lane number home txs log' told.discarded repeats told.after_finishes J (map (forget_of B told.discarded) locks) (are_forgets K txs B u told.discarded locks are)
+        let c = forgets_quiet K pieces alone lane number home txs log' told.discarded repeats told.after_finishes J (map (forget_call_of B told.discarded) locks) (are_forgets K txs B u told.discarded locks are)
         (λ s c p. no_end' (slot (told.after_finishes s).seen lane).phase (ap (λ q. q.phase) (sb s) ∙ ((ending.shards s).slot_is c).1) p) told.forgets_late in
         quiet_on K pieces alone lane number home txs log' told.after_done told.after_finishes J ab c
 
@@ -209,19 +209,19 @@ module _ (K : Shape) (pieces : List (List Compact)) (alone : Bool) (lane number 
       newest = ending.step.newest;
       later = (let a = discarding.0.step.later in let b = ending.step.later in let c = discarding.0.step.newest in omega (arith, a, b, c));
       shape = ending.step.shape ∙ discarding.0.step.shape;
-      fins = stamp_at shard (map (finish_of B tc os) locks) told.finishes.asked.answers;
-      ends = stamp_at shard (map (forget_of B told.discarded) locks) told.rest.forgets.asked.answers;
+      fins = stamp_at shard (map (finish_call_of B tc os) locks) told.finishes.asked.answers;
+      ends = stamp_at shard (map (forget_call_of B told.discarded) locks) told.rest.forgets.asked.answers;
       above = ending.above;
       shards = λ s. record {
         others = λ c. late.own_same s ∙ (ending.shards s).others c ∙ fins_run.others s c;
         number_is = λ c. ap (λ q. q.number) (same_slot K pieces alone lane number home txs log' told.after_done J late s) ∙ ((ending.shards s).slot_is c).0;
         idle = λ c. ap (λ q. q.phase) (same_slot K pieces alone lane number home txs log' told.after_done J late s) ∙ ((ending.shards s).slot_is c).1;
-        adds = λ c p. late.own_same s ∙ forget_added s c ∙ ap (λ L. Forget (stamp_at shard (map (forget_of B told.discarded) locks) told.rest.forgets.asked.answers s) B ∷ L) (fins_run.adds s c p);
+        adds = λ c p. late.own_same s ∙ forget_added s c ∙ ap (λ L. Forget (stamp_at shard (map (forget_call_of B told.discarded) locks) told.rest.forgets.asked.answers s) B ∷ L) (fins_run.adds s c p);
       };
     }
       where
         forget_added : (s : ℕ) → is_concerned K txs s ≡ true
-            → own lane (told.after_done s).seen ≡ Forget (stamp_at shard (map (forget_of B told.discarded) locks) told.rest.forgets.asked.answers s) B ∷ own lane (told.before_discard s).seen
+            → own lane (told.after_done s).seen ≡ Forget (stamp_at shard (map (forget_call_of B told.discarded) locks) told.rest.forgets.asked.answers s) B ∷ own lane (told.before_discard s).seen
         forget_added s c = elim ((ending.shards s).adds c) [
           | inl e ↦ e
           | inr q ↦ no_end (slot (told.before_discard s).seen lane).phase (fins_run.finished s c) q
@@ -263,14 +263,14 @@ module _ (K : Shape) (pieces : List (List Compact)) (alone : Bool) (lane number 
     pub shards : (s : ℕ) → LocksShard rs I J s
 
   pub locks_run : (log : Sight) (I M J : ℕ → Sight) (t repeats : ℕ) (parts : List (ℕ × List Entry)) (rs : List ShardReplies) → Open K lane number txs log t → ((s : ℕ) → is_concerned K txs s ≡ false → record_of 2 (I s).seen B ≡ None)
-      → AreParts K txs parts → Locked alone (map (lock_of B t) parts) I M rs → AskedTimes (LockAnswer alone) (map (lock_of B t) parts) repeats M J → LocksRun rs log I J
+      → AreParts K txs parts → Locked alone (map (lock_call_of B t) parts) I M rs → AskedTimes (LockAnswer alone) (map (lock_call_of B t) parts) repeats M J → LocksRun rs log I J
   locks_run log I M J t repeats parts rs o none are l again =
       let cs = are_locks K txs B t parts are in
-      let shards = locked_shard K alone lane number txs t I M rs (map (lock_of B t) parts) l.asked.answers none cs l.asked.each l.asked.others l.gathered in
-      let q = locks_quiet K pieces alone lane number home txs log t repeats M J (map (lock_of B t) parts) cs (λ s c. (shards s).number_is c) again in
+      let shards = locked_shard K alone lane number txs t I M rs (map (lock_call_of B t) parts) l.asked.answers none cs l.asked.each l.asked.others l.gathered in
+      let q = locks_quiet K pieces alone lane number home txs log t repeats M J (map (lock_call_of B t) parts) cs (λ s c. (shards s).number_is c) again in
       record {
-        moved = on log log log I M J (shards_moved K lane home pieces alone log I M (locks_step K pieces alone lane number home txs false t log I M (map (lock_of B t) parts) l.asked.answers o.prepare cs l.asked.each l.asked.others
-            (locks_fine l.asked.answers (gathered_fine (map (lock_of B t) parts) l.asked.answers rs l.gathered.replies)))) q.moved;
+        moved = on log log log I M J (shards_moved K lane home pieces alone log I M (locks_step K pieces alone lane number home txs false t log I M (map (lock_call_of B t) parts) l.asked.answers o.prepare cs l.asked.each l.asked.others
+            (locks_fine l.asked.answers (gathered_fine (map (lock_call_of B t) parts) l.asked.answers rs l.gathered.replies)))) q.moved;
         shards = λ s. locks_shard rs log I M J s (shards s) q;
       }
     where
@@ -300,7 +300,7 @@ module _ (K : Shape) (pieces : List (List Compact)) (alone : Bool) (lane number 
       let l = locks_run log I told.after_lock told.before_decide t repeats parts told.replies o (λ s c. none s 2 (inl refl) c) are told.locks told.locks_again in
       let d = commit_ok K pieces alone lane number home txs log told.log_committed told.before_decide t o told.replies (λ s. (l.shards s).looks) told.committed told.decide in
       let e = named_outcomes told.log_committed os (decided K txs told.replies) told.committed d.0.stays.open_number d.1 told.outcomes in
-      let r = committed_run told.log_committed log' told.before_decide J t t told.committed os repeats (map (lock_of B t) parts) d.0.stays (d.1 ∙ ap (λ q. Some (Commit told.committed B q)) (sym e)) (λ s. (l.shards s).looks.part_is)
+      let r = committed_run told.log_committed log' told.before_decide J t t told.committed os repeats (map (lock_call_of B t) parts) d.0.stays (d.1 ∙ ap (λ q. Some (Commit told.committed B q)) (sym e)) (λ s. (l.shards s).looks.part_is)
       (λ s kind h c. same_record kind lane B (I s).seen (told.before_decide s).seen refl ((l.shards s).others c) ∙ none s kind (inr h) c)
       (are_locks K txs B t parts are) told.rest in
       record {

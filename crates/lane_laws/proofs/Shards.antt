@@ -18,8 +18,8 @@ use Rattle.cbdc_model.specs.Due.{Due, lock_by, stamp_by}
 use Rattle.cbdc_model.specs.Sights.{Sight, Finds}
 use Rattle.ledger_laws.proofs.Slots.{same_batch_self}
 use Rattle.lane_laws.specs.Batches.{own}
-use Rattle.lane_laws.specs.Calls.{shard, is_concerned, IsLock, IsFinish, IsForget, AreLocks, AreFinishes, AreForgets}
-use Rattle.lane_laws.specs.Gathering.{Gathered, stamp_at, replied_of}
+use Rattle.lane_laws.specs.Calls.{shard, is_concerned, IsPartLock, IsPartFinish, IsPartForget, AreLocks, AreFinishes, AreForgets}
+use Rattle.lane_laws.specs.Gathering.{Gathered, stamp_at, gathered_reply}
 use Rattle.lane_laws.specs.Answers.{EachTold, Others, LockAnswer, FinishAnswer, ForgetAnswer}
 use Rattle.lane_laws.proofs.Own.{own_in, finds_own, finds_slot, finds_stamp, finds_record}
 use Rattle.lane_laws.proofs.Sameness.{no_difference, entry_same, decision_same}
@@ -140,7 +140,7 @@ module _ (K : Shape) (alone : Bool) (lane number : ℕ) (txs : List Compact) whe
 
   pub locked_shard : (t : ℕ) (I J : ℕ → Sight) (rs : List ShardReplies) (cs : List (ℕ × LockCall)) (answers : List (Result Replied NodeFault)) → ((s : ℕ) → is_concerned K txs s ≡ false → record_of 2 (I s).seen B ≡ None)
       → AreLocks K txs B t cs → EachTold (LockAnswer alone) cs answers I J → Others cs I J → Gathered cs answers rs → (s : ℕ) → LockedShard rs I J s
-  locked_shard t I J rs cs answers none calls each others g s = go (locked_at alone (IsLock K txs B t) I J s cs answers rs each g.shards g.replies calls.every)
+  locked_shard t I J rs cs answers none calls each others g s = go (locked_at alone (IsPartLock K txs B t) I J s cs answers rs each g.shards g.replies calls.every)
     where
       -- from what the journal has of Lock
       looks_by : (c : is_concerned K txs s ≡ true) (rep : ShardReplies) → replies_at rs s ≡ Some rep → (es : List Answered) → entries_in (record_of 2 (J s).seen B) ≡ es → stamp_in (record_of 2 (J s).seen B) ≡ rep.stamp
@@ -154,9 +154,9 @@ module _ (K : Shape) (alone : Bool) (lane number : ℕ) (txs : List Compact) whe
       }
 
       made : (c : is_concerned K txs s ≡ true) (rep : ShardReplies) → replies_at rs s ≡ Some rep
-          → Wrote alone lane (λ L. lock_by (next_lock L B (part K.shards s 0 txs) t) (I s).header.shape (I s).capacity L (record { batch = B; part = part K.shards s 0 txs; cause = t })) (I s) (J s) (replied_of rep) → LockedShard rs I J s
+          → Wrote alone lane (λ L. lock_by (next_lock L B (part K.shards s 0 txs) t) (I s).header.shape (I s).capacity L (record { batch = B; part = part K.shards s 0 txs; cause = t })) (I s) (J s) (gathered_reply rep) → LockedShard rs I J s
       made c rep r w =
-          let e = lock_wrote (I s).header.shape (I s).capacity w.found (record { batch = B; part = part K.shards s 0 txs; cause = t }) (next_lock w.found B (part K.shards s 0 txs) t) (replied_of rep) w.what w.writes in
+          let e = lock_wrote (I s).header.shape (I s).capacity w.found (record { batch = B; part = part K.shards s 0 txs; cause = t }) (next_lock w.found B (part K.shards s 0 txs) t) (gathered_reply rep) w.what w.writes in
           let n = lock_new w.found B (part K.shards s 0 txs) t e.0 e.1 in
           go w.found w.finds w.seen e.3 (ap (λ a. a.replies) e.2 ∙ ap (λ a. a.given) n.1) (ap (λ a. a.stamp) e.2 ∙ ap (λ a. a.at) n.1)
         where
@@ -178,9 +178,9 @@ module _ (K : Shape) (alone : Bool) (lane number : ℕ) (txs : List Compact) whe
               }
 
       stood : (c : is_concerned K txs s ≡ true) (rep : ShardReplies) → replies_at rs s ≡ Some rep
-          → Stood alone lane (λ L. lock_by (next_lock L B (part K.shards s 0 txs) t) (I s).header.shape (I s).capacity L (record { batch = B; part = part K.shards s 0 txs; cause = t })) (I s) (J s) (replied_of rep) → LockedShard rs I J s
+          → Stood alone lane (λ L. lock_by (next_lock L B (part K.shards s 0 txs) t) (I s).header.shape (I s).capacity L (record { batch = B; part = part K.shards s 0 txs; cause = t })) (I s) (J s) (gathered_reply rep) → LockedShard rs I J s
       stood c rep r w =
-          let e = lock_kept (I s).header.shape (I s).capacity w.found (record { batch = B; part = part K.shards s 0 txs; cause = t }) (next_lock w.found B (part K.shards s 0 txs) t) (replied_of rep) w.answers in
+          let e = lock_kept (I s).header.shape (I s).capacity w.found (record { batch = B; part = part K.shards s 0 txs; cause = t }) (next_lock w.found B (part K.shards s 0 txs) t) (gathered_reply rep) w.answers in
           let k = lock_stored w.found B (part K.shards s 0 txs) t e.0 e.1 in
           let parts : entries (lock_of w.found B) ≡ part K.shards s 0 txs = no_difference same_entry entry_same (entries (lock_of w.found B)) (part K.shards s 0 txs) k.2 in
           let n : (slot w.found lane).number ≡ number = numbers_same number (slot w.found lane).number k.0 in
@@ -192,13 +192,13 @@ module _ (K : Shape) (alone : Bool) (lane number : ℕ) (txs : List Compact) whe
             adds = λ y. inr (ap (λ q. q.number) (sym (finds_slot alone lane (I s).seen w.found w.finds)) ∙ n);
           }
 
-      both : (c : is_concerned K txs s ≡ true) (rep : ShardReplies) → replies_at rs s ≡ Some rep → LockAnswer alone (s, record { batch = B; part = part K.shards s 0 txs; cause = t }) (I s) (J s) (Ok (replied_of rep)) → LockedShard rs I J s
-      both c rep r told = elim (told_ok alone lane true (λ L. lock_by (next_lock L B (part K.shards s 0 txs) t) (I s).header.shape (I s).capacity L (record { batch = B; part = part K.shards s 0 txs; cause = t })) (I s) (J s) (replied_of rep) told) [
+      both : (c : is_concerned K txs s ≡ true) (rep : ShardReplies) → replies_at rs s ≡ Some rep → LockAnswer alone (s, record { batch = B; part = part K.shards s 0 txs; cause = t }) (I s) (J s) (Ok (gathered_reply rep)) → LockedShard rs I J s
+      both c rep r told = elim (told_ok alone lane true (λ L. lock_by (next_lock L B (part K.shards s 0 txs) t) (I s).header.shape (I s).capacity L (record { batch = B; part = part K.shards s 0 txs; cause = t })) (I s) (J s) (gathered_reply rep) told) [
         | inl w ↦ stood c rep r w
         | inr w ↦ made c rep r w
       ]
 
-      go : LockedAt alone (IsLock K txs B t) cs rs I J s → LockedShard rs I J s
+      go : LockedAt alone (IsPartLock K txs B t) cs rs I J s → LockedShard rs I J s
       go (no_lock n e) =
           let no : record_of 2 (J s).seen B ≡ None = ap (λ v. record_of 2 v.seen B) (others s n) ∙ none s (not_true (is_concerned K txs s) (λ c. calls.covers s c n)) in
           record {
@@ -214,7 +214,7 @@ module _ (K : Shape) (alone : Bool) (lane number : ℕ) (txs : List Compact) whe
             others = λ c. others s n;
             adds = λ c. absurd (calls.covers s c n);
           }
-      go (one_lock c h e rep r told) = both (subst (λ n. is_concerned K txs n ≡ true) e h.0) rep r (subst (λ (d : ℕ × LockCall). LockAnswer alone d (I s) (J s) (Ok (replied_of rep)))
+      go (one_lock c h e rep r told) = both (subst (λ n. is_concerned K txs n ≡ true) e h.0) rep r (subst (λ (d : ℕ × LockCall). LockAnswer alone d (I s) (J s) (Ok (gathered_reply rep)))
           (λ i. (e i, (h.1 ∙ ap (λ (n : ℕ). let d : LockCall = record { batch = B; part = part K.shards n 0 txs; cause = t } in d) e) i)) told)
 
   -- Finish and Forget: what the shard has of the kind, and its slot
@@ -236,7 +236,7 @@ module _ (K : Shape) (alone : Bool) (lane number : ℕ) (txs : List Compact) whe
   pub finished_shard : (os : List Outcome) (t : ℕ) (I J : ℕ → Sight) (cs : List (ℕ × FinishCall)) (answers : List (Result ℕ NodeFault)) → ((s : ℕ) → is_concerned K txs s ≡ false → record_of 3 (I s).seen B ≡ None)
       → AreFinishes K txs os B t cs → EachTold (FinishAnswer alone) cs answers I J → Others cs I J → All IsOk answers → (s : ℕ)
       → StampedShard 3 InFinish InFinish (stamp_at shard cs answers) (λ s. Finish (stamp_at shard cs answers s) B (decisions os (part K.shards s 0 txs))) I J s
-  finished_shard os t I J cs answers none calls each others ok s = go (stamped_at (FinishAnswer alone) (IsFinish K txs os B t) I J s cs answers each (every_fine answers ok) calls.every)
+  finished_shard os t I J cs answers none calls each others ok s = go (stamped_at (FinishAnswer alone) (IsPartFinish K txs os B t) I J s cs answers each (every_fine answers ok) calls.every)
     where
       made : (c : is_concerned K txs s ≡ true) (n : ℕ) → stamp_at shard cs answers s ≡ n
           → Wrote alone lane (λ L. stamp_by (next_finish L B (decisions os (part K.shards s 0 txs)) t) (Finish (next_stamp L t) B (decisions os (part K.shards s 0 txs)))) (I s) (J s) n → StampedShard 3 InFinish InFinish (stamp_at shard cs answers) (λ s. Finish (stamp_at shard cs answers s) B (decisions os (part K.shards s 0 txs))) I J s
@@ -274,7 +274,7 @@ module _ (K : Shape) (alone : Bool) (lane number : ℕ) (txs : List Compact) whe
         | inr w ↦ made c n is w
       ]
 
-      go : StampedAt (FinishAnswer alone) (IsFinish K txs os B t) cs answers I J s → StampedShard 3 InFinish InFinish (stamp_at shard cs answers) (λ s. Finish (stamp_at shard cs answers s) B (decisions os (part K.shards s 0 txs))) I J s
+      go : StampedAt (FinishAnswer alone) (IsPartFinish K txs os B t) cs answers I J s → StampedShard 3 InFinish InFinish (stamp_at shard cs answers) (λ s. Finish (stamp_at shard cs answers s) B (decisions os (part K.shards s 0 txs))) I J s
       go (no_stamp n e) = uncalled 3 InFinish InFinish (stamp_at shard cs answers) (λ s. Finish (stamp_at shard cs answers s) B (decisions os (part K.shards s 0 txs))) I J s (λ c. calls.covers s c n) e (others s n)
           (none s (not_true (is_concerned K txs s) (λ c. calls.covers s c n)))
       go (one_stamp c h e n is told) = both (subst (λ m. is_concerned K txs m ≡ true) e h.0) n is (subst (λ (d : ℕ × FinishCall). FinishAnswer alone d (I s) (J s) (Ok n))
@@ -304,7 +304,7 @@ module _ (K : Shape) (alone : Bool) (lane number : ℕ) (txs : List Compact) whe
   pub forgotten_shard : (t : ℕ) (I J : ℕ → Sight) (cs : List (ℕ × ForgetCall)) (answers : List (Result ℕ NodeFault)) → ((s : ℕ) → is_concerned K txs s ≡ false → record_of 4 (I s).seen B ≡ None) → IsForgot I
       → AreForgets K txs B t cs → EachTold (ForgetAnswer alone) cs answers I J → Others cs I J → All IsOk answers → (s : ℕ)
       → StampedShard 4 Idle Idle (stamp_at shard cs answers) (λ s. Forget (stamp_at shard cs answers s) B) I J s
-  forgotten_shard t I J cs answers none forgot calls each others ok s = go (stamped_at (ForgetAnswer alone) (IsForget K txs B t) I J s cs answers each (every_fine answers ok) calls.every)
+  forgotten_shard t I J cs answers none forgot calls each others ok s = go (stamped_at (ForgetAnswer alone) (IsPartForget K txs B t) I J s cs answers each (every_fine answers ok) calls.every)
     where
       made : (c : is_concerned K txs s ≡ true) (n : ℕ) → stamp_at shard cs answers s ≡ n → Wrote alone lane (λ L. stamp_by (next_forget L B t) (Forget (next_stamp L t) B)) (I s) (J s) n → StampedShard 4 Idle Idle (stamp_at shard cs answers) (λ s. Forget (stamp_at shard cs answers s) B) I J s
       made c n is w =
@@ -341,6 +341,6 @@ module _ (K : Shape) (alone : Bool) (lane number : ℕ) (txs : List Compact) whe
         | inr w ↦ made c n is w
       ]
 
-      go : StampedAt (ForgetAnswer alone) (IsForget K txs B t) cs answers I J s → StampedShard 4 Idle Idle (stamp_at shard cs answers) (λ s. Forget (stamp_at shard cs answers s) B) I J s
+      go : StampedAt (ForgetAnswer alone) (IsPartForget K txs B t) cs answers I J s → StampedShard 4 Idle Idle (stamp_at shard cs answers) (λ s. Forget (stamp_at shard cs answers s) B) I J s
       go (no_stamp n e) = uncalled 4 Idle Idle (stamp_at shard cs answers) (λ s. Forget (stamp_at shard cs answers s) B) I J s (λ c. calls.covers s c n) e (others s n) (none s (not_true (is_concerned K txs s) (λ c. calls.covers s c n)))
       go (one_stamp c h e n is told) = both (subst (λ m. is_concerned K txs m ≡ true) e h.0) n is (subst (λ (d : ℕ × ForgetCall). ForgetAnswer alone d (I s) (J s) (Ok n)) (λ i. (e i, h.1 i)) told)

@@ -20,10 +20,10 @@ use Rattle.cbdc_model.specs.Room.{need_of}
 use Rattle.cbdc_model.specs.Due.{Due, Answers, lock_by, stamp_by, lock_due, used_of, new_batch, prepare_record, prepare_due, decide_due, discard_due, done_due}
 use Rattle.ledger_laws.proofs.Moves.{greatest_bound}
 use Rattle.cbdc_model.specs.Sights.{Sight}
-use Rattle.lane_laws.specs.Batches.{own, prepared, prepared_of, Settled, IsAnswerOf, TakesRoom, BatchStopped}
+use Rattle.lane_laws.specs.Batches.{own, prepares_txs, prepared_of, Settled, IsAnswerOf, TakesRoom, BatchStopped}
 use Rattle.lane_laws.specs.Granting.{MayLock, MayFinish, MayForget}
 use Rattle.lane_laws.specs.Faults.{IsAnswered, IsNoRefusal, IsCallFault, to_lock, to_decide, to_finish, to_discard, to_forget, to_done, IsOpenFault, AreSeenBelow}
-use Rattle.lane_laws.specs.Calls.{shard, is_concerned, Every, AreParts, AreLocks, IsLock, IsFinish, IsForget, lock_of, finish_of, forget_of}
+use Rattle.lane_laws.specs.Calls.{shard, is_concerned, Every, AreParts, AreLocks, IsPartLock, IsPartFinish, IsPartForget, lock_call_of, finish_call_of, forget_call_of}
 use Rattle.lane_laws.specs.Gathering.{stamp_at}
 use Rattle.lane_laws.specs.Answers.{LockAnswer, FinishAnswer, ForgetAnswer}
 use Rattle.lane_laws.specs.Traces.{DiscardedStopped, at_forget, at_done, CommittedStopped, at_finish, at_discard, behind_discard, PreparedStopped, at_lock, at_decide, behind_commit, ToldStopped, at_prepare, behind_prepare}
@@ -99,7 +99,7 @@ module _ (K : Shape) (pieces : List (List Compact)) (alone : Bool) (lane number 
       call = call (ap (λ q. q.phase) (same_slot lane log.seen log'.seen h.1.same)) h.3;
     };
     granted = answer_unrefused false (due log'.seen) log' f never h.3;
-    prepares = ap prepared h.1.same;
+    prepares = ap prepares_txs h.1.same;
   }
 
   anyway : {A : Type 0} (answers : List (Result A NodeFault)) → Every (OkUnless true) answers
@@ -110,7 +110,7 @@ module _ (K : Shape) (pieces : List (List Compact)) (alone : Bool) (lane number 
       → DiscardedStopped K alone B td repeats locks log log' I J node f → RunStopped log log' I J node f
   discarded_stopped log log' I J t u td repeats locks node f o discard phase_is none may forgot are (at_forget s stop same node_is) =
       subst (λ l. RunStopped log l I J node f) (sym same) (record {
-        fell = shards_fell K lane home pieces alone true log I J (forgets_step K pieces alone lane number home txs true td log I J (map (forget_of B td) locks) stop.asked.answers discard (are_forgets K txs B u td locks are)
+        fell = shards_fell K lane home pieces alone true log I J (forgets_step K pieces alone lane number home txs true td log I J (map (forget_call_of B td) locks) stop.asked.answers discard (are_forgets K txs B u td locks are)
             stop.asked.each stop.asked.others (anyway stop.asked.answers));
         told = inr (s, node_is, failed.risen);
         roomless = kept_room (next_forget failed.found B td) (Forget (next_stamp failed.found td) B) f failed.why;
@@ -130,12 +130,12 @@ module _ (K : Shape) (pieces : List (List Compact)) (alone : Bool) (lane number 
     where
       had : AreSeenBelow K txs J 4 B s
       had k lt c =
-          let e = before_at (ForgetAnswer alone) (IsForget K txs B td) I J s k f (map (forget_of B td) locks) stop.asked.answers stop.asked.each (are_forgets K txs B u td locks are).every (are_forgets K txs B u td locks are).rising stop.first lt
+          let e = before_at (ForgetAnswer alone) (IsPartForget K txs B td) I J s k f (map (forget_call_of B td) locks) stop.asked.answers stop.asked.each (are_forgets K txs B u td locks are).every (are_forgets K txs B u td locks are).rising stop.first lt
           (λ n. (are_forgets K txs B u td locks are).covers k c n) in
           forget_has K alone lane number txs k td I J e.3 forgot c (subst (λ (d : ForgetCall). ForgetAnswer alone (k, d) (I k) (J k) (Ok e.3)) e.1.1 e.4)
 
-      asked : (c : ℕ × ForgetCall) × IsForget K txs B td c × (c.0 ≡ s) × ForgetAnswer alone c (I s) (J s) (Err f)
-      asked = first_at (ForgetAnswer alone) (IsForget K txs B td) I J s f (map (forget_of B td) locks) stop.asked.answers stop.asked.each (are_forgets K txs B u td locks are).every stop.first
+      asked : (c : ℕ × ForgetCall) × IsPartForget K txs B td c × (c.0 ≡ s) × ForgetAnswer alone c (I s) (J s) (Err f)
+      asked = first_at (ForgetAnswer alone) (IsPartForget K txs B td) I J s f (map (forget_call_of B td) locks) stop.asked.answers stop.asked.each (are_forgets K txs B u td locks are).every stop.first
 
       concerned : is_concerned K txs s ≡ true
       concerned = subst (λ m. is_concerned K txs m ≡ true) asked.2 asked.1.0
@@ -147,7 +147,7 @@ module _ (K : Shape) (pieces : List (List Compact)) (alone : Bool) (lane number 
   discarded_stopped log log' I J t u td repeats locks node f o discard phase_is none may forgot are (at_done forgotten after phase again told node_is) =
       let r = forgets_run K pieces alone lane number home txs log I after J u td forgotten repeats locks discard none forgot are phase again in
       stopped_on log log log' I J J node f r.moved refl
-      (log_stopped (λ L. done_due lane forgotten None L) log log' J t node f o node_is (λ why e. late_refuses _ _ _ why e) (λ same. to_done forgotten node_is (same ∙ phase_is) (λ s lt c. r.looks.some s c) (r.greatest_is ∙ (λ i. greatest (λ s. sym (r.looks.stamp s) i) K.shards))) (done_err K pieces alone lane number home txs log log' J t o forgotten (stamp_at shard (map (forget_of B td) locks) phase.asked.answers) r.looks r.greatest_is f told))
+      (log_stopped (λ L. done_due lane forgotten None L) log log' J t node f o node_is (λ why e. late_refuses _ _ _ why e) (λ same. to_done forgotten node_is (same ∙ phase_is) (λ s lt c. r.looks.some s c) (r.greatest_is ∙ (λ i. greatest (λ s. sym (r.looks.stamp s) i) K.shards))) (done_err K pieces alone lane number home txs log log' J t o forgotten (stamp_at shard (map (forget_call_of B td) locks) phase.asked.answers) r.looks r.greatest_is f told))
 
   -- behind the Finishes and a later Discard each concerned shard may forget the batch
   forgetting : (log : Sight) (I J : ℕ → Sight) (os : List Outcome) (m td : ℕ) (fins : ℕ → ℕ) → FinishesRun K pieces alone lane number home txs log I J os m fins → m < td
@@ -193,7 +193,7 @@ module _ (K : Shape) (pieces : List (List Compact)) (alone : Bool) (lane number 
       → CommittedStopped K alone B tc os repeats locks log log' I J node f → RunStopped log log' I J node f
   committed_stopped log log' I J t u tc os repeats locks node f o commit phase_is part_is may none are (at_finish s stop same node_is) =
       subst (λ l. RunStopped log l I J node f) (sym same) (record {
-        fell = shards_fell K lane home pieces alone true log I J (finishes_step K pieces alone lane number home txs true os tc log I J (map (finish_of B tc os) locks) stop.asked.answers commit part_is (are_finishes K txs B os u tc locks are)
+        fell = shards_fell K lane home pieces alone true log I J (finishes_step K pieces alone lane number home txs true os tc log I J (map (finish_call_of B tc os) locks) stop.asked.answers commit part_is (are_finishes K txs B os u tc locks are)
             stop.asked.each stop.asked.others (anyway stop.asked.answers));
         told = inr (s, node_is, failed.risen);
         roomless = kept_room (next_finish failed.found B (decisions os (part K.shards s 0 txs)) tc) (Finish (next_stamp failed.found tc) B (decisions os (part K.shards s 0 txs))) f failed.why;
@@ -214,13 +214,13 @@ module _ (K : Shape) (pieces : List (List Compact)) (alone : Bool) (lane number 
     where
       had : AreSeenBelow K txs J 3 B s
       had k lt c =
-          let e = before_at (FinishAnswer alone) (IsFinish K txs os B tc) I J s k f (map (finish_of B tc os) locks) stop.asked.answers stop.asked.each (are_finishes K txs B os u tc locks are).every (are_finishes K txs B os u tc locks are).rising
+          let e = before_at (FinishAnswer alone) (IsPartFinish K txs os B tc) I J s k f (map (finish_call_of B tc os) locks) stop.asked.answers stop.asked.each (are_finishes K txs B os u tc locks are).every (are_finishes K txs B os u tc locks are).rising
           stop.first lt (λ n. (are_finishes K txs B os u tc locks are).covers k c n) in
           finish_has K alone lane number txs os k tc (I k) (J k) e.3 c
           (subst (λ (d : FinishCall). FinishAnswer alone (k, d) (I k) (J k) (Ok e.3)) (e.1.1 ∙ ap (λ (n : ℕ). let d : FinishCall = record { batch = B; decisions = decisions os (part K.shards n 0 txs); cause = tc } in d) e.2) e.4)
 
-      asked : (c : ℕ × FinishCall) × IsFinish K txs os B tc c × (c.0 ≡ s) × FinishAnswer alone c (I s) (J s) (Err f)
-      asked = first_at (FinishAnswer alone) (IsFinish K txs os B tc) I J s f (map (finish_of B tc os) locks) stop.asked.answers stop.asked.each (are_finishes K txs B os u tc locks are).every stop.first
+      asked : (c : ℕ × FinishCall) × IsPartFinish K txs os B tc c × (c.0 ≡ s) × FinishAnswer alone c (I s) (J s) (Err f)
+      asked = first_at (FinishAnswer alone) (IsPartFinish K txs os B tc) I J s f (map (finish_call_of B tc os) locks) stop.asked.answers stop.asked.each (are_finishes K txs B os u tc locks are).every stop.first
 
       concerned : is_concerned K txs s ≡ true
       concerned = subst (λ m. is_concerned K txs m ≡ true) asked.2 asked.1.0
@@ -233,17 +233,17 @@ module _ (K : Shape) (pieces : List (List Compact)) (alone : Bool) (lane number 
   committed_stopped log log' I J t u tc os repeats locks node f o commit phase_is part_is may none are (at_discard finished after phase again told node_is) =
       let r = finishes_run K pieces alone lane number home txs log I after J u tc finished os repeats locks commit part_is (λ s c. none s 3 (inl refl) c) are phase again in
       stopped_on log log log' I J J node f r.moved refl
-      (log_stopped (λ L. discard_due lane finished None L) log log' J t node f o node_is (λ why e. late_refuses _ _ _ why e) (λ same. to_discard finished node_is (same ∙ phase_is) (λ s lt c. r.looks.some s c) (r.greatest_is ∙ (λ i. greatest (λ s. sym (r.looks.stamp s) i) K.shards))) (discard_err K pieces alone lane number home txs log log' J t o finished (stamp_at shard (map (finish_of B tc os) locks) phase.asked.answers) r.looks r.greatest_is f told))
+      (log_stopped (λ L. discard_due lane finished None L) log log' J t node f o node_is (λ why e. late_refuses _ _ _ why e) (λ same. to_discard finished node_is (same ∙ phase_is) (λ s lt c. r.looks.some s c) (r.greatest_is ∙ (λ i. greatest (λ s. sym (r.looks.stamp s) i) K.shards))) (discard_err K pieces alone lane number home txs log log' J t o finished (stamp_at shard (map (finish_call_of B tc os) locks) phase.asked.answers) r.looks r.greatest_is f told))
   committed_stopped log log' I J t u tc os repeats locks node f o commit phase_is part_is may none are (behind_discard finished after phase before again log1 td told stop) =
       let r = finishes_run K pieces alone lane number home txs log I after before u tc finished os repeats locks commit part_is (λ s c. none s 3 (inl refl) c) are phase again in
-      let d = discard_ok K pieces alone lane number home txs log log1 before t o finished (stamp_at shard (map (finish_of B tc os) locks) phase.asked.answers) r.looks r.greatest_is td told in
-      let above = discard_above K pieces alone lane number home txs log log1 before t o finished (stamp_at shard (map (finish_of B tc os) locks) phase.asked.answers) r.looks r.greatest_is td told in
+      let d = discard_ok K pieces alone lane number home txs log log1 before t o finished (stamp_at shard (map (finish_call_of B tc os) locks) phase.asked.answers) r.looks r.greatest_is td told in
+      let above = discard_above K pieces alone lane number home txs log log1 before t o finished (stamp_at shard (map (finish_call_of B tc os) locks) phase.asked.answers) r.looks r.greatest_is td told in
       stopped_on log log log' I before J node f r.moved refl
-      (stopped_on log log1 log' before before J node f d.0.moved (ap prepared d.0.step.own_is)
+      (stopped_on log log1 log' before before J node f d.0.moved (ap prepares_txs d.0.step.own_is)
       (discarded_stopped log1 log' before J t u td repeats locks node f d.0.stays d.1 (discarded_slot log1.seen d.0.step.seen td d.0.step.seen_is)
       (λ s c. same_record 4 lane B (I s).seen (before s).seen refl (r.others s c) ∙ none s 4 (inr refl) c)
-      (forgetting log I before os finished td (stamp_at shard (map (finish_of B tc os) locks) phase.asked.answers) r above)
-      (not_forgot K pieces alone lane number home txs log I before os finished (stamp_at shard (map (finish_of B tc os) locks) phase.asked.answers) r) are stop))
+      (forgetting log I before os finished td (stamp_at shard (map (finish_call_of B tc os) locks) phase.asked.answers) r above)
+      (not_forgot K pieces alone lane number home txs log I before os finished (stamp_at shard (map (finish_call_of B tc os) locks) phase.asked.answers) r) are stop))
 
   -- from a Prepare on: a fault because room ran out leaves a shard without its Lock
   pub record PreparedFell (log log' : Sight) (I J : ℕ → Sight) (node : ℕ) (f : NodeFault) : Type 0 where
@@ -264,7 +264,7 @@ module _ (K : Shape) (pieces : List (List Compact)) (alone : Bool) (lane number 
       → PreparedStopped K alone B t repeats parts log log' I J node f → PreparedFell log log' I J node f
   prepared_stopped log log' I J t repeats parts node f o phase_is none may are (at_lock s stop same node_is) =
       subst (λ l. PreparedFell log l I J node f) (sym same) (record {
-        fell = shards_fell K lane home pieces alone true log I J (locks_step K pieces alone lane number home txs true t log I J (map (lock_of B t) parts) stop.asked.answers o.prepare (are_locks K txs B t parts are)
+        fell = shards_fell K lane home pieces alone true log I J (locks_step K pieces alone lane number home txs true t log I J (map (lock_call_of B t) parts) stop.asked.answers o.prepare (are_locks K txs B t parts are)
             stop.asked.each stop.asked.others (anyway stop.asked.answers));
         told = inr (s, node_is, failed.risen);
         fault = record {
@@ -287,13 +287,13 @@ module _ (K : Shape) (pieces : List (List Compact)) (alone : Bool) (lane number 
     where
       had : AreSeenBelow K txs J 2 B s
       had k lt c =
-          let e = before_at (LockAnswer alone) (IsLock K txs B t) I J s k f (map (lock_of B t) parts) stop.asked.answers stop.asked.each (are_locks K txs B t parts are).every (are_locks K txs B t parts are).rising stop.first lt
+          let e = before_at (LockAnswer alone) (IsPartLock K txs B t) I J s k f (map (lock_call_of B t) parts) stop.asked.answers stop.asked.each (are_locks K txs B t parts are).every (are_locks K txs B t parts are).rising stop.first lt
           (λ n. (are_locks K txs B t parts are).covers k c n) in
           lock_has K alone lane number txs k t (I k) (J k) e.3 c
           (subst (λ (d : LockCall). LockAnswer alone (k, d) (I k) (J k) (Ok e.3)) (e.1.1 ∙ ap (λ (n : ℕ). let d : LockCall = record { batch = B; part = part K.shards n 0 txs; cause = t } in d) e.2) e.4)
 
-      call : (c : ℕ × LockCall) × IsLock K txs B t c × (c.0 ≡ s) × LockAnswer alone c (I s) (J s) (Err f)
-      call = first_at (LockAnswer alone) (IsLock K txs B t) I J s f (map (lock_of B t) parts) stop.asked.answers stop.asked.each (are_locks K txs B t parts are).every stop.first
+      call : (c : ℕ × LockCall) × IsPartLock K txs B t c × (c.0 ≡ s) × LockAnswer alone c (I s) (J s) (Err f)
+      call = first_at (LockAnswer alone) (IsPartLock K txs B t) I J s f (map (lock_call_of B t) parts) stop.asked.answers stop.asked.each (are_locks K txs B t parts are).every stop.first
 
       own_call : LockCall
       own_call = record { batch = B; part = part K.shards s 0 txs; cause = t }
@@ -314,8 +314,8 @@ module _ (K : Shape) (pieces : List (List Compact)) (alone : Bool) (lane number 
       let d = commit_ok K pieces alone lane number home txs log log1 before t o rs (λ s. (r.shards s).looks) tc told in
       let e = named_outcomes K pieces alone lane number home txs log1 os (decided K txs rs) tc d.0.stays.open_number d.1 os_is in
       prepared_on log log log' I before J node f r.moved refl
-      (stopped_on log log1 log' before before J node f d.0.moved (ap prepared d.0.step.own_is)
-      (committed_stopped log1 log' before J t t tc os repeats (map (lock_of B t) parts) node f d.0.stays (d.1 ∙ ap (λ q. Some (Commit tc B q)) (sym e)) (committed_slot log1.seen d.0.step.seen tc (decided K txs rs) d.0.step.seen_is) (λ s. (r.shards s).looks.part_is)
+      (stopped_on log log1 log' before before J node f d.0.moved (ap prepares_txs d.0.step.own_is)
+      (committed_stopped log1 log' before J t t tc os repeats (map (lock_call_of B t) parts) node f d.0.stays (d.1 ∙ ap (λ q. Some (Commit tc B q)) (sym e)) (committed_slot log1.seen d.0.step.seen tc (decided K txs rs) d.0.step.seen_is) (λ s. (r.shards s).looks.part_is)
       (finishing log I before t tc rs os r may e (commit_above K pieces alone lane number home txs log log1 before t o rs (λ s. (r.shards s).looks) tc told))
       (λ s kind h c. same_record kind lane B (I s).seen (before s).seen refl ((r.shards s).others c) ∙ none s kind (inr h) c) (are_locks K txs B t parts are) stop))
 
@@ -331,7 +331,7 @@ batch_stopped K alone lane k txs repeats parts log log' I J node f st are (at_pr
       made = h.0.made;
       flown = h.0.flown;
       room = λ t. inl h.1.same;
-      prepares = inl (ap prepared h.1.same);
+      prepares = inl (ap prepares_txs h.1.same);
       told = inl (node_is, h.1.risen);
       fault = inl (node_is, idle_still lane log.seen log'.seen h.1.same st.idle, h.2);
       begun = inl h.1.same;
@@ -348,7 +348,7 @@ batch_stopped K alone lane k txs repeats parts log log' I J node f st are (behin
       made = h.made;
       flown = h.flown;
       room = λ t. inr (r.room t);
-      prepares = inr (r.prepares ∙ ap prepared p.2.own_is);
+      prepares = inr (r.prepares ∙ ap prepares_txs p.2.own_is);
       told = r.told;
       fault = inr (batch_of lane k, refl, r.fault);
       begun = inr (batch_of lane k, refl, omega (arith, st.number), r.fault);

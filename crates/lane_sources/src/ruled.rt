@@ -55,7 +55,8 @@ pub fn rule_at<'a, V: Verifier, F: Deals>(
 ) -> Result<RuledAt<F>, AllocError>
     requires { place < length F.file }
     ensures place { IfOk result (λ r. r.place ≡ place) }
-    ensures sound { IfErr result (λ _. SubmissionAt F.file place (λ t. IsSoundTx t (F.verdicts (spec_id t)))) }
+    ensures sound { IfErr result
+        (λ _. SubmissionAt F.file place (λ t. IsSoundTx t (F.verdicts (spec_id t)))) }
 {
     Ok(RuledAt {
         place,
@@ -74,7 +75,8 @@ pub(crate) fn found_or_now<'a, V: Verifier, F: Deals>(
 ) -> Result<Ruled, AllocError>
     requires { place < length F.file }
     ensures ruled { IfOk result (λ r. SubmissionAt F.file place (λ t. IsRuled F.verdicts t r)) }
-    ensures sound { IfErr result (λ _. SubmissionAt F.file place (λ t. IsSoundTx t (F.verdicts (spec_id t)))) }
+    ensures sound { IfErr result
+        (λ _. SubmissionAt F.file place (λ t. IsSoundTx t (F.verdicts (spec_id t)))) }
 {
     if let Some(found) = ahead {
         if found.place() == place {

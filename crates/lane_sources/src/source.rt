@@ -69,7 +69,8 @@ impl<'a, W: Wait, V: Verifier, F: Deals> LaneSource<'a, W, V, F> {
     // Keeps that the next submission is sound, and goes to the one behind it.
     fn note_sound(&mut self, id: Hash)
         requires inside { self.old.at < length F.file }
-        requires sound { SubmissionAt F.file self.old.at (λ t. (id ≡ spec_id t) × IsSoundTx t (F.verdicts (spec_id t))) }
+        requires sound { SubmissionAt F.file self.old.at (λ t. (id ≡ spec_id t)
+            × IsSoundTx t (F.verdicts (spec_id t))) }
         ensures lane { self.new.lane ≡ self.old.lane }
         ensures at { self.new.at ≡ self.old.at + count_of_lanes F.shape }
         ensures given { self.new.given ≡ self.old.given }
@@ -88,7 +89,8 @@ impl<'a, W: Wait, V: Verifier, F: Deals> LaneSource<'a, W, V, F> {
     // Keeps why it is refused, and goes to the one behind it.
     fn note_refused(&mut self, id: Hash, refusal: Refusal)
         requires inside { self.old.at < length F.file }
-        requires refused { SubmissionAt F.file self.old.at (λ t. (id ≡ spec_id t) × IsFirstRefusal t (F.verdicts (spec_id t)) refusal) }
+        requires refused { SubmissionAt F.file self.old.at (λ t. (id ≡ spec_id t)
+            × IsFirstRefusal t (F.verdicts (spec_id t)) refusal) }
         ensures lane { self.new.lane ≡ self.old.lane }
         ensures at { self.new.at ≡ self.old.at + count_of_lanes F.shape }
         ensures given { self.new.given ≡ self.old.given }
@@ -105,8 +107,10 @@ impl<'a, W: Wait, V: Verifier, F: Deals> LaneSource<'a, W, V, F> {
         requires { self.old.at < length F.file }
         ensures same { self.new ≡ self.old }
         ensures ruled { IfOk result (λ r. SubmissionAt F.file self.old.at (λ t. IsRuled F.verdicts t r)) }
-        ensures left { IfOk result (λ r. LeavesBehind F.shape F.verdicts F.file self.old.lane self.old.at r.ruling) }
-        ensures some { IfErr result (λ _. 0 < length (left_at F.shape F.verdicts F.file self.old.lane self.old.at)) }
+        ensures left { IfOk result
+            (λ r. LeavesBehind F.shape F.verdicts F.file self.old.lane self.old.at r.ruling) }
+        ensures some { IfErr result
+            (λ _. 0 < length (left_at F.shape F.verdicts F.file self.old.lane self.old.at)) }
     {
         let found = self.ahead.next(self.rt);
         let file = self.file;
@@ -118,9 +122,11 @@ impl<'a, W: Wait, V: Verifier, F: Deals> LaneSource<'a, W, V, F> {
         requires { self.old.at < length F.file }
         ensures lane { self.new.lane ≡ self.old.lane }
         ensures at { OnOk result (self.new.at ≡ self.old.at + count_of_lanes F.shape) }
-        ensures given { OnOk result (self.new.given ++ left_at F.shape F.verdicts F.file self.old.lane self.new.at ≡ self.old.given ++ left_at F.shape F.verdicts F.file self.old.lane self.old.at) }
+        ensures given { OnOk result (self.new.given ++ left_at F.shape F.verdicts F.file self.old.lane
+            self.new.at ≡ self.old.given ++ left_at F.shape F.verdicts F.file self.old.lane self.old.at) }
         ensures one { OnOk result (length self.new.given ≤ length self.old.given + 1) }
-        ensures left { IfErr result (λ _. 0 < length (left_at F.shape F.verdicts F.file self.old.lane self.old.at)) }
+        ensures left { IfErr result
+            (λ _. 0 < length (left_at F.shape F.verdicts F.file self.old.lane self.old.at)) }
     {
         let Ruled { id, ruling } = self.rule_next(alloc)?;
         match ruling {
@@ -188,7 +194,9 @@ impl<'a, W: Wait, V: Verifier, F: Deals> LaneSource<'a, W, V, F> {
     /// What was said of the lane's submission of this number, from 0.
     pub fn said(&self, index: usize) -> Checked
         requires { self.now.lane + count_of_lanes F.shape * index < self.now.at }
-        ensures { SubmissionAt F.file (self.now.lane + count_of_lanes F.shape * index) (λ t. (result.id ≡ spec_id t) × IsSaid F.shape F.verdicts F.file (self.now.lane + count_of_lanes F.shape * index) t result.judgement) }
+        ensures { SubmissionAt F.file (self.now.lane + count_of_lanes F.shape * index)
+            (λ t. (result.id ≡ spec_id t) × IsSaid F.shape F.verdicts F.file
+            (self.now.lane + count_of_lanes F.shape * index) t result.judgement) }
     {
         self.checked[index]
     }

@@ -7,7 +7,7 @@ use Rattle.cbdc_model.specs.Sights.{Sight}
 use Rattle.lane_driver.specs.Stops.{IsLaneSettled}
 use Rattle.ledger_runs.specs.Lanes.{LaneOf}
 use Rattle.node_lock.specs.declared.views.Hand.{Hand}
-use Rattle.node_lock.specs.Tickets.{times, total, lane_at, fresh, AllHands}
+use Rattle.node_lock.specs.Tickets.{times, total, hand_at_lane, fresh, AllHands}
 use Rattle.node_ports.specs.Nodes.{no_sight}
 use Rattle.thread_laws.specs.Closing.{IsHand}
 use Rattle.thread_laws.specs.Running.{NodeRan, LaneRan, IsStillSight}
@@ -36,7 +36,7 @@ fresh_hand first from (suc n) j lt = go (eqb j n) refl (fresh_hand first from n 
     go false e before = let less : j < n = grind (arith, e, lt) in hand_more (fresh first (from + j)) first (from + n) (lanes_from from n) (before less)
 
 -- nothing was done at a node whose lock has only fresh hands
-covered : (first : Sight) (x : ℕ) (ls : List ℕ) → total (lane_at x) (map (fresh first) ls) ≡ times x ls
+covered : (first : Sight) (x : ℕ) (ls : List ℕ) → total (hand_at_lane x) (map (fresh first) ls) ≡ times x ls
 covered first x [] = refl
 covered first x (l ∷ ls) = let e = covered first x ls in omega (arith, e)
 

@@ -124,11 +124,14 @@ fn deal_home<'a, W: Wait, D: Disk, S: Shard, B: Locks, X: Source>(
     requires home { home < length log_locks.now }
     requires many { length own.items ≤ shape.now.lanes }
     requires own { IsHomeLeft shape.now home log_locks.now own.items }
-    requires waiting { AreLanesWaiting S.sight shard_locks.now (home * shape.now.lanes + length own.items) table }
+    requires waiting { AreLanesWaiting S.sight shard_locks.now
+        (home * shape.now.lanes + length own.items) table }
     ensures empty { (result.0.items ≡ []) × (vec_capacity result.0 ≡ vec_capacity own) }
     ensures waiting { AreLanesWaiting S.sight shard_locks.now (home * shape.now.lanes) result.1 }
-    ensures dealt { (lanes : List LaneOf) → HaveSeats S.sight B.tables shape.now log_locks.now shard_locks.now (home * shape.now.lanes + length own.items) lanes table.entry
-        → HaveSeats S.sight B.tables shape.now log_locks.now shard_locks.now (home * shape.now.lanes) lanes result.1 }
+    ensures dealt { (lanes : List LaneOf) → HaveSeats S.sight B.tables shape.now log_locks.now shard_locks.now
+        (home * shape.now.lanes + length own.items) lanes table.entry
+        → HaveSeats S.sight B.tables shape.now log_locks.now shard_locks.now
+        (home * shape.now.lanes) lanes result.1 }
 {
     let first = shape.coordinators();
     let guarded = &log_locks[home as usize];
@@ -166,12 +169,15 @@ pub(crate) fn deal_all<'a, W: Wait, D: Disk, S: Shard, B: Locks, X: Source>(
     requires homes { AllFrom (IsHomeFresh shape.now log_locks.now) 0 homes.items }
     requires empty { emptied.items ≡ [] }
     requires place { shape.now.coordinators ≤ vec_capacity emptied }
-    requires waiting { AreLanesWaiting S.sight shard_locks.now (shape.now.coordinators * shape.now.lanes) table }
+    requires waiting { AreLanesWaiting S.sight shard_locks.now
+        (shape.now.coordinators * shape.now.lanes) table }
     requires none { table.runs.items ≡ [] }
     ensures empty { (result.0.items ≡ []) × (shape.now.coordinators ≤ vec_capacity result.0) }
-    ensures emptied { (length result.1.items ≡ shape.now.coordinators) × All (IsEmptyRoom shape.now.lanes) result.1.items }
+    ensures emptied { (length result.1.items ≡ shape.now.coordinators)
+        × All (IsEmptyRoom shape.now.lanes) result.1.items }
     ensures waiting { AreLanesWaiting S.sight shard_locks.now 0 result.2 }
-    ensures dealt { HaveSeats S.sight B.tables shape.now log_locks.now shard_locks.now 0 table.entry.lanes.items result.2 }
+    ensures dealt { HaveSeats
+        S.sight B.tables shape.now log_locks.now shard_locks.now 0 table.entry.lanes.items result.2 }
 {
     while let Some(own) = homes.pop() {
         let home = homes.len() as u32;

@@ -69,7 +69,8 @@ fn close_onto<N: Sighted>(
 ) -> Vec<N>
     requires ready { HaveAllSeats (reverse locks.items) (reverse seats.items) }
     requires room { length nodes.items + length locks.items ≤ vec_capacity nodes }
-    ensures { (back : List N) × (result.items ≡ nodes.items ++ back) × AreClosed N.sight N.goes (reverse locks.items) (reverse seats.items) back }
+    ensures { (back : List N) × (result.items ≡ nodes.items ++ back)
+        × AreClosed N.sight N.goes (reverse locks.items) (reverse seats.items) back }
 {
     while let Some(lock) = locks.pop() {
         let Some(own) = seats.pop() else {

@@ -81,7 +81,8 @@ fn gather_home<'a, W: Wait, D: Disk, S: Shard, B: Locks, X: Source>(
     ensures room { MayGather result.1 }
     ensures rooms { result.1.rooms ≡ table.entry.rooms }
     ensures home { AreHome count table.entry result.0.items result.1 }
-    ensures gathered { (locks : List (GuardedOf (SharedShardOf S))) (all : _) → RunsGathered locks all table.entry → RunsGathered locks all result.1 }
+    ensures gathered { (locks : List (GuardedOf (SharedShardOf S))) (all : _)
+        → RunsGathered locks all table.entry → RunsGathered locks all result.1 }
 {
     for _place in 0..count {
         let (seat, rest) = gather_lane(table);
@@ -108,7 +109,8 @@ pub(crate) fn gather_all<'a, W: Wait, D: Disk, S: Shard, B: Locks, X: Source>(
     ensures rooms { result.1.rooms ≡ table.entry.rooms }
     ensures many { length result.0.items ≡ length emptied.items }
     ensures homes { HomesBack count table.entry.runs.items result.0.items }
-    ensures gathered { (locks : List (GuardedOf (SharedShardOf S))) (all : _) → RunsGathered locks all table.entry → RunsGathered locks all result.1 }
+    ensures gathered { (locks : List (GuardedOf (SharedShardOf S))) (all : _)
+        → RunsGathered locks all table.entry → RunsGathered locks all result.1 }
 {
     while let Some(own) = emptied.pop() {
         let (own, rest) = gather_home(count, own, table);

@@ -76,8 +76,10 @@ fn keep_all(lane: &mut Lane, reports: &[BatchReport])
 fn keep(lane: &mut Lane, report: &BatchReport)
     requires room { vec_len lane.old.decided + length report.now.outcomes ≤ vec_capacity lane.old.decided }
     ensures same { lane.new.fault ≡ lane.old.fault }
-    ensures room { (vec_capacity lane.new.decided ≡ vec_capacity lane.old.decided) × (vec_len lane.new.decided ≡ vec_len lane.old.decided + length report.now.outcomes) }
-    ensures kept { kept_by lane.new.decided.items ≡ kept_by lane.old.decided.items ++ decided_in report.now.batch report.now.outcomes }
+    ensures room { (vec_capacity lane.new.decided ≡ vec_capacity lane.old.decided)
+        × (vec_len lane.new.decided ≡ vec_len lane.old.decided + length report.now.outcomes) }
+    ensures kept { kept_by lane.new.decided.items
+        ≡ kept_by lane.old.decided.items ++ decided_in report.now.batch report.now.outcomes }
     ensures count { lane.new.batches ≡ min (lane.old.batches + 1) 18446744073709551615 }
 {
     lane.batches = lane.batches.saturating_add(1);
@@ -87,8 +89,10 @@ fn keep(lane: &mut Lane, report: &BatchReport)
 // Keeps what was decided of a batch.
 fn keep_outcomes(decided: &mut Vec<Decided>, batch: &BatchId, outcomes: &[Outcome])
     requires room { vec_len decided.old + length outcomes.now ≤ vec_capacity decided.old }
-    ensures room { (vec_capacity decided.new ≡ vec_capacity decided.old) × (vec_len decided.new ≡ vec_len decided.old + length outcomes.now) }
-    ensures kept { kept_by decided.new.items ≡ kept_by decided.old.items ++ decided_in batch.now outcomes.now }
+    ensures room { (vec_capacity decided.new ≡ vec_capacity decided.old)
+        × (vec_len decided.new ≡ vec_len decided.old + length outcomes.now) }
+    ensures kept { kept_by decided.new.items
+        ≡ kept_by decided.old.items ++ decided_in batch.now outcomes.now }
 {
     'outcomes: for outcome in outcomes {
         decided.push_reserved(Decided {

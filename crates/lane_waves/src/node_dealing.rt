@@ -16,7 +16,8 @@ pub fn deal<T>(mut rows: Vec<Vec<T>>, mut items: Vec<T>, mut spare: Vec<Vec<T>>)
     requires room { (length rows.items ≤ vec_capacity items) × (length rows.items ≤ vec_capacity spare) }
     ensures taken { PopsEach rows.items result.rows.items result.items.items }
     ensures empty { result.spare.items ≡ [] }
-    ensures room { (vec_capacity result.rows ≡ vec_capacity spare) × (vec_capacity result.spare ≡ vec_capacity rows) }
+    ensures room { (vec_capacity result.rows ≡ vec_capacity spare)
+        × (vec_capacity result.spare ≡ vec_capacity rows) }
 {
     while let Some(mut row) = rows.pop() {
         let Some(item) = row.pop() else {
@@ -42,7 +43,8 @@ pub fn gather<T>(mut rows: Vec<Vec<T>>, mut items: Vec<T>, mut spare: Vec<Vec<T>
     requires room { length rows.items ≤ vec_capacity spare }
     ensures added { PopsEach result.rows.items rows.items items.items }
     ensures empty { (result.spare.items ≡ []) × (result.items.items ≡ []) }
-    ensures room { (vec_capacity result.rows ≡ vec_capacity spare) × (vec_capacity result.spare ≡ vec_capacity rows) × (vec_capacity result.items ≡ vec_capacity items) }
+    ensures room { (vec_capacity result.rows ≡ vec_capacity spare)
+        × (vec_capacity result.spare ≡ vec_capacity rows) × (vec_capacity result.items ≡ vec_capacity items) }
 {
     while let Some(mut row) = rows.pop() {
         let Some(item) = items.pop() else {

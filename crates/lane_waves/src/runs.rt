@@ -69,7 +69,8 @@ pub fn run_all<
     G: Gate + Sync,
 >(rt: &W, alloc: Global, shape: &Shape, runs: &mut [LaneRun<'a, W, D, S, B, X>], gate: &G)
     requires begin { All (RunBegins S.sight B.tables shape.now) runs.old }
-    ensures end { (i : ℕ) (d : _) → i < length runs.old → RunEnds S.sight B.tables shape.now (slice_index_or runs.old i d) (slice_index_or runs.new i d) }
+    ensures end { (i : ℕ) (d : _) → i < length runs.old
+        → RunEnds S.sight B.tables shape.now (slice_index_or runs.old i d) (slice_index_or runs.new i d) }
 {
     let count = runs.len().max(1);
     thread::for_each_mut(
@@ -77,7 +78,8 @@ pub fn run_all<
         runs,
         count,
         &|_: usize, run: &mut LaneRun<'_, W, D, S, B, X>|
-            requires { IsSync W.row × IsSend S.row × IsSend B.row × IsSync B.row × IsSync G.row × RunBegins S.sight B.tables shape.now run.old }
+            requires { IsSync W.row × IsSend S.row
+                × IsSend B.row × IsSync B.row × IsSync G.row × RunBegins S.sight B.tables shape.now run.old }
             ensures { RunEnds S.sight B.tables shape.entry.now run.old run.new }
         { run.go(alloc, shape, gate) },
     );

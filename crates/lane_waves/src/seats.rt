@@ -120,20 +120,26 @@ pub(crate) fn run_over<
     let lock = |calls: &[(u32, LockCall)], out: &mut Vec<
         Result<Replied, NodeFault>,
     >, ports: &mut [P]|
-        requires { IsSync W.row × IsSend P.row × IsSync G.row × AsksLocks P.sight P.serves calls.now out.old ports.old }
-        ensures { IsToldAtOnce (Locks P.sight P.serves P.alone P.at P.faults P.holds) calls.now out.old ports.old out.new ports.new }
+        requires { IsSync W.row
+            × IsSend P.row × IsSync G.row × AsksLocks P.sight P.serves calls.now out.old ports.old }
+        ensures { IsToldAtOnce (Locks P.sight P.serves P.alone P.at P.faults P.holds)
+            calls.now out.old ports.old out.new ports.new }
     { lock_at_once(rt, gate, calls, out, ports) };
     let finish = |calls: &[(u32, FinishCall)], out: &mut Vec<
         Result<Stamp, NodeFault>,
     >, ports: &mut [P]|
-        requires { IsSync W.row × IsSend P.row × IsSync G.row × AsksFinishes P.sight P.serves calls.now out.old ports.old }
-        ensures { IsToldAtOnce (Finishes P.sight P.serves P.alone P.at P.faults P.holds) calls.now out.old ports.old out.new ports.new }
+        requires { IsSync W.row
+            × IsSend P.row × IsSync G.row × AsksFinishes P.sight P.serves calls.now out.old ports.old }
+        ensures { IsToldAtOnce (Finishes P.sight P.serves P.alone P.at P.faults P.holds)
+            calls.now out.old ports.old out.new ports.new }
     { finish_at_once(rt, gate, calls, out, ports) };
     let forget = |calls: &[(u32, ForgetCall)], out: &mut Vec<
         Result<Stamp, NodeFault>,
     >, ports: &mut [P]|
-        requires { IsSync W.row × IsSend P.row × IsSync G.row × AsksForgets P.sight P.serves calls.now out.old ports.old }
-        ensures { IsToldAtOnce (Forgets P.sight P.serves P.alone P.at P.faults P.holds) calls.now out.old ports.old out.new ports.new }
+        requires { IsSync W.row
+            × IsSend P.row × IsSync G.row × AsksForgets P.sight P.serves calls.now out.old ports.old }
+        ensures { IsToldAtOnce (Forgets P.sight P.serves P.alone P.at P.faults P.holds)
+            calls.now out.old ports.old out.new ports.new }
     { forget_at_once(rt, gate, calls, out, ports) };
     let phases = AtOnce {
         gate,

@@ -218,7 +218,8 @@ fn run_seated<
     requires left { AreLeft (shard_sight S.sight) (all_lanes shape.now) shard_locks.now seated.rows.items }
     requires lanes { All MayRun seated.lanes.items }
     requires lanes_many { length seated.lanes.items ≡ shape.now.coordinators * shape.now.lanes }
-    ensures { AreThrough S.sight shape.now log_locks.now shard_locks.now result.homes.items result.rows.items seated.lanes.items result.lanes.items }
+    ensures { AreThrough S.sight shape.now log_locks.now
+        shard_locks.now result.homes.items result.rows.items seated.lanes.items result.lanes.items }
 {
     let SeatedLanes {
         homes,
@@ -283,12 +284,18 @@ fn lock_nodes<D: Disk, S: Shard>(
     requires shards_many { length shard_rows.items ≡ length nodes.shards.items }
     requires logs_fit { AreRows home_rows.items }
     requires shards_fit { AreRows shard_rows.items }
-    ensures logs { IfOk result (λ k. AreLocked log_sight nodes.logs.items home_rows.items k.logs.locks.items k.logs.seats.items) }
-    ensures logs_room { IfOk result (λ k. (k.logs.room.items ≡ []) × (length nodes.logs.items ≤ vec_capacity k.logs.room)) }
-    ensures shards { IfOk result (λ k. AreLocked (shard_sight S.sight) nodes.shards.items shard_rows.items k.shards.locks.items k.shards.seats.items) }
-    ensures shards_room { IfOk result (λ k. (k.shards.room.items ≡ []) × (length nodes.shards.items ≤ vec_capacity k.shards.room)) }
-    ensures logs_back { IfErr result (λ n. AreStill log_sight (log_goes D.Disk) nodes.logs.items n.logs.items) }
-    ensures shards_back { IfErr result (λ n. AreStill (shard_sight S.sight) (shard_goes S.goes) nodes.shards.items n.shards.items) }
+    ensures logs { IfOk result
+        (λ k. AreLocked log_sight nodes.logs.items home_rows.items k.logs.locks.items k.logs.seats.items) }
+    ensures logs_room { IfOk result (λ k. (k.logs.room.items ≡ [])
+        × (length nodes.logs.items ≤ vec_capacity k.logs.room)) }
+    ensures shards { IfOk result (λ k. AreLocked
+        (shard_sight S.sight) nodes.shards.items shard_rows.items k.shards.locks.items k.shards.seats.items) }
+    ensures shards_room { IfOk result (λ k. (k.shards.room.items ≡ [])
+        × (length nodes.shards.items ≤ vec_capacity k.shards.room)) }
+    ensures logs_back { IfErr result
+        (λ n. AreStill log_sight (log_goes D.Disk) nodes.logs.items n.logs.items) }
+    ensures shards_back { IfErr result
+        (λ n. AreStill (shard_sight S.sight) (shard_goes S.goes) nodes.shards.items n.shards.items) }
 {
     let SharedNodes { logs, shards } = nodes;
     let shards = match lock_all(alloc, shards, shard_rows) {
@@ -325,19 +332,26 @@ fn wave_shared<
     requires limits { IsWithinLimits shape.now }
     requires logs_many { length nodes.logs.items ≡ shape.now.coordinators }
     requires shards_many { length nodes.shards.items ≡ shape.now.shards }
-    requires ledger { AreNodesOf shape.now (sight_at log_sight nodes.logs.items) (sight_at (shard_sight S.sight) nodes.shards.items) }
+    requires ledger { AreNodesOf shape.now
+        (sight_at log_sight nodes.logs.items) (sight_at (shard_sight S.sight) nodes.shards.items) }
     requires logs_since { All (λ l. (log_sight l).opened ≤ (log_sight l).faults) nodes.logs.items }
-    requires shards_since { All (λ s. (shard_sight S.sight s).opened ≤ (shard_sight S.sight s).faults) nodes.shards.items }
-    requires settled { (lane : ℕ) → lane < shape.now.coordinators * shape.now.lanes → IsLaneSettled shape.now lane (sight_at log_sight nodes.logs.items (home_of shape.now lane)) (sight_at (shard_sight S.sight) nodes.shards.items) }
+    requires shards_since { All
+        (λ s. (shard_sight S.sight s).opened ≤ (shard_sight S.sight s).faults) nodes.shards.items }
+    requires settled { (lane : ℕ) → lane < shape.now.coordinators * shape.now.lanes
+        → IsLaneSettled shape.now lane (sight_at log_sight nodes.logs.items (home_of shape.now lane))
+        (sight_at (shard_sight S.sight) nodes.shards.items) }
     requires home_rows { AllFrom (IsHomeRow shape.now) 0 home_rows.items }
     requires home_rows_many { length home_rows.items ≡ shape.now.coordinators }
     requires shard_rows { AllFrom (IsShardRow shape.now) 0 shard_rows.items }
     requires shard_rows_many { length shard_rows.items ≡ shape.now.shards }
     requires lanes { All MayRun lanes.old.items }
     requires lanes_many { length lanes.old.items ≡ shape.now.coordinators * shape.now.lanes }
-    ensures ran { WaveRan shape.now (sight_at log_sight nodes.logs.items) (sight_at (shard_sight S.sight) nodes.shards.items) (sight_at log_sight result.logs.items) (sight_at (shard_sight S.sight) result.shards.items) lanes.old.items lanes.new.items }
+    ensures ran { WaveRan shape.now (sight_at log_sight nodes.logs.items)
+        (sight_at (shard_sight S.sight) nodes.shards.items) (sight_at log_sight result.logs.items)
+        (sight_at (shard_sight S.sight) result.shards.items) lanes.old.items lanes.new.items }
     ensures logs_go { WentOn log_sight (log_goes D.Disk) nodes.logs.items result.logs.items }
-    ensures shards_go { WentOn (shard_sight S.sight) (shard_goes S.goes) nodes.shards.items result.shards.items }
+    ensures shards_go { WentOn
+        (shard_sight S.sight) (shard_goes S.goes) nodes.shards.items result.shards.items }
 {
     let LockedNodes { logs, shards } = match lock_nodes(alloc, nodes, home_rows, shard_rows) {
         Ok(locked) => locked,
@@ -405,12 +419,18 @@ pub fn wave<
 ) -> Nodes<D, S>
     requires logs_many { length nodes.logs.items ≡ shape.now.coordinators }
     requires shards_many { length nodes.shards.items ≡ shape.now.shards }
-    requires ledger { AreNodesOf shape.now (sight_at sight nodes.logs.items) (sight_at S.sight nodes.shards.items) }
-    requires settled { (lane : ℕ) → lane < shape.now.coordinators * shape.now.lanes → IsLaneSettled shape.now lane (sight_at sight nodes.logs.items (home_of shape.now lane)) (sight_at S.sight nodes.shards.items) }
+    requires ledger { AreNodesOf shape.now
+        (sight_at sight nodes.logs.items) (sight_at S.sight nodes.shards.items) }
+    requires settled { (lane : ℕ) → lane < shape.now.coordinators * shape.now.lanes
+        → IsLaneSettled shape.now lane
+        (sight_at sight nodes.logs.items (home_of shape.now lane)) (sight_at S.sight nodes.shards.items) }
     requires limits { All (λ x. All IsCompact x.txs) lanes.old.items }
     requires lanes_many { length lanes.old.items ≡ shape.now.coordinators * shape.now.lanes }
-    ensures ran { WaveRan shape.now (sight_at sight nodes.logs.items) (sight_at S.sight nodes.shards.items) (sight_at sight result.logs.items) (sight_at S.sight result.shards.items) lanes.old.items lanes.new.items }
-    ensures logs_go { WentOn sight (λ a b. IsNodeHeld D.Disk a → IsNodeHeld D.Disk b) nodes.logs.items result.logs.items }
+    ensures ran { WaveRan shape.now (sight_at sight nodes.logs.items)
+        (sight_at S.sight nodes.shards.items) (sight_at sight result.logs.items)
+        (sight_at S.sight result.shards.items) lanes.old.items lanes.new.items }
+    ensures logs_go { WentOn sight (λ a b. IsNodeHeld D.Disk a
+        → IsNodeHeld D.Disk b) nodes.logs.items result.logs.items }
     ensures shards_go { WentOn S.sight S.goes nodes.shards.items result.shards.items }
 {
     see_logs(nodes.logs.as_slice());

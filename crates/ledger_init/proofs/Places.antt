@@ -22,7 +22,8 @@ use Rattle.rack_ledgers.specs.First.{IsBegun, IsUnwritten, first_need}
 use Rattle.rack_ledgers.proofs.Each.{each_two, each_weaker, each_split}
 use Rattle.rack_ledgers.proofs.Range.{opening_later}
 use Rattle.rack_ledgers.proofs.Told.{still_told, same_opened, back_same}
-use Rattle.ledger_init.specs.Made.{node_count, first_record_of, HoldsFirst, LeavesBut, ToldUnused, MayBeMade, IsFirstInUse, HasPlaceFor, IsLastFull, IsUnmade, IsOfNode, InitStoppedAt}
+use Rattle.cbdc_model.specs.Ranges.{node_count}
+use Rattle.ledger_init.specs.Made.{first_record_of, HoldsFirst, LeavesBut, ToldUnused, MayBeMade, IsFirstInUse, HasPlaceFor, IsLastFull, IsUnmade, IsOfNode, InitStoppedAt}
 use Rattle.ledger_init.specs.Places.{minted_by, HoldsOf, LeavesOf, IsFirstWritten, IsStopped, WritingStopsAt}
 use Rattle.ledger_init.proofs.Sizes.{first_size}
 

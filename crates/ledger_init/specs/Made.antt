@@ -6,6 +6,7 @@ use Rattle.outside.specs.declared.disk.Disk.{Ghosts}
 use Rattle.cbdc_types.specs.declared.answer.Answer.{Answer}
 use Rattle.cbdc_types.specs.declared.answer.Answer.TheVariants as answers
 use Rattle.cbdc_model.specs.Records.{Shape, Record}
+use Rattle.cbdc_model.specs.Ranges.{node_count}
 use Rattle.cbdc_model.specs.Coins.{Output}
 use Rattle.cbdc_model.specs.Clean.{value_out}
 use Rattle.cbdc_model.specs.History.{minted}
@@ -17,10 +18,6 @@ use Rattle.gate_journal.specs.Formatting.{IsEmptied}
 use Rattle.rack_ledgers.specs.Racked.{OfTold, IsUnchanged, AreBack}
 use Rattle.rack_ledgers.specs.Blank.{IsInUse, IsUnused}
 use Rattle.rack_ledgers.specs.First.{IsBegun}
-
--- the number of a ledger's nodes
-abbrev pub node_count : Shape → ℕ
-node_count K = K.coordinators + K.shards
 
 -- the first record of a node of the ledger that a mint begins
 abbrev pub first_record_of : Shape → List Output → ℕ → Record

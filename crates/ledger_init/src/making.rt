@@ -6,7 +6,8 @@ ghost use Rattle.cbdc_model.specs.Clean.{value_out};
 ghost use Rattle.gate_journal.specs.Formatting.{IsEmptied};
 ghost use Rattle.rack_ledgers.specs.Racked.{SameRoom};
 ghost use Rattle.rack_ledgers.specs.First.{IsBegun};
-ghost use Rattle.ledger_init.specs.Made.{node_count, first_record_of, HoldsFirst, LeavesBut, MayBeMade, HasPlaceFor, IsUnmade, AreDisksLeft};
+ghost use Rattle.cbdc_model.specs.Ranges.{node_count};
+ghost use Rattle.ledger_init.specs.Made.{first_record_of, HoldsFirst, LeavesBut, MayBeMade, HasPlaceFor, IsUnmade, AreDisksLeft};
 
 use crate::dealing::total_of;
 use crate::writing::write_firsts;
@@ -49,13 +50,18 @@ fn make_nodes<R: Rack>(
     ensures was { OnOk result (MayBeMade shape.now mint R.Disk.Disk (R.held rack.old)) }
     ensures written { OnOk result ((n : ℕ) → n < node_count shape.now
         → HoldsFirst R.Disk.Disk (first_record_of shape.now mint n) (R.held rack.old n) (R.held rack.new n)) }
-    ensures places { OnOk result ((n : ℕ) → n < node_count shape.now → HasPlaceFor shape.now mint R.Disk.Disk (R.held rack.old) n) }
-    ensures rooms { OnOk result ((n : ℕ) → n < node_count shape.now → SameRoom R.Disk.Disk (R.held rack.old n) (R.held rack.new n)) }
-    ensures refusal { IfErr result (IsUnmade shape.now mint R.Disk.Disk (R.held rack.old) (R.count rack.old) (R.count rack.new)) }
-    ensures left { (n : ℕ) → n < node_count shape.now
-        → LeavesBut R.Disk.Disk (λ before. IsBegun before (first_record_of shape.now mint n)) (R.held rack.old n) (R.held rack.new n) }
-    ensures lead { IfErr result (λ e. e ≢ Answer.DiskFault 0 → LeavesBut R.Disk.Disk IsEmptied (R.held rack.old 0) (R.held rack.new 0)) }
-    ensures stops { IfErr result (AreDisksLeft shape.now mint R.Disk.Disk (R.held rack.old) (R.held rack.new) (R.count rack.old) (R.count rack.new)) }
+    ensures places { OnOk result ((n : ℕ) → n < node_count shape.now
+        → HasPlaceFor shape.now mint R.Disk.Disk (R.held rack.old) n) }
+    ensures rooms { OnOk result ((n : ℕ) → n < node_count shape.now
+        → SameRoom R.Disk.Disk (R.held rack.old n) (R.held rack.new n)) }
+    ensures refusal { IfErr result
+        (IsUnmade shape.now mint R.Disk.Disk (R.held rack.old) (R.count rack.old) (R.count rack.new)) }
+    ensures left { (n : ℕ) → n < node_count shape.now → LeavesBut R.Disk.Disk (λ before.
+        IsBegun before (first_record_of shape.now mint n)) (R.held rack.old n) (R.held rack.new n) }
+    ensures lead { IfErr result (λ e. e ≢ Answer.DiskFault 0
+        → LeavesBut R.Disk.Disk IsEmptied (R.held rack.old 0) (R.held rack.new 0)) }
+    ensures stops { IfErr result (AreDisksLeft shape.now mint R.Disk.Disk
+        (R.held rack.old) (R.held rack.new) (R.count rack.old) (R.count rack.new)) }
     ensures others_held { (n : ℕ) → node_count shape.now ≤ n → R.held rack.new n ≡ R.held rack.old n }
     ensures back { (n : ℕ) → R.can_take rack.new n }
     ensures later { (n : ℕ) → R.count rack.old n ≤ R.count rack.new n }
@@ -86,7 +92,8 @@ pub fn make_ledger<R: Rack>(
 ) -> Result<Made, Answer>
     requires all { (n : ℕ) → R.can_take rack.old n }
     requires few { length mint ≤ 1000000 }
-    ensures made { IfOk result (λ m. (m.coins ≡ length mint) × (m.total ≡ value_out mint) × (m.genesis ≡ genesis_id mint)) }
+    ensures made { IfOk result (λ m. (m.coins ≡ length mint)
+        × (m.total ≡ value_out mint) × (m.genesis ≡ genesis_id mint)) }
     ensures was { OnOk result (MayBeMade shape.now mint R.Disk.Disk (R.held rack.old)) }
 
     // Each disk holds its first record alone, and so does whatever a crash may leave of it.
@@ -94,20 +101,25 @@ pub fn make_ledger<R: Rack>(
         → HoldsFirst R.Disk.Disk (first_record_of shape.now mint n) (R.held rack.old n) (R.held rack.new n)) }
 
     // Each disk had room for its first record and a closing gate, and there is as much in its place.
-    ensures places { OnOk result ((n : ℕ) → n < node_count shape.now → HasPlaceFor shape.now mint R.Disk.Disk (R.held rack.old) n) }
-    ensures rooms { OnOk result ((n : ℕ) → n < node_count shape.now → SameRoom R.Disk.Disk (R.held rack.old n) (R.held rack.new n)) }
+    ensures places { OnOk result ((n : ℕ) → n < node_count shape.now
+        → HasPlaceFor shape.now mint R.Disk.Disk (R.held rack.old) n) }
+    ensures rooms { OnOk result ((n : ℕ) → n < node_count shape.now
+        → SameRoom R.Disk.Disk (R.held rack.old n) (R.held rack.new n)) }
 
     // Which refusal it is.
-    ensures refusal { IfErr result (IsUnmade shape.now mint R.Disk.Disk (R.held rack.old) (R.count rack.old) (R.count rack.new)) }
+    ensures refusal { IfErr result
+        (IsUnmade shape.now mint R.Disk.Disk (R.held rack.old) (R.count rack.old) (R.count rack.new)) }
 
     // A crash leaves no first record, what it might have left before, or the new record alone: of node 0 this only where its disk failed.
-    ensures left { (n : ℕ) → n < node_count shape.now
-        → LeavesBut R.Disk.Disk (λ before. IsBegun before (first_record_of shape.now mint n)) (R.held rack.old n) (R.held rack.new n) }
-    ensures lead { IfErr result (λ e. e ≢ Answer.DiskFault 0 → LeavesBut R.Disk.Disk IsEmptied (R.held rack.old 0) (R.held rack.new 0)) }
+    ensures left { (n : ℕ) → n < node_count shape.now → LeavesBut R.Disk.Disk (λ before.
+        IsBegun before (first_record_of shape.now mint n)) (R.held rack.old n) (R.held rack.new n) }
+    ensures lead { IfErr result (λ e. e ≢ Answer.DiskFault 0
+        → LeavesBut R.Disk.Disk IsEmptied (R.held rack.old 0) (R.held rack.new 0)) }
 
     // All disks are as they were read, as where a node is in use or a disk fails as it is taken or opened. Or the writing stopped at a node, which
     // has no room or whose disk fails, or where memory ran out: the disks of those below it are unchanged, and those above it hold their first records.
-    ensures stops { IfErr result (AreDisksLeft shape.now mint R.Disk.Disk (R.held rack.old) (R.held rack.new) (R.count rack.old) (R.count rack.new)) }
+    ensures stops { IfErr result (AreDisksLeft shape.now mint R.Disk.Disk
+        (R.held rack.old) (R.held rack.new) (R.count rack.old) (R.count rack.new)) }
 
     // Where the sum is too much, the rack is as it was.
     ensures untouched { IfErr result (λ e. (total : ℕ) → e ≡ Answer.TooMuch total → rack.new ≡ rack.old) }

@@ -48,11 +48,16 @@ fn write_disk<D: Disk>(
     node: NodeId,
     disk: D,
 ) -> Wrote<D>
-    ensures written { OnOk result.result (HoldsOf D.Disk (first_record shape.now (minted_by genesis.now) node) disk result.disk) }
-    ensures begun { LeavesOf D.Disk (λ before. IsBegun before (first_record shape.now (minted_by genesis.now) node)) disk result.disk }
-    ensures emptied { IfErr result.result (λ e. e ≢ Answer.DiskFault node → LeavesOf D.Disk IsEmptied disk result.disk) }
-    ensures room { OnOk result.result (first_need (first_record shape.now (minted_by genesis.now) node) ≤ D.limit disk) }
-    ensures refusal { IfErr result.result (IsUnwritten node (D.limit disk) (first_record shape.now (minted_by genesis.now) node)) }
+    ensures written { OnOk result.result
+        (HoldsOf D.Disk (first_record shape.now (minted_by genesis.now) node) disk result.disk) }
+    ensures begun { LeavesOf D.Disk
+        (λ before. IsBegun before (first_record shape.now (minted_by genesis.now) node)) disk result.disk }
+    ensures emptied { IfErr result.result (λ e. e ≢ Answer.DiskFault node
+        → LeavesOf D.Disk IsEmptied disk result.disk) }
+    ensures room { OnOk result.result (first_need (first_record shape.now (minted_by genesis.now) node)
+        ≤ D.limit disk) }
+    ensures refusal { IfErr result.result
+        (IsUnwritten node (D.limit disk) (first_record shape.now (minted_by genesis.now) node)) }
     ensures fault { IfErr result.result (IsOpening node (D.count disk) (D.count result.disk)) }
     ensures later { D.count disk ≤ D.count result.disk }
     ensures limit { D.limit result.disk ≡ D.limit disk }
@@ -81,9 +86,10 @@ fn write_at<R: Rack>(
     disk: R::Disk,
 ) -> Result<(), Answer>
     requires { (k : ℕ) → R.Disk.count disk ≤ k → R.can_put rack.old node k }
-    ensures done { OnOk result (IsFirstWritten R.Disk.Disk (first_record shape.now (minted_by genesis.now) node) disk (R.held rack.new node)) }
-    ensures stopped { IfErr result (λ e. IsStopped R.Disk.Disk node (first_record shape.now (minted_by genesis.now) node) e
-        (R.count rack.new node) disk (R.held rack.new node)) }
+    ensures done { OnOk result (IsFirstWritten R.Disk.Disk
+        (first_record shape.now (minted_by genesis.now) node) disk (R.held rack.new node)) }
+    ensures stopped { IfErr result (λ e. IsStopped R.Disk.Disk node (first_record shape.now
+        (minted_by genesis.now) node) e (R.count rack.new node) disk (R.held rack.new node)) }
     ensures others_held { (n : ℕ) → n ≢ node → R.held rack.new n ≡ R.held rack.old n }
     ensures back { R.can_take rack.new node }
     ensures others_in { (n : ℕ) → n ≢ node → R.can_take rack.old n → R.can_take rack.new n }
@@ -105,12 +111,12 @@ pub(crate) fn write_firsts<R: Rack>(
 ) -> Result<(), Answer>
     requires few { length blanks.items < 2 ^ 32 }
     requires out { EachFrom (MayReturn (λ b. R.Disk.count b.disk) (R.can_put rack.old)) 0 blanks.items }
-    ensures done { OnOk result (EachFrom
-        (λ n b. IsFirstWritten R.Disk.Disk (first_record shape.now (minted_by genesis.now) n) b.disk (R.held rack.new n)) 0 blanks.items) }
-    ensures stopped { IfErr result (λ e. WritingStopsAt
-        (λ n b. OfTold (R.held rack.new n) (λ now. now ≡ b.disk))
-        (λ n b. IsStopped R.Disk.Disk n (first_record shape.now (minted_by genesis.now) n) e (R.count rack.new n) b.disk (R.held rack.new n))
-        (λ n b. IsFirstWritten R.Disk.Disk (first_record shape.now (minted_by genesis.now) n) b.disk (R.held rack.new n)) blanks.items) }
+    ensures done { OnOk result (EachFrom (λ n b. IsFirstWritten R.Disk.Disk
+        (first_record shape.now (minted_by genesis.now) n) b.disk (R.held rack.new n)) 0 blanks.items) }
+    ensures stopped { IfErr result (λ e. WritingStopsAt (λ n b. OfTold (R.held rack.new n) (λ now.
+        now ≡ b.disk)) (λ n b. IsStopped R.Disk.Disk n (first_record shape.now (minted_by genesis.now) n) e
+        (R.count rack.new n) b.disk (R.held rack.new n)) (λ n b. IsFirstWritten R.Disk.Disk
+        (first_record shape.now (minted_by genesis.now) n) b.disk (R.held rack.new n)) blanks.items) }
     ensures others_held { (n : ℕ) → length blanks.items ≤ n → R.held rack.new n ≡ R.held rack.old n }
     ensures back { (n : ℕ) → n < length blanks.items → R.can_take rack.new n }
     ensures others_in { (n : ℕ) → length blanks.items ≤ n → R.can_take rack.old n → R.can_take rack.new n }

@@ -47,7 +47,8 @@ pub fn resume_few<W: Wait + Threads + Sync, R: Rack, G: Gate>(
 where
     R::Disk: Send,
     requires { (n : ℕ) → R.can_take rack.old n }
-    ensures passed { OnOk result (OfShown R.Disk.Disk (R.held rack.old) (λ K mint submissions E. length (E 0) ≤ most)) }
+    ensures passed { OnOk result
+        (OfShown R.Disk.Disk (R.held rack.old) (λ K mint submissions E. length (E 0) ≤ most)) }
     ensures refused { IfErr result (λ a. (n : ℕ) → a ≡ Answer.NotEmpty n
         → IsTestRefused R.Disk.Disk (R.held rack.old) (R.held rack.new) (few_records most) a) }
 {

@@ -32,7 +32,8 @@ fn resume_next<L: Turns, G: Gate>(
 ) -> Result<(), LaneFault>
     requires lane { IsLaneOf (L.shape ledger.old) lane }
     requires checked { L.checked ledger.old }
-    requires found { IsFound (L.shape ledger.old) (L.journals ledger.old) (L.opens ledger.old) lane found.now }
+    requires found { IsFound
+        (L.shape ledger.old) (L.journals ledger.old) (L.opens ledger.old) lane found.now }
     requires planned { IsPlanOf (L.shape ledger.old) found.now planned }
     requires room { vec_len batches.old < vec_capacity batches.old }
     ensures len { vec_len batches.new ≤ vec_len batches.old + 1 }
@@ -42,8 +43,10 @@ fn resume_next<L: Turns, G: Gate>(
     ensures others { KeepsLanes (L.shape ledger.old) lane (L.journals ledger.old) (L.journals ledger.new) }
     ensures opens_same { KeepsOpens (L.shape ledger.old) lane (L.opens ledger.old) (L.opens ledger.new) }
     ensures keeps { TurnsStayKept L.Turns ledger.old ledger.new }
-    ensures took { OnOk result (TookUpIn L.Turns lane ledger.old ledger.new batches.old.items batches.new.items) }
-    ensures told { OnOk result (TakesUpIn L.Turns lane ledger.old ledger.new batches.old.items batches.new.items) }
+    ensures took { OnOk result
+        (TookUpIn L.Turns lane ledger.old ledger.new batches.old.items batches.new.items) }
+    ensures told { OnOk result
+        (TakesUpIn L.Turns lane ledger.old ledger.new batches.old.items batches.new.items) }
     ensures quiet { OnOk result (L.quiet ledger.old → L.quiet ledger.new) }
     ensures flies { TurnsFlyOn L.Turns ledger.old ledger.new }
     ensures launches { TurnsLaunchNone L.Turns ledger.old ledger.new }

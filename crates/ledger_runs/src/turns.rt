@@ -80,19 +80,25 @@ pub trait Turns {
         ensures idle { OnOk result (lane_phase (shape self.old) (journals self.new) lane ≡ Idle) }
         ensures others { KeepsLanes (shape self.old) lane (journals self.old) (journals self.new) }
         ensures opens_same { KeepsOpens (shape self.old) lane (opens self.old) (opens self.new) }
-        ensures keeps { OfKept (shape self.old) (journals self.old) (StaysKept (shape self.old) (journals self.old) (journals self.new)) }
-        ensures took { IfOk result (λ batch. OfKept (shape self.old) (journals self.old) (λ _ _. TookUp (shape self.old) lane (journals self.old) (journals self.new) (Some batch))) }
-        ensures opened { IfOk result (λ batch. IsLanesOpenBatch (shape self.old) lane (journals self.old) (Some batch)) }
+        ensures keeps { OfKept (shape self.old)
+            (journals self.old) (StaysKept (shape self.old) (journals self.old) (journals self.new)) }
+        ensures took { IfOk result (λ batch. OfKept (shape self.old) (journals self.old)
+            (λ _ _. TookUp (shape self.old) lane (journals self.old) (journals self.new) (Some batch))) }
+        ensures opened { IfOk result
+            (λ batch. IsLanesOpenBatch (shape self.old) lane (journals self.old) (Some batch)) }
         ensures quiet { OnOk result (quiet self.old → quiet self.new) }
-        ensures flies { OfKept (shape self.old) (journals self.old) (FliesOn (shape self.old) (journals self.old) (journals self.new) (flights self.old) (flights self.new)) }
-        ensures launches { Launches (shape self.old) (λ _. Nothing) (journals self.old) (journals self.new) (flights self.old) (flights self.new) }
+        ensures flies { OfKept (shape self.old) (journals self.old) (FliesOn
+            (shape self.old) (journals self.old) (journals self.new) (flights self.old) (flights self.new)) }
+        ensures launches { Launches (shape self.old)
+            (λ _. Nothing) (journals self.old) (journals self.new) (flights self.old) (flights self.new) }
         ensures checked { checked self.new }
         ensures grows { GrowBy lane (journals self.old) (journals self.new) }
-        ensures unprepared { HasPreparedPieces (shape self.old) lane [] (journals self.old) (journals self.new) }
+        ensures unprepared { HasPreparedPieces
+            (shape self.old) lane [] (journals self.old) (journals self.new) }
 
         // Its fault has its cause. Where memory was wanting the lane may wait where it was: its batch is prepared still.
-        ensures fault { IfErr result (IsOpenCause (shape self.old) lane (journals self.old) (journals self.new)
-            (HaveFailed (opened self.new) (faults self.new)) (MayHoldBytes (capacity self.new))) }
+        ensures fault { IfErr result (IsOpenCause (shape self.old) lane (journals self.old) (journals
+            self.new) (HaveFailed (opened self.new) (faults self.new)) (MayHoldBytes (capacity self.new))) }
         ensures wanting { IfErr result (λ e. e.fault ≡ Memory → wanting self.new lane) }
         ensures wanting_same { (n : ℕ) → wanting self.old n → wanting self.new n };
 }

@@ -75,10 +75,10 @@ refused_line file place id why = line (
 -- ---- the summary
 
 -- the line of a name and a number
-abbrev pub counted : Text → ℕ → Text
-counted name n = line (name ∷ decimal n ∷ [])
+abbrev pub counted_line : Text → ℕ → Text
+counted_line name n = line (name ∷ decimal n ∷ [])
 
 abbrev pub summary_text : ℕ → ℕ → ℕ → ℕ → ℕ → ℕ → Text
 summary_text resumed batches confirmed rejected refused unspent =
-    ((((counted (codes "resumed") resumed ++ counted (codes "batches") batches) ++ counted (codes "confirmed") confirmed)
-    ++ counted (codes "rejected") rejected) ++ counted (codes "refused") refused) ++ counted (codes "unspent") unspent
+    ((((counted_line (codes "resumed") resumed ++ counted_line (codes "batches") batches) ++ counted_line (codes "confirmed") confirmed)
+    ++ counted_line (codes "rejected") rejected) ++ counted_line (codes "refused") refused) ++ counted_line (codes "unspent") unspent

@@ -6,7 +6,7 @@ use Rattle.cbdc_types.specs.declared.batch.Phase.TheVariants.{Prepared, Committe
 use Rattle.cbdc_types.specs.declared.batch.Status.{Status}
 use Rattle.cbdc_types.specs.declared.batch.Status.TheVariants.{Unspent, Locked, Absent}
 use Rattle.base_types.specs.declared.ids.BatchId.{BatchId}
-use Rattle.line_text.specs.Lines.{Text, line, counted}
+use Rattle.line_text.specs.Lines.{Text, line, counted_line}
 
 -- `status_line`, `status_words`, `resumed_line`, `phase_word`, `recovery_text`, `audit_text`: the lines of `status`, `recover` and `audit`
 abbrev pub status_words : Status → List Text
@@ -29,9 +29,9 @@ resumed_line batch phase confirmed rejected = line (
     )
 
 abbrev pub recovery_text : ℕ → ℕ → Text
-recovery_text resumed unspent = counted (codes "resumed") resumed ++ counted (codes "unspent") unspent
+recovery_text resumed unspent = counted_line (codes "resumed") resumed ++ counted_line (codes "unspent") unspent
 
 abbrev pub audit_text : ℕ → ℕ → ℕ → ℕ → Text
 audit_text coins value minted committed =
-    ((counted (codes "coins") coins ++ counted (codes "value") value) ++ counted (codes "minted") minted)
-    ++ counted (codes "committed") committed
+    ((counted_line (codes "coins") coins ++ counted_line (codes "value") value) ++ counted_line (codes "minted") minted)
+    ++ counted_line (codes "committed") committed

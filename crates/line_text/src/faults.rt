@@ -142,7 +142,8 @@ fn clock(node: NodeId, stamp: u64) -> Line
 
 // A node's journal is damaged.
 fn damaged(node: NodeId, at: u64) -> Line
-    ensures { result.items ≡ line (codes "fault" ∷ codes "damaged" ∷ decimal node ∷ codes "at" ∷ decimal at ∷ []) }
+    ensures { result.items
+        ≡ line (codes "fault" ∷ codes "damaged" ∷ decimal node ∷ codes "at" ∷ decimal at ∷ []) }
 {
     let mut line = fault(b"damaged");
     push_number(&mut line, u64::from(node.0));
@@ -172,7 +173,8 @@ pub(crate) enum Pieces {
 
 // The text of a bad file.
 fn bad_file(at: u64, kind: &InputKind) -> Pieces
-    ensures { Spells result (λ name. line (codes "fault" ∷ codes "input" ∷ name ∷ codes "at" ∷ decimal at ∷ input_word kind.now ∷ [])) }
+    ensures { Spells result (λ name.
+        line (codes "fault" ∷ codes "input" ∷ name ∷ codes "at" ∷ decimal at ∷ input_word kind.now ∷ [])) }
 {
     let mut front = fault(b"input");
     push_word(&mut front, b"");

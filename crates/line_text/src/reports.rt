@@ -1,7 +1,7 @@
 // The lines of `status`, `recover` and `audit`.
 ghost use Rattle.std.specs.Prelude.{◌≡◌, ◌+◌, ◌≤◌, ◌∷◌, ◌++◌, length, codes};
 ghost use Rattle.outside.specs.Counts.{HasCause};
-ghost use Rattle.line_text.specs.Lines.{Prints, continued, counted};
+ghost use Rattle.line_text.specs.Lines.{Prints, continued, counted_line};
 ghost use Rattle.line_text.specs.Reports.{audit_text, phase_word, recovery_text, resumed_line, status_line, status_words};
 
 use crate::WriteFault;
@@ -73,7 +73,8 @@ pub fn write_resumed<O: Sink>(
     confirmed: u64,
     rejected: u64,
 ) -> Result<(), WriteFault>
-    ensures prints { Prints (O.taken out.old) (O.taken out.new) (resumed_line batch phase confirmed rejected) result }
+    ensures prints { Prints
+        (O.taken out.old) (O.taken out.new) (resumed_line batch phase confirmed rejected) result }
     ensures cause { HasCause (O.count out.old) (O.count out.new) result }
 {
     let mut line = Line::new();
@@ -102,7 +103,7 @@ pub fn write_recovery<O: Sink>(out: &mut O, resumed: u64, unspent: u64) -> Resul
 // Appends the line of a name and a sum.
 fn push_sum(text: &mut Line, name: &[u8], sum: u128)
     requires { length text.old.items + length name.now + 42 ≤ 512 }
-    ensures text { text.new.items ≡ text.old.items ++ counted name.now sum }
+    ensures text { text.new.items ≡ text.old.items ++ counted_line name.now sum }
     ensures len { length text.new.items ≤ length text.old.items + length name.now + 42 }
 {
     let mut line = Line::new();

@@ -40,7 +40,8 @@ pub fn write_confirmed<O: Sink>(
     id: &Hash,
     batch: BatchId,
 ) -> Result<(), WriteFault>
-    ensures prints { Prints (O.taken out.old) (O.taken out.new) (confirmed_line file place id.now batch) result }
+    ensures prints { Prints
+        (O.taken out.old) (O.taken out.new) (confirmed_line file place id.now batch) result }
     ensures cause { HasCause (O.count out.old) (O.count out.new) result }
 {
     let mut line = submission(file, place, id);
@@ -53,7 +54,8 @@ pub fn write_confirmed<O: Sink>(
 // The line of a transaction that was rejected for this hash at this shard.
 fn rejection(file: u64, place: u64, id: &Hash, why: &[u8], hash: &Hash, shard: u32) -> Line
     requires { length why.now ≤ 20 }
-    ensures text { result.items ≡ ((((((decimal file ++ 32 ∷ decimal place) ++ 32 ∷ encode_lower id.now) ++ 32 ∷ codes "rejected") ++ 32 ∷ why.now) ++ 32 ∷ encode_lower hash.now) ++ 32 ∷ decimal shard) }
+    ensures text { result.items ≡ ((((((decimal file ++ 32 ∷ decimal place) ++ 32 ∷ encode_lower id.now)
+        ++ 32 ∷ codes "rejected") ++ 32 ∷ why.now) ++ 32 ∷ encode_lower hash.now) ++ 32 ∷ decimal shard) }
     ensures len { length result.items ≤ 230 }
 {
     let mut line = submission(file, place, id);
@@ -74,7 +76,8 @@ pub fn write_rejected<O: Sink>(
     outcome: &Outcome,
     batch: BatchId,
 ) -> Result<(), WriteFault>
-    ensures prints { Prints (O.taken out.old) (O.taken out.new) (rejected_line file place id.now outcome.now batch) result }
+    ensures prints { Prints
+        (O.taken out.old) (O.taken out.new) (rejected_line file place id.now outcome.now batch) result }
     ensures cause { HasCause (O.count out.old) (O.count out.new) result }
 {
     match outcome {
@@ -144,7 +147,8 @@ pub fn write_refused<O: Sink>(
     id: &Hash,
     why: &Refusal,
 ) -> Result<(), WriteFault>
-    ensures prints { Prints (O.taken out.old) (O.taken out.new) (refused_line file place id.now why.now) result }
+    ensures prints { Prints
+        (O.taken out.old) (O.taken out.new) (refused_line file place id.now why.now) result }
     ensures cause { HasCause (O.count out.old) (O.count out.new) result }
 {
     let mut line = submission(file, place, id);

@@ -2,7 +2,7 @@
 ghost use Rattle.std.specs.Prelude.{◌≡◌, ◌+◌, ◌≤◌, ◌∷◌, [], ◌++◌, length, codes};
 ghost use Rattle.hex.specs.Hex.{encode_lower};
 ghost use Rattle.outside.specs.Counts.{HasCause};
-ghost use Rattle.line_text.specs.Lines.{Prints, counted, line, init_text, summary_text};
+ghost use Rattle.line_text.specs.Lines.{Prints, counted_line, line, init_text, summary_text};
 
 use crate::WriteFault;
 use crate::line::{Line, push, push_end, push_hash, push_number};
@@ -27,7 +27,7 @@ pub struct Summary {
 /// Appends the line of a name and a number.
 pub(crate) fn push_counted(text: &mut Line, name: &[u8], n: u64)
     requires { length text.old.items + length name.now + 22 ≤ 512 }
-    ensures text { text.new.items ≡ text.old.items ++ counted name.now n }
+    ensures text { text.new.items ≡ text.old.items ++ counted_line name.now n }
     ensures len { length text.new.items ≤ length text.old.items + length name.now + 22 }
 {
     let mut line = Line::new();
@@ -68,8 +68,9 @@ pub fn write_init<O: Sink>(
 
 /// Writes the six lines that end the text of a run.
 pub fn write_summary<O: Sink>(out: &mut O, summary: &Summary) -> Result<(), WriteFault>
-    ensures prints { Prints (O.taken out.old) (O.taken out.new)
-        (summary_text summary.now.resumed summary.now.batches summary.now.confirmed summary.now.rejected summary.now.refused summary.now.unspent) result }
+    ensures prints { Prints
+        (O.taken out.old) (O.taken out.new) (summary_text summary.now.resumed summary.now.batches
+        summary.now.confirmed summary.now.rejected summary.now.refused summary.now.unspent) result }
     ensures cause { HasCause (O.count out.old) (O.count out.new) result }
 {
     let mut text = Line::new();

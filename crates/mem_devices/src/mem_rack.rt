@@ -84,13 +84,17 @@ impl<D: Disk + Drop> Rack for MemRack<D> {
 
     fn take(&mut self, node: NodeId) -> Result<D, Failed>
         requires { IsNotOut (slice_get self.old.slots.items node) }
-        ensures taken { IfOk result (λ d. (slice_get self.old.slots.items node ≡ Some (DiskSlot.In d)) × (self.new.slots.items ≡ slice_set self.old.slots.items node (DiskSlot.Out (D.count d)))) }
-        ensures out { IfOk result (λ d. (k : ℕ) → D.count d ≤ k → IsOutBelow (slice_get self.new.slots.items node) k) }
+        ensures taken { IfOk result (λ d. (slice_get self.old.slots.items node ≡ Some (DiskSlot.In d))
+            × (self.new.slots.items ≡ slice_set self.old.slots.items node (DiskSlot.Out (D.count d)))) }
+        ensures out { IfOk result (λ d. (k : ℕ) → D.count d ≤ k
+            → IsOutBelow (slice_get self.new.slots.items node) k) }
         ensures same { OnErr result (self.new.slots ≡ self.old.slots) }
-        ensures later { (n : ℕ) → slot_faults D.count self.old.misses (slice_get self.old.slots.items n) ≤ slot_faults D.count self.new.misses (slice_get self.new.slots.items n) }
+        ensures later { (n : ℕ) → slot_faults D.count self.old.misses (slice_get self.old.slots.items n)
+            ≤ slot_faults D.count self.new.misses (slice_get self.new.slots.items n) }
 
         // It fails exactly where the rack has no place for the node.
-        ensures exact { FailsWhere (is_none (slice_get self.old.slots.items node)) self.old.misses self.new.misses result }
+        ensures exact { FailsWhere
+            (is_none (slice_get self.old.slots.items node)) self.old.misses self.new.misses result }
     {
         let at = node.0 as usize;
         if self.slots.len() <= at {

@@ -32,9 +32,12 @@ fn core_of<C: Core, D: Disk>(alloc: Global, log: &RecordLog<D>) -> Result<C, Nod
     requires grammar { MayHold log.now.header log.now.records.items }
     requires ends { gate_of log.now.journal ≡ sum_by size_of log.now.records.items }
     requires whole { broken_of log.now.journal ≡ None }
-    ensures played { IfOk result (λ core. IsPlayed C.header C.stands C.kind log.now.header core (reverse log.now.records.items)) }
-    ensures room { IfOk result (λ core. used_of (reverse log.now.records.items) + kept_room log.now.header.shape (reverse log.now.records.items) ≤ D.limit (disk_of log.now.journal)) }
-    ensures refusal { IfErr result (λ e. (c : Items ℕ) → OpensTo log.now.records.items c → IsNoNodeOf C.kind C.other (D.limit (disk_of log.now.journal)) c e) }
+    ensures played { IfOk result
+        (λ core. IsPlayed C.header C.stands C.kind log.now.header core (reverse log.now.records.items)) }
+    ensures room { IfOk result (λ core. used_of (reverse log.now.records.items) + kept_room
+        log.now.header.shape (reverse log.now.records.items) ≤ D.limit (disk_of log.now.journal)) }
+    ensures refusal { IfErr result (λ e. (c : Items ℕ) → OpensTo log.now.records.items c
+        → IsNoNodeOf C.kind C.other (D.limit (disk_of log.now.journal)) c e) }
     ensures fault { IfErr result (λ e. e ≢ NodeOpenFault.DiskFault) }
 {
     let used = log.used();
@@ -60,7 +63,8 @@ fn no_log_fault<C: Core>(alloc: Global, refused: NoLog) -> NodeOpenFault
     requires { HoldsBefore refused }
     ensures fault { result ≡ NodeOpenFault.DiskFault → refused ≡ NoLog.Fault NodeOpenFault.DiskFault }
     ensures kept { (fault : TheFault) → refused ≡ NoLog.Fault fault → result ≡ fault }
-    ensures refusal { (limit : ℕ) (c : Items ℕ) → IsNoLog c refused → IsNoNodeOf C.kind C.other limit c result }
+    ensures refusal { (limit : ℕ) (c : Items ℕ) → IsNoLog c refused
+        → IsNoNodeOf C.kind C.other limit c result }
 {
     match refused {
         NoLog::Fault(fault) => fault,
@@ -82,19 +86,23 @@ pub fn open_node<C: Core, D: Disk>(
     ensures opened { IfOk result (IsOpened C.header C.stands C.kind) }
 
     // The content opens to just this journal, and a crash leaves nothing else.
-    ensures opens { IfOk result (λ o. Tells (D.content disk) (λ c. IsJournalOf C.kind o.log.header (reverse o.log.records.items) c × HoldsJournal D.Disk (opened_view o.log))) }
+    ensures opens { IfOk result (λ o. Tells (D.content disk) (λ c. IsJournalOf C.kind o.log.header
+        (reverse o.log.records.items) c × HoldsJournal D.Disk (opened_view o.log))) }
 
     // Which refusal it is.
-    ensures refusal { IfErr result (λ e. Tells (D.content disk) (λ c. IsNoNodeOf C.kind C.other (D.limit disk) c e.1)) }
-    ensures later { MatchResult result (λ o. D.count disk ≤ D.count (disk_of o.log.journal)) (λ e. D.count disk ≤ D.count e.0) }
+    ensures refusal { IfErr result
+        (λ e. Tells (D.content disk) (λ c. IsNoNodeOf C.kind C.other (D.limit disk) c e.1)) }
+    ensures later { MatchResult result
+        (λ o. D.count disk ≤ D.count (disk_of o.log.journal)) (λ e. D.count disk ≤ D.count e.0) }
     ensures fault { IfErr result (λ e. e.1 ≡ NodeOpenFault.DiskFault → Rose (D.count disk) (D.count e.0)) }
-    ensures limit { MatchResult result (λ o. D.limit (disk_of o.log.journal) ≡ D.limit disk) (λ e. D.limit e.0 ≡ D.limit disk) }
+    ensures limit { MatchResult result
+        (λ o. D.limit (disk_of o.log.journal) ≡ D.limit disk) (λ e. D.limit e.0 ≡ D.limit disk) }
 
     // Unless it failed, the disk reads as before, and a crash may leave nothing more than before.
     ensures same { MatchResult result (λ o. D.content (disk_of o.log.journal) ≡ D.content disk)
         (λ e. e.1 ≢ NodeOpenFault.DiskFault → D.content e.0 ≡ D.content disk) }
-    ensures leaves { MatchResult result
-        (λ o. Leaves D.tells_past D.moment D.images_since D.images disk (disk_of o.log.journal) (D.images disk))
+    ensures leaves { MatchResult result (λ o.
+        Leaves D.tells_past D.moment D.images_since D.images disk (disk_of o.log.journal) (D.images disk))
         (λ e. Leaves D.tells_past D.moment D.images_since D.images disk e.0 (D.images disk)) }
 {
     match open_records(alloc, disk) {

@@ -16,7 +16,8 @@ pub(crate) fn replayed<C: Core>(
     records: &[Record],
 ) -> Result<C, NodeOpenFault>
     requires { MayHold header.now records.now }
-    ensures played { IfOk result (λ core. IsPlayed C.header C.stands C.kind header.now core (reverse records.now)) }
+    ensures played { IfOk result
+        (λ core. IsPlayed C.header C.stands C.kind header.now core (reverse records.now)) }
     ensures unplayed { IfErr result (IsUnplayed C.kind C.other header.now records.now) }
 {
     let mut core = match C::begin(alloc, header, &records[0]) {
@@ -45,7 +46,8 @@ pub(crate) fn cut_fault<C: Core>(
 ) -> NodeOpenFault
     requires { MayHold header.now records.now }
     ensures fault { result ≢ NodeOpenFault.DiskFault }
-    ensures refusal { (limit : ℕ) (c : Items ℕ) → CutsOff (IsInGrammar header.now) records.now at c → IsNoNodeOf C.kind C.other limit c result }
+    ensures refusal { (limit : ℕ) (c : Items ℕ) → CutsOff (IsInGrammar header.now) records.now at c
+        → IsNoNodeOf C.kind C.other limit c result }
 {
     let core: Result<C, NodeOpenFault> = replayed(alloc, header, records);
     match core {

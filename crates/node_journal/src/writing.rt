@@ -25,12 +25,15 @@ pub fn write_next<C: Core, D: Disk>(
     requires memory { HasLogRoom log.old 1 (length (body_of next)) }
     requires whole { broken_of log.old.journal ≡ None }
     requires landed { flight.old ≡ None }
-    requires room { gate_of log.old.journal + 1 + (9 + length (body_of next)) ≤ D.limit (disk_of log.old.journal) }
+    requires room { gate_of log.old.journal + 1 + (9 + length (body_of next))
+        ≤ D.limit (disk_of log.old.journal) }
     ensures written { OnOk result (HasKept log.old log.new next × (flight.new ≡ flight.old)
         × C.takes core.old core.new next × (C.header core.new ≡ C.header core.old)) }
-    ensures failed { OnErr result (HasBroken log.old log.new × (flight.new ≡ Some next) × (core.new ≡ core.old)) }
+    ensures failed { OnErr result (HasBroken log.old log.new
+        × (flight.new ≡ Some next) × (core.new ≡ core.old)) }
     ensures fault { IfErr result (λ e. e ≡ NodeFault.DiskFault) }
-    ensures holds { (opened : ℕ) → HoldsJournal D.Disk (shown log.old opened flight.old) → HoldsJournal D.Disk (shown log.new opened flight.new) }
+    ensures holds { (opened : ℕ) → HoldsJournal D.Disk (shown log.old opened flight.old)
+        → HoldsJournal D.Disk (shown log.new opened flight.new) }
 
     // A crash at any moment leaves the journal from before it or the one behind it.
     ensures leaves { (opened : ℕ) → HoldsJournal D.Disk (shown log.old opened flight.old)

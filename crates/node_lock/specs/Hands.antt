@@ -26,8 +26,8 @@ abbrev pub hand : ℕ → List Record → ℕ → List Record → Option Record 
 hand l xs n made left = record { lane = l; seen = xs; faults = n; made = made; left = left }
 
 -- whether a hand is of the lane x
-abbrev pub lane_at : ℕ → Hand → ℕ
-lane_at x h = is_at x h.lane
+abbrev pub hand_at_lane : ℕ → Hand → ℕ
+hand_at_lane x h = is_at x h.lane
 
 -- a hand that has seen the node, and made nothing
 abbrev pub fresh : Sight → ℕ → Hand
@@ -39,7 +39,7 @@ sees s h = hand h.lane s.seen s.faults h.made h.left
 
 -- what a hand finds at a node: the journal that it had seen, and records of other lanes behind it; no fewer faults; and what it left in flight is so still,
 -- with nothing behind it
-pub record Finds (h : Hand) (s : Sight) : Type 0 where
+pub record HandFinds (h : Hand) (s : Sight) : Type 0 where
   pub others : List Record
   pub list : s.seen ≡ others ++ h.seen
   pub other : of_lane h.lane others ≡ []
@@ -48,25 +48,25 @@ pub record Finds (h : Hand) (s : Sight) : Type 0 where
 
 -- what a call made of the node and of its seat's hand: nothing; or a record of the lane was written, and the hand made it; or one was left in flight,
 -- and the hand knows it. Where a record is in flight, nothing is made
-abbrev pub Made : Sight → Hand → Sight → Hand → Type 0
-Made s h t g = (g.lane ≡ h.lane) × (
+abbrev pub HandMade : Sight → Hand → Sight → Hand → Type 0
+HandMade s h t g = (g.lane ≡ h.lane) × (
     ((t.seen ≡ s.seen) × (t.flight ≡ s.flight) × (g.made ≡ h.made) × (g.left ≡ h.left))
     ⊎ (((r : Record) × (is_in_lane h.lane r ≡ true) × (s.flight ≡ None) × (t.flight ≡ None) × (t.seen ≡ r ∷ s.seen) × (g.made ≡ r ∷ h.made) × (g.left ≡ h.left))
     ⊎ ((r : Record) × (is_in_lane h.lane r ≡ true) × (s.flight ≡ None) × (t.flight ≡ Some r) × (t.seen ≡ s.seen) × (g.made ≡ h.made) × (g.left ≡ Some r))))
 
 -- What a call tells its seat, whose hand was h and is g. The call went from s to t; `first` is the node at the opening
 pub record Called (first : Sight) (h : Hand) (s t : Sight) (g : Hand) : Type 0 where
-  pub finds : Finds h s
+  pub finds : HandFinds h s
   pub after : s.faults ≤ t.faults
   pub found : Same first s
   pub kept : Same first t
   pub seen : g.seen ≡ t.seen
   pub faults : g.faults ≡ t.faults
-  pub made : Made s h t g
+  pub made : HandMade s h t g
 
 -- What a look at s tells its seat, whose hand was h and is g: it has seen all of s, and has made and left what it had
 pub record Looked (first : Sight) (h : Hand) (s : Sight) (g : Hand) : Type 0 where
-  pub finds : Finds h s
+  pub finds : HandFinds h s
   pub found : Same first s
   pub now : g ≡ sees s h
 
@@ -104,6 +104,6 @@ pub record Done (first : Sight) (lanes : List ℕ) (hs : List Hand) (last : Sigh
   pub log : List Record
   pub list : last.seen ≡ log ++ first.seen
   pub drawn : AllDrawn lanes log
-  pub cover : (x : ℕ) → total (lane_at x) hs ≡ times x lanes
+  pub cover : (x : ℕ) → total (hand_at_lane x) hs ≡ times x lanes
   pub hands : AllHands first.seen log last.flight last.faults hs
   pub flight : (last.flight ≡ None) ⊎ (((last.flight ≡ first.flight) × (log ≡ [])) ⊎ HasLeft last.seen last.flight hs)

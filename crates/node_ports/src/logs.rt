@@ -54,7 +54,8 @@ pub fn prepare_at<D: Disk>(
     requires idle { (slot log.old.journal lane).phase ≡ Idle }
     requires size { HasSize log.old.header.shape txs.now }
     requires limits { All IsCompact txs.now }
-    ensures told { Told true lane true (prepare_due log.old.header.shape log.old.capacity lane txs.now) (sight log.old) (sight log.new) result }
+    ensures told { Told true lane true (prepare_due log.old.header.shape log.old.capacity lane txs.now)
+        (sight log.old) (sight log.new) result }
     ensures prepared { IfOk result (IsPreparedBatch log.old.header.shape lane) }
     ensures phase { OnOk result ((slot log.new.journal lane).phase ≡ InPrepare) }
     ensures txs { OnOk result (txs_of log.new.journal (open_batch log.new.journal lane) ≡ txs.now) }
@@ -83,8 +84,10 @@ pub fn decide_at<D: Disk>(
     ensures moves { DecidedMoves lane (sight log.old) (sight log.new) }
     ensures stamp { IfOk result IsStamp }
     ensures phase { OnOk result ((slot log.new.journal lane).phase ≡ InCommit) }
-    ensures outcomes { OnOk result (length out.new.items ≡ length (txs_of log.old.journal (open_batch log.old.journal lane))) }
-    ensures written { OnOk result (out.new.items ≡ outcomes_of log.new.journal (open_batch log.new.journal lane)) }
+    ensures outcomes { OnOk result (length out.new.items
+        ≡ length (txs_of log.old.journal (open_batch log.old.journal lane))) }
+    ensures written { OnOk result (out.new.items
+        ≡ outcomes_of log.new.journal (open_batch log.new.journal lane)) }
     ensures others { KeepsRest (sight log.old) (sight log.new) lane }
     ensures node { IsStillNode (sight log.old) (sight log.new) }
     ensures later { log.old.faults ≤ log.new.faults }

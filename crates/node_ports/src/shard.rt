@@ -28,7 +28,8 @@ pub struct NodeShard<'r, 'n, W: Wait, D: Disk> {
 /// Locks a part for a batch at a shard, by what is seen of it.
 pub fn lock_at<D: Disk>(node: &mut ShardNode<D>, call: &LockCall) -> Result<Replied, NodeFault>
     requires { IsLockCall node.old.header call.now }
-    ensures answer { Told true call.now.batch.lane true (lock_due node.old.header.shape node.old.capacity call.now) (sight node.old) (sight node.new) result }
+    ensures answer { Told true call.now.batch.lane true
+        (lock_due node.old.header.shape node.old.capacity call.now) (sight node.old) (sight node.new) result }
     ensures told { IfOk result (λ a. IsStamp a.stamp × All (IsReply node.old.header.shape) a.replies) }
     ensures node { IsStillNode (sight node.old) (sight node.new) }
     ensures later { node.old.faults ≤ node.new.faults }
@@ -41,7 +42,8 @@ pub fn lock_at<D: Disk>(node: &mut ShardNode<D>, call: &LockCall) -> Result<Repl
 /// Applies a locked batch at a shard, by what is seen of it.
 pub fn finish_at<D: Disk>(node: &mut ShardNode<D>, call: &FinishCall) -> Result<Stamp, NodeFault>
     requires { IsFinishCall node.old.header call.now }
-    ensures answer { Told true call.now.batch.lane false (finish_due call.now) (sight node.old) (sight node.new) result }
+    ensures answer { Told true call.now.batch.lane false
+        (finish_due call.now) (sight node.old) (sight node.new) result }
     ensures told { IfOk result IsStamp }
     ensures node { IsStillNode (sight node.old) (sight node.new) }
     ensures later { node.old.faults ≤ node.new.faults }
@@ -54,7 +56,8 @@ pub fn finish_at<D: Disk>(node: &mut ShardNode<D>, call: &FinishCall) -> Result<
 /// Forgets an applied batch at a shard, by what is seen of it.
 pub fn forget_at<D: Disk>(node: &mut ShardNode<D>, call: &ForgetCall) -> Result<Stamp, NodeFault>
     requires { IsForgetCall node.old.header call.now }
-    ensures answer { Told true call.now.batch.lane false (forget_due call.now) (sight node.old) (sight node.new) result }
+    ensures answer { Told true call.now.batch.lane false
+        (forget_due call.now) (sight node.old) (sight node.new) result }
     ensures told { IfOk result IsStamp }
     ensures node { IsStillNode (sight node.old) (sight node.new) }
     ensures later { node.old.faults ≤ node.new.faults }

@@ -33,12 +33,18 @@ impl<'r, W: Wait, D: Disk> NodeShards<'r, W, D> {
     ) -> Result<Replied, NodeFault>
         requires place { shard < length self.old.nodes.items }
         requires call { IsLockCall (sight_at sight self.old.nodes.items shard).header call.now }
-        ensures answer { Told true call.now.batch.lane true (lock_due (sight_at sight self.old.nodes.items shard).header.shape (sight_at sight self.old.nodes.items shard).capacity call.now) (sight_at sight self.old.nodes.items shard) (sight_at sight self.new.nodes.items shard) result }
-        ensures told { IfOk result (λ a. IsStamp a.stamp × All (IsReply (sight_at sight self.old.nodes.items shard).header.shape) a.replies) }
-        ensures elsewhere { (n : ℕ) → n ≢ shard → sight_at sight self.new.nodes.items n ≡ sight_at sight self.old.nodes.items n }
-        ensures nodes { KeepNodes (sight_at sight self.old.nodes.items) (sight_at sight self.new.nodes.items) }
+        ensures answer { Told true call.now.batch.lane true (lock_due (sight_at sight self.old.nodes.items
+            shard).header.shape (sight_at sight self.old.nodes.items shard).capacity call.now)
+            (sight_at sight self.old.nodes.items shard) (sight_at sight self.new.nodes.items shard) result }
+        ensures told { IfOk result (λ a. IsStamp a.stamp
+            × All (IsReply (sight_at sight self.old.nodes.items shard).header.shape) a.replies) }
+        ensures elsewhere { (n : ℕ) → n ≢ shard
+            → sight_at sight self.new.nodes.items n ≡ sight_at sight self.old.nodes.items n }
+        ensures nodes { KeepNodes
+            (sight_at sight self.old.nodes.items) (sight_at sight self.new.nodes.items) }
         ensures count { length self.new.nodes.items ≡ length self.old.nodes.items }
-        ensures later { (n : ℕ) → (sight_at sight self.old.nodes.items n).faults ≤ (sight_at sight self.new.nodes.items n).faults }
+        ensures later { (n : ℕ) → (sight_at sight self.old.nodes.items n).faults
+            ≤ (sight_at sight self.new.nodes.items n).faults }
         ensures holds { AreNodesHeld D.Disk self.old.nodes.items → AreNodesHeld D.Disk self.new.nodes.items }
     {
         let mut port = NodeShard {
@@ -58,12 +64,16 @@ impl<'r, W: Wait, D: Disk> NodeShards<'r, W, D> {
     ) -> Result<Stamp, NodeFault>
         requires place { shard < length self.old.nodes.items }
         requires call { IsFinishCall (sight_at sight self.old.nodes.items shard).header call.now }
-        ensures answer { Told true call.now.batch.lane false (finish_due call.now) (sight_at sight self.old.nodes.items shard) (sight_at sight self.new.nodes.items shard) result }
+        ensures answer { Told true call.now.batch.lane false (finish_due call.now)
+            (sight_at sight self.old.nodes.items shard) (sight_at sight self.new.nodes.items shard) result }
         ensures told { IfOk result IsStamp }
-        ensures elsewhere { (n : ℕ) → n ≢ shard → sight_at sight self.new.nodes.items n ≡ sight_at sight self.old.nodes.items n }
-        ensures nodes { KeepNodes (sight_at sight self.old.nodes.items) (sight_at sight self.new.nodes.items) }
+        ensures elsewhere { (n : ℕ) → n ≢ shard
+            → sight_at sight self.new.nodes.items n ≡ sight_at sight self.old.nodes.items n }
+        ensures nodes { KeepNodes
+            (sight_at sight self.old.nodes.items) (sight_at sight self.new.nodes.items) }
         ensures count { length self.new.nodes.items ≡ length self.old.nodes.items }
-        ensures later { (n : ℕ) → (sight_at sight self.old.nodes.items n).faults ≤ (sight_at sight self.new.nodes.items n).faults }
+        ensures later { (n : ℕ) → (sight_at sight self.old.nodes.items n).faults
+            ≤ (sight_at sight self.new.nodes.items n).faults }
         ensures holds { AreNodesHeld D.Disk self.old.nodes.items → AreNodesHeld D.Disk self.new.nodes.items }
     {
         let mut port = NodeShard {
@@ -83,12 +93,16 @@ impl<'r, W: Wait, D: Disk> NodeShards<'r, W, D> {
     ) -> Result<Stamp, NodeFault>
         requires place { shard < length self.old.nodes.items }
         requires call { IsForgetCall (sight_at sight self.old.nodes.items shard).header call.now }
-        ensures answer { Told true call.now.batch.lane false (forget_due call.now) (sight_at sight self.old.nodes.items shard) (sight_at sight self.new.nodes.items shard) result }
+        ensures answer { Told true call.now.batch.lane false (forget_due call.now)
+            (sight_at sight self.old.nodes.items shard) (sight_at sight self.new.nodes.items shard) result }
         ensures told { IfOk result IsStamp }
-        ensures elsewhere { (n : ℕ) → n ≢ shard → sight_at sight self.new.nodes.items n ≡ sight_at sight self.old.nodes.items n }
-        ensures nodes { KeepNodes (sight_at sight self.old.nodes.items) (sight_at sight self.new.nodes.items) }
+        ensures elsewhere { (n : ℕ) → n ≢ shard
+            → sight_at sight self.new.nodes.items n ≡ sight_at sight self.old.nodes.items n }
+        ensures nodes { KeepNodes
+            (sight_at sight self.old.nodes.items) (sight_at sight self.new.nodes.items) }
         ensures count { length self.new.nodes.items ≡ length self.old.nodes.items }
-        ensures later { (n : ℕ) → (sight_at sight self.old.nodes.items n).faults ≤ (sight_at sight self.new.nodes.items n).faults }
+        ensures later { (n : ℕ) → (sight_at sight self.old.nodes.items n).faults
+            ≤ (sight_at sight self.new.nodes.items n).faults }
         ensures holds { AreNodesHeld D.Disk self.old.nodes.items → AreNodesHeld D.Disk self.new.nodes.items }
     {
         let mut port = NodeShard {

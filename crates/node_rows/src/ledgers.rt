@@ -231,7 +231,8 @@ fn run_all<W: Wait>(
     gate: &Noting,
 ) -> Result<LaneReport, LaneFault>
     requires place { ports.old.log.at ≡ home_of shape.now lane }
-    requires rests { MayRunOver shape.now lane ports.old.log.at ports.old.log.logs.items ports.old.shards.nodes.items }
+    requires rests { MayRunOver
+        shape.now lane ports.old.log.at ports.old.log.logs.items ports.old.shards.nodes.items }
     requires limits { All IsCompact txs.now }
 {
     let mut source = SliceSource::new(txs);
@@ -249,7 +250,8 @@ fn run_one<W: Wait>(
     gate: &Noting,
 ) -> Result<LaneReport, LaneFault>
     requires place { ports.old.log.at ≡ home_of shape.now lane }
-    requires rests { MayRunOver shape.now lane ports.old.log.at ports.old.log.logs.items ports.old.shards.nodes.items }
+    requires rests { MayRunOver
+        shape.now lane ports.old.log.at ports.old.log.logs.items ports.old.shards.nodes.items }
     requires size { HasSize shape.now txs.now }
     requires limits { All IsCompact txs.now }
 {
@@ -291,7 +293,8 @@ fn run_ports<W: Wait>(
     told: &mut Told,
 )
     requires place { ports.old.log.at ≡ home_of shape.now plan.now.lane }
-    requires rests { MayRunOver shape.now plan.now.lane ports.old.log.at ports.old.log.logs.items ports.old.shards.nodes.items }
+    requires rests { MayRunOver
+        shape.now plan.now.lane ports.old.log.at ports.old.log.logs.items ports.old.shards.nodes.items }
 {
     let (lane, txs, repeats) = (plan.lane, plan.txs, plan.repeats);
     if !are_compact(txs) {

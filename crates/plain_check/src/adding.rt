@@ -16,7 +16,8 @@ use same_records::{home_of, is_journal};
 /// The batch of a record, none of a first record.
 #[tactic(auto, using(crate::proofs::Batches::batch_is))]
 pub fn batch_of(r: &Record) -> Option<BatchId>
-    ensures { MatchOption result ((b : ModelBatch) → is_of b r.now ≡ false) (λ own. (b : ModelBatch) → (is_of b r.now ≡ true) ↔ (own ≡ b)) }
+    ensures { MatchOption result ((b : ModelBatch)
+        → is_of b r.now ≡ false) (λ own. (b : ModelBatch) → (is_of b r.now ≡ true) ↔ (own ≡ b)) }
 {
     match r {
         Record::Genesis { .. } => None,
@@ -33,7 +34,8 @@ pub fn batch_of(r: &Record) -> Option<BatchId>
 
 // Whether a batch's coordinator has its record of a kind.
 fn has_kind(kind: u64, shape: &Shape, journals: &[List<Record>], batch: &BatchId) -> bool
-    ensures { result ≡ is_some (record_of kind (journals_in journals.now (home_of shape.now batch.now.lane)) batch.now) }
+    ensures { result
+        ≡ is_some (record_of kind (journals_in journals.now (home_of shape.now batch.now.lane)) batch.now) }
 {
     record_of(kind, home_journal(journals, shape, batch), batch).is_some()
 }
@@ -65,7 +67,8 @@ fn is_new(
     new: &[List<Record>],
     r: &Record,
 ) -> bool
-    ensures { IsTrue result ↔ IsAdded (MayAdd resumes shape.now (journals_in old.now) (journals_in new.now)) r.now }
+    ensures { IsTrue result
+        ↔ IsAdded (MayAdd resumes shape.now (journals_in old.now) (journals_in new.now)) r.now }
 {
     match batch_of(r) {
         Some(batch) => may_add(resumes, shape, old, new, &batch),
@@ -81,7 +84,8 @@ fn are_new(
     new: &[List<Record>],
     rs: &[Record],
 ) -> bool
-    ensures { IsTrue result ↔ AllByRecursion (IsAdded (MayAdd resumes shape.now (journals_in old.now) (journals_in new.now))) rs.now }
+    ensures { IsTrue result ↔ AllByRecursion
+        (IsAdded (MayAdd resumes shape.now (journals_in old.now) (journals_in new.now))) rs.now }
 {
     match rs.split_first() {
         None => true,
@@ -110,7 +114,8 @@ pub fn has_grown(
     new: &[List<Record>],
     node: usize,
 ) -> bool
-    ensures { IsTrue result ↔ GrowsByNew (MayAdd resumes shape.now (journals_in old.now) (journals_in new.now)) (journals_in old.now node) (journals_in new.now node) }
+    ensures { IsTrue result ↔ GrowsByNew (MayAdd resumes shape.now
+        (journals_in old.now) (journals_in new.now)) (journals_in old.now node) (journals_in new.now node) }
 {
     let before = journal_of(old, node);
     let after = journal_of(new, node);
@@ -129,7 +134,8 @@ fn have_grown_below(
     new: &[List<Record>],
     n: usize,
 ) -> bool
-    ensures { IsTrue result ↔ ((k : ℕ) → k < n → GrowsByNew (MayAdd resumes shape.now (journals_in old.now) (journals_in new.now)) (journals_in old.now k) (journals_in new.now k)) }
+    ensures { IsTrue result ↔ ((k : ℕ) → k < n → GrowsByNew (MayAdd resumes shape.now
+        (journals_in old.now) (journals_in new.now)) (journals_in old.now k) (journals_in new.now k)) }
 {
     if n == 0 {
         return true;
@@ -140,14 +146,16 @@ fn have_grown_below(
 /// Whether all journals have grown by records that the stage may write.
 #[tactic(auto, using(crate::proofs::Growing::adds_by, crate::proofs::Growing::past_end))]
 pub fn adds(resumes: bool, shape: &Shape, old: &[List<Record>], new: &[List<Record>]) -> bool
-    ensures { IsTrue result ↔ Adds (MayAdd resumes shape.now (journals_in old.now) (journals_in new.now)) (journals_in old.now) (journals_in new.now) }
+    ensures { IsTrue result ↔ Adds (MayAdd resumes shape.now (journals_in old.now) (journals_in new.now))
+        (journals_in old.now) (journals_in new.now) }
 {
     have_grown_below(resumes, shape, old, new, old.len().max(new.len()))
 }
 
 // Whether the lanes below n are idle at their coordinators.
 fn are_idle_below(shape: &Shape, journals: &[List<Record>], n: u32) -> bool
-    ensures { IsTrue result ↔ ((lane : ℕ) → lane < n → (slot (journals_in journals.now (home_of shape.now lane)) lane).phase ≡ Idle) }
+    ensures { IsTrue result ↔ ((lane : ℕ) → lane < n
+        → (slot (journals_in journals.now (home_of shape.now lane)) lane).phase ≡ Idle) }
 {
     if n == 0 {
         return true;

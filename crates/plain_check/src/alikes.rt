@@ -50,7 +50,8 @@ fn are_decided(
     ds: &[bool],
 ) -> bool
     requires { shards < 2 ^ 24 }
-    ensures { (all : Items ModelOutcome) (place : ℕ) → outcomes.now ≡ drop place all → IsTrue result ↔ (ds.now ≡ decisions all (part shards shard place txs.now)) }
+    ensures { (all : Items ModelOutcome) (place : ℕ) → outcomes.now ≡ drop place all
+        → IsTrue result ↔ (ds.now ≡ decisions all (part shards shard place txs.now)) }
 {
     let Some((t, others)) = txs.split_first() else {
         return ds.is_empty();
@@ -70,7 +71,8 @@ fn are_decided(
 
 // Whether a journal has one Lock and one Finish of a batch.
 fn has_one_each(past: &[Record], batch: &BatchId) -> bool
-    ensures { IsTrue result ↔ ((count_of lock_kind past.now batch.now ≡ 1) × (count_of finish_kind past.now batch.now ≡ 1)) }
+    ensures { IsTrue result
+        ↔ ((count_of lock_kind past.now batch.now ≡ 1) × (count_of finish_kind past.now batch.now ≡ 1)) }
 {
     count_of(RecordKind::Lock as u64, past, batch) == 1
         && count_of(RecordKind::Finish as u64, past, batch) == 1
@@ -172,7 +174,8 @@ fn are_prepared_alike(
 // The same of the nodes below n.
 fn are_all_alike_below(journals: &[List<Record>], shape: &Shape, n: usize) -> bool
     requires { n ≤ length journals.now }
-    ensures { IsTrue result ↔ ((k : ℕ) → k < n → PreparedAlike shape.now (journals_in journals.now) k (journals_in journals.now k)) }
+    ensures { IsTrue result ↔ ((k : ℕ) → k < n
+        → PreparedAlike shape.now (journals_in journals.now) k (journals_in journals.now k)) }
 {
     if n == 0 {
         return true;

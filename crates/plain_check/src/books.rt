@@ -40,7 +40,8 @@ pub fn output_at(coins: &[Input], p: &OutPoint) -> Option<Output>
 // Puts the coins at other outpoints behind those so far.
 fn add_others(coins: &[Input], p: &OutPoint, out: &mut Vec<Input>) -> Result<(), AllocError>
     ensures fewer { OnOk result (length out.new.items ≤ length out.old.items + length coins.now) }
-    ensures others { OnOk result (out.new.items ≡ out.old.items ++ filter (λ c. not (eq_by_cmp (slice_cmp nat_cmp) (key p.now) (key c.point))) coins.now) }
+    ensures others { OnOk result (out.new.items ≡ out.old.items
+        ++ filter (λ c. not (eq_by_cmp (slice_cmp nat_cmp) (key p.now) (key c.point))) coins.now) }
 {
     let Some((c, rest)) = coins.split_first() else {
         return Ok(());

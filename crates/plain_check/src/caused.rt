@@ -20,7 +20,8 @@ use std::alloc::{AllocError, Global};
 
 // Whether the entries are the transactions' part at this node, where it is a shard.
 fn is_part_at(shape: &Shape, node: NodeId, es: &[Answered], txs: &[CompactTx]) -> bool
-    ensures { IsTrue result ↔ ((s : ℕ) → node ≡ shard_node shape.now s → entries es.now ≡ part shape.now.shards s 0 txs.now) }
+    ensures { IsTrue result
+        ↔ ((s : ℕ) → node ≡ shard_node shape.now s → entries es.now ≡ part shape.now.shards s 0 txs.now) }
 {
     if node.0 < shape.coordinators() {
         return true;
@@ -37,7 +38,8 @@ fn is_lock_caused(
     batch: &BatchId,
     es: &[Answered],
 ) -> bool
-    ensures { IsTrue result ↔ IsCaused shape.now (journals_in journals.now) node (Lock stamp batch.now es.now) }
+    ensures { IsTrue result
+        ↔ IsCaused shape.now (journals_in journals.now) node (Lock stamp batch.now es.now) }
 {
     let home = home_journal(journals, shape, batch);
     let Some(cause) = record_of(RecordKind::Prepare as u64, home, batch) else {
@@ -55,7 +57,8 @@ fn are_by_locks(
     batch: &BatchId,
     given: &[Outcome],
 ) -> Result<bool, AllocError>
-    ensures { IfOk result (λ yes. IsTrue yes ↔ (given.now ≡ outcomes (λ s. entries_in (at_shards shape.now (journals_in journals.now) lock_kind batch.now s)) shape.now.shards 0
+    ensures { IfOk result (λ yes. IsTrue yes ↔ (given.now ≡ outcomes (λ s.
+        entries_in (at_shards shape.now (journals_in journals.now) lock_kind batch.now s)) shape.now.shards 0
         (txs_of (journals_in journals.now (home_of shape.now batch.now.lane)) batch.now))) }
 {
     let txs = txs_of(home_journal(journals, shape, batch), batch);
@@ -73,7 +76,8 @@ fn is_commit_caused(
     batch: &BatchId,
     outcomes: &[Outcome],
 ) -> Result<bool, AllocError>
-    ensures { IfOk result (λ yes. IsTrue yes ↔ IsCaused shape.now (journals_in journals.now) node (Commit stamp batch.now outcomes.now)) }
+    ensures { IfOk result (λ yes. IsTrue yes
+        ↔ IsCaused shape.now (journals_in journals.now) node (Commit stamp batch.now outcomes.now)) }
 {
     if !all_have(journals, shape, RecordKind::Lock as u64, batch) {
         return Ok(false);
@@ -99,7 +103,8 @@ fn is_finish_caused(
     batch: &BatchId,
     decisions: &[bool],
 ) -> Result<bool, AllocError>
-    ensures { IfOk result (λ yes. IsTrue yes ↔ IsCaused shape.now (journals_in journals.now) node (Finish stamp batch.now decisions.now)) }
+    ensures { IfOk result (λ yes. IsTrue yes
+        ↔ IsCaused shape.now (journals_in journals.now) node (Finish stamp batch.now decisions.now)) }
 {
     let home = home_journal(journals, shape, batch);
     let Some(cause) = record_of(RecordKind::Commit as u64, home, batch) else {

@@ -32,7 +32,8 @@ pub fn is_stamped(stamp: Stamp, own: &[Record], cause: Stamp) -> bool
 // Whether each shard below n that the batch concerns has its record of the kind.
 fn have_below(journals: &[List<Record>], shape: &Shape, kind: u64, batch: &BatchId, n: u32) -> bool
     requires { n ≤ shape.now.shards }
-    ensures { IsTrue result ↔ ((s : ℕ) → s < n → Concerned shape.now (txs_of (journals_in journals.now (home_of shape.now batch.now.lane)) batch.now) s
+    ensures { IsTrue result ↔ ((s : ℕ) → s < n → Concerned shape.now
+        (txs_of (journals_in journals.now (home_of shape.now batch.now.lane)) batch.now) s
         → is_some (at_shards shape.now (journals_in journals.now) kind batch.now s) ≡ true) }
 {
     if n == 0 {
@@ -61,7 +62,8 @@ fn greatest_below(
     n: u32,
 ) -> Stamp
     requires { n ≤ shape.now.shards }
-    ensures { result ≡ greatest (λ s. stamp_in (at_shards shape.now (journals_in journals.now) kind batch.now s)) n }
+    ensures { result
+        ≡ greatest (λ s. stamp_in (at_shards shape.now (journals_in journals.now) kind batch.now s)) n }
 {
     if n == 0 {
         return Stamp(0);

@@ -121,7 +121,8 @@ pub fn summary_of(
     all: &[List<Report>],
     unspent: u64,
 ) -> Option<Summary>
-    ensures { IfSome result (IsSummary shape.now (journals_in entry.now) (journals_in exit.now) all.now unspent) }
+    ensures { IfSome result
+        (IsSummary shape.now (journals_in entry.now) (journals_in exit.now) all.now unspent) }
 {
     Some(Summary {
         resumed: resumed_count(shape, entry),

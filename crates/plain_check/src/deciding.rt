@@ -28,7 +28,8 @@ pub enum Search {
 
 // Where the q-th transaction of the lane's Prepares among the records lies, the newest of which stands first.
 fn find_in(lane: LaneId, records: &[Record], q: usize) -> Search
-    ensures { (others : Items Sized) → place_of (sized_onto lane records.now others) q ≡ place_by result others }
+    ensures { (others : Items Sized)
+        → place_of (sized_onto lane records.now others) q ≡ place_by result others }
 {
     let Some((r, older)) = records.split_first() else {
         return Search::Past(q);
@@ -133,7 +134,8 @@ fn batches_below(
     exit: &[List<Record>],
     lanes: u32,
 ) -> Option<u64>
-    ensures { IfSome result (λ n. n ≡ batches_below shape.now (journals_in entry.now) (journals_in exit.now) lanes) }
+    ensures { IfSome result
+        (λ n. n ≡ batches_below shape.now (journals_in entry.now) (journals_in exit.now) lanes) }
 {
     if lanes == 0 {
         return Some(0);

@@ -72,7 +72,8 @@ fn has_finish_cause(
     node: NodeId,
     call: &FinishCall,
 ) -> Result<bool, AllocError>
-    ensures { IfOk result (λ yes. IsTrue yes ↔ CauseStands shape.now (journals nodes.now) node (Finish_call call.now)) }
+    ensures { IfOk result (λ yes. IsTrue yes
+        ↔ CauseStands shape.now (journals nodes.now) node (Finish_call call.now)) }
 {
     match record_of(
         RecordKind::Commit as u64,
@@ -121,7 +122,8 @@ pub fn has_cause(
     node: NodeId,
     call: &ShardCall,
 ) -> Result<bool, AllocError>
-    ensures { IfOk result (λ yes. IsTrue yes ↔ CauseStands shape.now (journals nodes.now) node (call_in call.now)) }
+    ensures { IfOk result (λ yes. IsTrue yes
+        ↔ CauseStands shape.now (journals nodes.now) node (call_in call.now)) }
 {
     match call {
         ShardCall::Lock(c) => Ok(has_lock_cause(nodes, shape, node, c)),
@@ -164,7 +166,8 @@ pub fn may_begin(
     node: NodeId,
     r: &Record,
 ) -> Result<bool, AllocError>
-    ensures { IfOk result (λ yes. IsTrue yes ↔ (After (header_of shape.now genesis.now node) (journals nodes.now node) r.now × IsCaused shape.now (journals nodes.now) node r.now)) }
+    ensures { IfOk result (λ yes. IsTrue yes ↔ (After (header_of shape.now genesis.now node)
+        (journals nodes.now node) r.now × IsCaused shape.now (journals nodes.now) node r.now)) }
 {
     let header = header_at(shape, genesis, node);
     if !is_after(alloc, &header, journal_in(nodes, node.0), r)? {

@@ -38,7 +38,8 @@ fn is_newer(past: &[Record], stamp: Stamp) -> bool
 
 // Whether the lane's last record is of this batch, in this phase.
 fn is_in(past: &[Record], batch: &BatchId, phase: Phase) -> bool
-    ensures { IsTrue result ↔ (((slot past.now batch.now.lane).phase ≡ phase_in phase) × ((slot past.now batch.now.lane).number ≡ batch.now.number)) }
+    ensures { IsTrue result ↔ (((slot past.now batch.now.lane).phase ≡ phase_in phase)
+        × ((slot past.now batch.now.lane).number ≡ batch.now.number)) }
 {
     let own = slot_of(past, batch.lane);
     own.phase == phase && own.number == batch.number
@@ -60,7 +61,8 @@ fn are_replies(
 
 // Whether a Lock of this batch may come next, but for its replies.
 fn is_next_lock(past: &[Record], stamp: Stamp, batch: &BatchId) -> bool
-    ensures { IsTrue result ↔ ((last_stamp past.now < stamp) × ((slot past.now batch.now.lane).phase ≡ Idle) × ((slot past.now batch.now.lane).number < batch.now.number)) }
+    ensures { IsTrue result ↔ ((last_stamp past.now < stamp) × ((slot past.now batch.now.lane).phase ≡ Idle)
+        × ((slot past.now batch.now.lane).number < batch.now.number)) }
 {
     let own = slot_of(past, batch.lane);
     is_newer(past, stamp) && own.phase == Phase::Idle && own.number < batch.number

@@ -16,7 +16,8 @@ pub fn first_with<'a>(
     submissions: &'a [FullTx],
     k: &CompactTx,
 ) -> Result<Option<&'a FullTx>, AllocError>
-    ensures { IfOk result (λ o. MatchOption o (first_with submissions.now k.now ≡ None) (λ t. first_with submissions.now k.now ≡ Some t.now)) }
+    ensures { IfOk result (λ o. MatchOption o (first_with submissions.now k.now ≡ None)
+        (λ t. first_with submissions.now k.now ≡ Some t.now)) }
 {
     let Some((t, rest)) = submissions.split_first() else {
         return Ok(None);
@@ -33,7 +34,8 @@ fn handed_in(
     submissions: &[FullTx],
     ks: &[CompactTx],
 ) -> Result<Option<List<FullTx>>, AllocError>
-    ensures { IfOk result (λ o. MatchOption o ((ts : Items ModelTx) → ¬ (AreHandedIn submissions.now ks.now ts)) (λ ts. AreHandedIn submissions.now ks.now ts)) }
+    ensures { IfOk result (λ o. MatchOption o ((ts : Items ModelTx)
+        → ¬ (AreHandedIn submissions.now ks.now ts)) (λ ts. AreHandedIn submissions.now ks.now ts)) }
 {
     let Some((k, rest)) = ks.split_first() else {
         return Ok(Some(List::new(alloc)));
@@ -54,7 +56,8 @@ pub fn committed_of(
     rows: &[Row],
     submissions: &[FullTx],
 ) -> Result<Option<List<FullTx>>, AllocError>
-    ensures { IfOk result (λ o. MatchOption o ((ts : Items ModelTx) → ¬ (AreCommitted submissions.now rows.now ts)) (λ ts. AreCommitted submissions.now rows.now ts)) }
+    ensures { IfOk result (λ o. MatchOption o ((ts : Items ModelTx)
+        → ¬ (AreCommitted submissions.now rows.now ts)) (λ ts. AreCommitted submissions.now rows.now ts)) }
 {
     let ks = committed_compact(alloc, rows)?;
     handed_in(alloc, submissions, ks.as_slice())

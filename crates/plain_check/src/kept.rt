@@ -111,7 +111,8 @@ fn may_come(
     past: &[Row],
     row: &Row,
 ) -> Result<bool, AllocError>
-    ensures { IfOk result (λ yes. IsTrue yes ↔ (After (header_of shape.now genesis.now row.now.node) (journal row.now.node past.now) row.now.what
+    ensures { IfOk result (λ yes. IsTrue yes
+        ↔ (After (header_of shape.now genesis.now row.now.node) (journal row.now.node past.now) row.now.what
         × TxsPass (IsProperCompact submissions.now) row.now.what)) }
 {
     let header = header_of(shape, genesis, row.node);
@@ -132,7 +133,8 @@ fn is_steady(
     later: &[Row],
 ) -> Result<bool, AllocError>
     requires { first.now ≡ first_rows shape.now (compact_mint mint.now) }
-    ensures { IfOk result (λ yes. IsTrue yes ↔ IsSteady shape.now (compact_mint mint.now) (IsProperCompact submissions.now) later.now) }
+    ensures { IfOk result (λ yes. IsTrue yes
+        ↔ IsSteady shape.now (compact_mint mint.now) (IsProperCompact submissions.now) later.now) }
 {
     let Some((row, rest)) = later.split_first() else {
         return Ok(true);

@@ -73,7 +73,8 @@ fn are_journals_below(
     n: usize,
 ) -> Result<bool, AllocError>
     requires { n ≤ length journals.now }
-    ensures { IfOk result (λ yes. IsTrue yes ↔ ((k : ℕ) → k < n → journal k rows.now ≡ journals_in journals.now k)) }
+    ensures { IfOk result (λ yes. IsTrue yes
+        ↔ ((k : ℕ) → k < n → journal k rows.now ≡ journals_in journals.now k)) }
 {
     if n == 0 {
         return Ok(true);
@@ -93,7 +94,8 @@ pub fn is_history(
     journals: &[List<Record>],
     later: &[Row],
 ) -> Result<bool, AllocError>
-    ensures { IfOk result (λ yes. IsTrue yes ↔ IsHistory shape.now (compact_mint mint.now) (journals_in journals.now) later.now) }
+    ensures { IfOk result (λ yes. IsTrue yes
+        ↔ IsHistory shape.now (compact_mint mint.now) (journals_in journals.now) later.now) }
 {
     if !is_ordered(later) {
         return Ok(false);
@@ -188,9 +190,10 @@ fn later_of(
     mint: &CompactTx,
     journals: &[List<Record>],
 ) -> Result<Option<List<Row>>, AllocError>
-    ensures is { IfOk result (λ o. IfSome o (λ later. IsHistory shape.now (compact_mint mint.now) (journals_in journals.now) later)) }
-    ensures found { IfOk result (λ o. (later : Items ModelRow) → IsHistory shape.now (compact_mint mint.now) (journals_in journals.now) later
-        → AreOnNodes shape.now (journals_in journals.now) → o ≡ Some later) }
+    ensures is { IfOk result (λ o.
+        IfSome o (λ later. IsHistory shape.now (compact_mint mint.now) (journals_in journals.now) later)) }
+    ensures found { IfOk result (λ o. (later : Items ModelRow) → IsHistory shape.now (compact_mint mint.now)
+        (journals_in journals.now) later → AreOnNodes shape.now (journals_in journals.now) → o ≡ Some later) }
 {
     let later = later_below(alloc, journals, shape.node_count())?;
     if !is_history(alloc, shape, mint, journals, later.as_slice())? {
@@ -208,8 +211,10 @@ pub fn history_of(
     mint: &[Output],
     journals: &[List<Record>],
 ) -> Result<Option<List<Row>>, AllocError>
-    ensures is { IfOk result (λ o. IfSome o (λ rows. IsWholeHistory shape.now mint.now (journals_in journals.now) rows)) }
-    ensures found { IfOk result (λ o. (later : Items ModelRow) → IsHistory shape.now (minted mint.now) (journals_in journals.now) later
+    ensures is { IfOk result
+        (λ o. IfSome o (λ rows. IsWholeHistory shape.now mint.now (journals_in journals.now) rows)) }
+    ensures found { IfOk result (λ o. (later : Items ModelRow)
+        → IsHistory shape.now (minted mint.now) (journals_in journals.now) later
         → AreOnNodes shape.now (journals_in journals.now) → o ≡ Some (history_of shape.now mint.now later)) }
 {
     let whole = genesis_tx(alloc, mint)?;
@@ -232,7 +237,8 @@ pub fn is_kept_ledger(
     submissions: &[FullTx],
     journals: &[List<Record>],
 ) -> Result<bool, AllocError>
-    ensures { IfOk result (λ yes. IsTrue yes ↔ KeptJournals shape.now mint.now submissions.now (journals_in journals.now)) }
+    ensures { IfOk result (λ yes. IsTrue yes
+        ↔ KeptJournals shape.now mint.now submissions.now (journals_in journals.now)) }
 {
     let whole = genesis_tx(alloc, mint)?;
     let minted = compact(alloc, &whole)?;

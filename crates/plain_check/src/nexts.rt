@@ -82,7 +82,8 @@ fn lock_again(
 pub fn next_lock(alloc: Global, past: &[Record], call: &LockCall) -> Result<LockPlan, AllocError>
     requires last { last_stamp past.now < 2 ^ 63 }
     requires cause { call.now.cause < 2 ^ 63 }
-    ensures { IfOk result (λ p. locking_plan p ≡ next_lock past.now call.now.batch call.now.part call.now.cause) }
+    ensures { IfOk result
+        (λ p. locking_plan p ≡ next_lock past.now call.now.batch call.now.part call.now.cause) }
 {
     let slot = slot_of(past, call.batch.lane);
     let number = call.batch.number;
@@ -138,7 +139,8 @@ fn finish_now(other: Option<u64>, past: &[Record], call: &FinishCall) -> StampPl
 fn finish_in(phase: Phase, past: &[Record], call: &FinishCall) -> StampPlan
     requires last { last_stamp past.now < 2 ^ 63 }
     requires cause { call.now.cause < 2 ^ 63 }
-    ensures { plain_plan result ≡ finish_in (phase_in phase) past.now call.now.batch call.now.decisions call.now.cause }
+    ensures { plain_plan result
+        ≡ finish_in (phase_in phase) past.now call.now.batch call.now.decisions call.now.cause }
 {
     match phase {
         Phase::InFinish => {

@@ -50,7 +50,8 @@ pub fn is_writing(nodes: &[Node], node: NodeId) -> bool
 /// Puts a node up with its journal as it is, and this in flight.
 pub fn set_up(nodes: &mut [Node], node: NodeId, flight: Option<Record>)
     requires { node < length nodes.old }
-    ensures { nodes.new ≡ slice_set nodes.old node (record { journal = journals nodes.old node; up = true; flight = flight }) }
+    ensures { nodes.new ≡ slice_set nodes.old node
+        (record { journal = journals nodes.old node; up = true; flight = flight }) }
 {
     let own = &mut nodes[node.0 as usize];
     own.up = true;
@@ -60,7 +61,8 @@ pub fn set_up(nodes: &mut [Node], node: NodeId, flight: Option<Record>)
 /// Puts a node down with its journal as it is: what was in flight is lost.
 pub fn lose(nodes: &mut [Node], node: NodeId)
     requires { node < length nodes.old }
-    ensures { nodes.new ≡ slice_set nodes.old node (record { journal = journals nodes.old node; up = false; flight = None }) }
+    ensures { nodes.new
+        ≡ slice_set nodes.old node (record { journal = journals nodes.old node; up = false; flight = None }) }
 {
     let own = &mut nodes[node.0 as usize];
     own.up = false;
@@ -69,7 +71,8 @@ pub fn lose(nodes: &mut [Node], node: NodeId)
 
 // Puts what is in flight at the journal's end. Where memory runs out the node is as before.
 fn write_flight(alloc: Global, own: &mut Node) -> Result<(), AllocError>
-    ensures ok { OnOk result (own.new ≡ record { journal = flushed own.old.flight own.old.journal; up = own.old.up; flight = None }) }
+    ensures ok { OnOk result (own.new
+        ≡ record { journal = flushed own.old.flight own.old.journal; up = own.old.up; flight = None }) }
     ensures err { OnErr result (own.new ≡ own.old) }
 {
     let Some(r) = own.flight.take() else {
@@ -93,7 +96,8 @@ fn write_flight(alloc: Global, own: &mut Node) -> Result<(), AllocError>
 /// nodes are as before.
 pub fn land(alloc: Global, nodes: &mut [Node], node: NodeId, up: bool) -> Result<(), AllocError>
     requires { node < length nodes.old }
-    ensures ok { OnOk result (nodes.new ≡ slice_set nodes.old node (record { journal = flushed (node_at nodes.old node).flight (journals nodes.old node); up = up; flight = None })) }
+    ensures ok { OnOk result (nodes.new ≡ slice_set nodes.old node (record { journal = flushed
+        (node_at nodes.old node).flight (journals nodes.old node); up = up; flight = None })) }
     ensures err { OnErr result (nodes.new ≡ nodes.old) }
 {
     let own = &mut nodes[node.0 as usize];

@@ -62,7 +62,8 @@ fn outcome_from(
     n: u32,
 ) -> Outcome
     requires { shard + n ≤ 64 }
-    ensures { result ≡ outcome (λ s. entries_in (at_shards shape.now (journals_in journals.now) lock_kind batch.now s)) place shard n }
+    ensures { result ≡ outcome (λ s.
+        entries_in (at_shards shape.now (journals_in journals.now) lock_kind batch.now s)) place shard n }
 {
     if n == 0 {
         return Outcome::Held;
@@ -75,7 +76,8 @@ fn outcome_from(
 /// The outcome of a batch's transaction by the Locks in these journals of all nodes: Held where each shard with
 /// its place replies Held, else the least shard whose reply is another, with it.
 pub fn outcome_of(journals: &[List<Record>], shape: &Shape, batch: &BatchId, place: u64) -> Outcome
-    ensures { result ≡ outcome (λ s. entries_in (at_shards shape.now (journals_in journals.now) lock_kind batch.now s)) place 0 shape.now.shards }
+    ensures { result ≡ outcome (λ s. entries_in
+        (at_shards shape.now (journals_in journals.now) lock_kind batch.now s)) place 0 shape.now.shards }
 {
     outcome_from(journals, shape, batch, place, 0, shape.shards())
 }
@@ -106,7 +108,8 @@ fn add_outcomes(
     out: &mut Vec<Outcome>,
 ) -> Result<(), AllocError>
     requires { place + length txs.now < 2 ^ 64 }
-    ensures { OnOk result (out.new.items ≡ out.old.items ++ outcomes (λ s. entries_in (at_shards shape.now (journals_in journals.now) lock_kind batch.now s)) shape.now.shards place txs.now) }
+    ensures { OnOk result (out.new.items ≡ out.old.items ++ outcomes (λ s. entries_in (at_shards shape.now
+        (journals_in journals.now) lock_kind batch.now s)) shape.now.shards place txs.now) }
 {
     let Some((_, rest)) = txs.split_first() else {
         return Ok(());
@@ -123,7 +126,8 @@ pub fn outcomes_by_locks(
     batch: &BatchId,
     txs: &[CompactTx],
 ) -> Result<Outcomes, AllocError>
-    ensures { IfOk result (λ l. l ≡ outcomes (λ s. entries_in (at_shards shape.now (journals_in journals.now) lock_kind batch.now s)) shape.now.shards 0 txs.now) }
+    ensures { IfOk result (λ l. l ≡ outcomes (λ s. entries_in
+        (at_shards shape.now (journals_in journals.now) lock_kind batch.now s)) shape.now.shards 0 txs.now) }
 {
     let mut out = Vec::new(alloc);
     add_outcomes(journals, shape, batch, 0, txs, &mut out)?;

@@ -20,7 +20,8 @@ fn is_same_place(c: &Input, d: &Input) -> bool
 
 // Whether none of these stands at a coin's outpoint.
 fn is_alone(c: &Input, ds: &[Input]) -> bool
-    ensures { IsTrue result ↔ AllByRecursion (λ k. bytes_eq (key c.now.point) k ≡ false) (map (λ d. key d.point) ds.now) }
+    ensures { IsTrue result
+        ↔ AllByRecursion (λ k. bytes_eq (key c.now.point) k ≡ false) (map (λ d. key d.point) ds.now) }
 {
     match ds.split_first() {
         None => true,

@@ -85,7 +85,8 @@ pub fn is_in_lane(lane: LaneId, r: &Record) -> bool
 
 /// The newest record of a kind of a batch.
 pub fn record_of<'a>(kind: u64, past: &'a [Record], batch: &BatchId) -> Option<&'a Record>
-    ensures { MatchOption result (record_of kind past.now batch.now ≡ None) (λ r. record_of kind past.now batch.now ≡ Some r.now) }
+    ensures { MatchOption result (record_of kind past.now batch.now ≡ None)
+        (λ r. record_of kind past.now batch.now ≡ Some r.now) }
 {
     match past.split_first() {
         None => None,

@@ -93,7 +93,8 @@ fn put_below(
     exit: &[List<Record>],
     lanes: u32,
 ) -> Result<(), WriteFault>
-    ensures { OnOk result (page.new.text.items ≡ page.old.text.items ++ resumed_below shape.now (journals_in entry.now) (journals_in exit.now) lanes) }
+    ensures { OnOk result (page.new.text.items ≡ page.old.text.items
+        ++ resumed_below shape.now (journals_in entry.now) (journals_in exit.now) lanes) }
 {
     if lanes == 0 {
         return Ok(());
@@ -147,7 +148,8 @@ pub fn recover_text(
     entry: &[List<Record>],
     exit: &[List<Record>],
 ) -> Option<Vec<u8>>
-    ensures { IfSome result (λ v. IsRecoverText shape.now (journals_in entry.now) (journals_in exit.now) v.items) }
+    ensures { IfSome result
+        (λ v. IsRecoverText shape.now (journals_in entry.now) (journals_in exit.now) v.items) }
 {
     let unspent = unspent_count(alloc, shape, exit).ok()?;
     let mut page = Page::new(alloc);

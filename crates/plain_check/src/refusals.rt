@@ -27,7 +27,8 @@ impl Verifier for Listed {
 
 /// The first reason that applies to a transaction with these verdicts on its witnesses, by place. None where it is sound.
 pub fn first_refusal_of(t: &FullTx, verdicts: &Listed) -> Option<Refusal>
-    ensures { MatchOption result (IsSoundTx t.now (verdicts_in verdicts.now.verdicts)) (λ r. IsFirstRefusal t.now (verdicts_in verdicts.now.verdicts) r) }
+    ensures { MatchOption result (IsSoundTx t.now (verdicts_in verdicts.now.verdicts))
+        (λ r. IsFirstRefusal t.now (verdicts_in verdicts.now.verdicts) r) }
 {
     check(t, &Hash([0; 32]), verdicts).err()
 }

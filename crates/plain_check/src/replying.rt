@@ -58,7 +58,8 @@ fn answer(
     part: &[Entry],
     out: &mut Vec<Answered>,
 ) -> Result<(), AllocError>
-    ensures { OnOk result (out.new.items ≡ out.old.items ++ answered past.now batch.now claimed.now part.now) }
+    ensures { OnOk result (out.new.items
+        ≡ out.old.items ++ answered past.now batch.now claimed.now part.now) }
 {
     let Some((e, rest)) = part.split_first() else {
         return Ok(());

@@ -23,7 +23,8 @@ fn sent_in<V: Verifier>(
     file: &[FullTx],
     lane: usize,
 ) -> Option<usize>
-    ensures { IfSome result (λ n. (sound : Full → Bool) → TellsSound (V.verdict_of verifier.now) sound → n ≡ length (sent_to shape.now sound file.now lane)) }
+    ensures { IfSome result (λ n. (sound : Full → Bool) → TellsSound (V.verdict_of verifier.now) sound
+        → n ≡ length (sent_to shape.now sound file.now lane)) }
 {
     let submitted = check_all(alloc, file, shape, verifier).ok()?;
     let list = submitted.lanes.get(lane)?;
@@ -38,7 +39,8 @@ fn sent_before<V: Verifier>(
     files: &[List<FullTx>],
     lane: usize,
 ) -> Option<usize>
-    ensures { IfSome result (λ n. (sound : Full → Bool) → TellsSound (V.verdict_of verifier.now) sound → n ≡ sent_before shape.now sound files.now lane) }
+    ensures { IfSome result (λ n. (sound : Full → Bool) → TellsSound (V.verdict_of verifier.now) sound
+        → n ≡ sent_before shape.now sound files.now lane) }
 {
     let Some((file, rest)) = files.split_first() else {
         return Some(0);
@@ -59,7 +61,8 @@ fn report_of<V: Verifier>(
     earlier: &[List<FullTx>],
     one: &Checked,
 ) -> Option<Report>
-    ensures { IfSome result (Fits shape.now (V.verdict_of verifier.now) (journals_in entry.now) (journals_in exit.now) earlier.now one.now) }
+    ensures { IfSome result (Fits shape.now
+        (V.verdict_of verifier.now) (journals_in entry.now) (journals_in exit.now) earlier.now one.now) }
 {
     match one.judgement {
         Judgement::Refused(why) => Some(Report::Refused(why)),
@@ -83,7 +86,8 @@ fn reports_in<V: Verifier>(
     earlier: &[List<FullTx>],
     checked: &[Checked],
 ) -> Option<List<Report>>
-    ensures { IfSome result (AllFit shape.now (V.verdict_of verifier.now) (journals_in entry.now) (journals_in exit.now) earlier.now checked.now) }
+    ensures { IfSome result (AllFit shape.now
+        (V.verdict_of verifier.now) (journals_in entry.now) (journals_in exit.now) earlier.now checked.now) }
 {
     let Some((one, rest)) = checked.split_first() else {
         return Some(List::new(alloc));
@@ -103,7 +107,8 @@ fn reports_of_file<V: Verifier>(
     earlier: &[List<FullTx>],
     file: &[FullTx],
 ) -> Option<List<Report>>
-    ensures { IfSome result (AreTold shape.now (V.verdict_of verifier.now) (journals_in entry.now) (journals_in exit.now) earlier.now file.now) }
+    ensures { IfSome result (AreTold shape.now
+        (V.verdict_of verifier.now) (journals_in entry.now) (journals_in exit.now) earlier.now file.now) }
 {
     let submitted = check_all(alloc, file, shape, verifier).ok()?;
     reports_in(
@@ -127,7 +132,8 @@ pub fn reports_of<V: Verifier>(
     exit: &[List<Record>],
     files: &[List<FullTx>],
 ) -> Option<List<List<Report>>>
-    ensures { IfSome result (AreAllTold shape.now (V.verdict_of verifier.now) (journals_in entry.now) (journals_in exit.now) files.now) }
+    ensures { IfSome result (AreAllTold shape.now
+        (V.verdict_of verifier.now) (journals_in entry.now) (journals_in exit.now) files.now) }
 {
     let mut all = Vec::new(alloc);
     'files: for (k, file) in files.iter().enumerate() {

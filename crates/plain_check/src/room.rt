@@ -197,7 +197,8 @@ fn kept_bytes(shape: &Shape, past: &[Record]) -> u64
 
 /// The bytes kept free for the unfinished batches of all lanes. None where they are 2^64 - 1 or more.
 pub fn kept_room(shape: &Shape, past: &[Record]) -> Option<u64>
-    ensures { MatchOption result (2 ^ 64 - 1 ≤ kept_room shape.now past.now) (λ n. n ≡ kept_room shape.now past.now) }
+    ensures { MatchOption result (2 ^ 64 - 1 ≤ kept_room shape.now past.now)
+        (λ n. n ≡ kept_room shape.now past.now) }
 {
     counted(kept_bytes(shape, past))
 }
@@ -226,7 +227,8 @@ fn need_bytes(shape: &Shape, past: &[Record], r: &Record) -> u64
 /// What a record needs: a Lock or a Prepare its own bytes, those of its batch's later records and those kept for other
 /// batches, every other record its own bytes. None where they are 2^64 - 1 or more.
 pub fn need_of(shape: &Shape, past: &[Record], r: &Record) -> Option<u64>
-    ensures { MatchOption result (2 ^ 64 - 1 ≤ need_of shape.now past.now r.now) (λ n. n ≡ need_of shape.now past.now r.now) }
+    ensures { MatchOption result (2 ^ 64 - 1 ≤ need_of shape.now past.now r.now)
+        (λ n. n ≡ need_of shape.now past.now r.now) }
 {
     counted(need_bytes(shape, past, r))
 }

@@ -25,7 +25,8 @@ fn put_report(
     id: &Hash,
     report: &Report,
 ) -> Result<(), WriteFault>
-    ensures { OnOk result (page.new.text.items ≡ page.old.text.items ++ report_line file place id.now report.now) }
+    ensures { OnOk result (page.new.text.items
+        ≡ page.old.text.items ++ report_line file place id.now report.now) }
 {
     match report {
         Report::Refused(why) => write_refused(page, file, place, id, why),
@@ -43,7 +44,8 @@ fn put_file(
     txs: &[FullTx],
     reports: &[Report],
 ) -> Result<(), WriteFault>
-    ensures { OnOk result (page.new.text.items ≡ page.old.text.items ++ file_lines file place txs.now reports.now) }
+    ensures { OnOk result (page.new.text.items
+        ≡ page.old.text.items ++ file_lines file place txs.now reports.now) }
 {
     match (txs.split_first(), reports.split_first()) {
         (Some((t, others)), Some((report, rest))) => {
@@ -62,7 +64,8 @@ fn put_files(
     files: &[List<FullTx>],
     all: &[List<Report>],
 ) -> Result<(), WriteFault>
-    ensures { OnOk result (page.new.text.items ≡ page.old.text.items ++ files_lines number files.now all.now) }
+    ensures { OnOk result (page.new.text.items
+        ≡ page.old.text.items ++ files_lines number files.now all.now) }
 {
     match (files.split_first(), all.split_first()) {
         (Some((file, others)), Some((reports, rest))) => {
@@ -76,7 +79,8 @@ fn put_files(
 
 // Puts the summary on a page.
 fn put_summary(page: &mut Page, s: &Summary) -> Result<(), WriteFault>
-    ensures { OnOk result (page.new.text.items ≡ page.old.text.items ++ summary_text s.now.resumed s.now.batches s.now.confirmed s.now.rejected s.now.refused s.now.unspent) }
+    ensures { OnOk result (page.new.text.items ≡ page.old.text.items ++ summary_text
+        s.now.resumed s.now.batches s.now.confirmed s.now.rejected s.now.refused s.now.unspent) }
 {
     write_summary(page, s)
 }
@@ -91,7 +95,8 @@ pub fn run_text<V: Verifier>(
     exit: &[List<Record>],
     files: &[List<FullTx>],
 ) -> Option<Vec<u8>>
-    ensures { IfSome result (λ v. IsRunLines shape.now (V.verdict_of verifier.now) files.now (journals_in entry.now) (journals_in exit.now) v.items) }
+    ensures { IfSome result (λ v. IsRunLines shape.now
+        (V.verdict_of verifier.now) files.now (journals_in entry.now) (journals_in exit.now) v.items) }
 {
     let all = reports_of(alloc, shape, verifier, entry, exit, files)?;
     let unspent = unspent_count(alloc, shape, exit).ok()?;

@@ -50,7 +50,8 @@ fn are_prepared_below(
     new: &[List<Record>],
     n: u32,
 ) -> Result<bool, AllocError>
-    ensures { IfOk result (λ yes. IsTrue yes ↔ ((lane : ℕ) → lane < n → PreparesInPieces shape.now lane (sent_in lists.now lane)
+    ensures { IfOk result (λ yes. IsTrue yes
+        ↔ ((lane : ℕ) → lane < n → PreparesInPieces shape.now lane (sent_in lists.now lane)
         (journals_in old.now (home_of shape.now lane)) (journals_in new.now (home_of shape.now lane)))) }
 {
     if n == 0 {
@@ -75,7 +76,8 @@ pub fn is_file_run(
     old: &[List<Record>],
     new: &[List<Record>],
 ) -> Result<bool, AllocError>
-    ensures { IfOk result (λ yes. IsTrue yes ↔ IsFileRun shape.now (sent_in lists.now) (journals_in old.now) (journals_in new.now)) }
+    ensures { IfOk result (λ yes. IsTrue yes
+        ↔ IsFileRun shape.now (sent_in lists.now) (journals_in old.now) (journals_in new.now)) }
 {
     if !adds(false, shape, old, new) || !are_idle(shape, new) {
         return Ok(false);
@@ -91,7 +93,8 @@ fn stage_runs(
     old: &[List<Record>],
     new: &[List<Record>],
 ) -> Result<bool, AllocError>
-    ensures { IfOk result (λ yes. IsTrue yes ↔ StageRuns shape.now stage.now (journals_in old.now) (journals_in new.now)) }
+    ensures { IfOk result (λ yes. IsTrue yes
+        ↔ StageRuns shape.now stage.now (journals_in old.now) (journals_in new.now)) }
 {
     match stage {
         Stage::Resume => Ok(is_resumed(shape, old, new)),
@@ -110,7 +113,8 @@ pub fn are_stages(
     new: &[List<Record>],
 ) -> Result<bool, AllocError>
     requires { worlds.now ≡ choices new.now }
-    ensures { IfOk result (λ yes. IsTrue yes ↔ RunsBy shape.now stages.now (journals_in old.now) (journals_in new.now)) }
+    ensures { IfOk result (λ yes. IsTrue yes
+        ↔ RunsBy shape.now stages.now (journals_in old.now) (journals_in new.now)) }
 {
     let Some((stage, rest)) = stages.split_first() else {
         return Ok(are_same(old, new));

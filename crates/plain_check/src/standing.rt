@@ -43,7 +43,8 @@ pub fn journals_of(
 
 /// Whether all rows are of nodes of this shape: no other node has a journal then.
 pub fn are_on_nodes(shape: &Shape, rows: &[Row]) -> bool
-    ensures { OnTrue result ((n : ℕ) → shape.now.coordinators + shape.now.shards ≤ n → journal n rows.now ≡ []) }
+    ensures { OnTrue result ((n : ℕ) → shape.now.coordinators + shape.now.shards ≤ n
+        → journal n rows.now ≡ []) }
 {
     match rows.split_first() {
         None => true,
@@ -60,7 +61,8 @@ pub fn is_caused_at(
     row: &Row,
 ) -> Result<bool, AllocError>
     requires { (n : ℕ) → shape.now.coordinators + shape.now.shards ≤ n → journal n past.now ≡ [] }
-    ensures { IfOk result (λ yes. IsTrue yes ↔ IsCaused shape.now (λ n. journal n past.now) row.now.node row.now.what) }
+    ensures { IfOk result (λ yes. IsTrue yes
+        ↔ IsCaused shape.now (λ n. journal n past.now) row.now.node row.now.what) }
 {
     let all = journals_of(alloc, shape, past)?;
     is_caused(alloc, all.as_slice(), shape, row.node, &row.what)

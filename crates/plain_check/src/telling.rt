@@ -28,7 +28,8 @@ fn value_out(outputs: &[Output]) -> Option<u64>
 
 // Puts the lines of a mint on a page.
 fn put_init(page: &mut Page, coins: u64, minted: u64, genesis: &Hash) -> Result<(), WriteFault>
-    ensures { OnOk result (page.new.text.items ≡ page.old.text.items ++ the_init_text coins minted genesis.now) }
+    ensures { OnOk result (page.new.text.items
+        ≡ page.old.text.items ++ the_init_text coins minted genesis.now) }
 {
     write_init(page, coins, minted, genesis)
 }
@@ -52,7 +53,8 @@ fn put_status(
     journals: &[List<Record>],
     hash: &Hash,
 ) -> Result<(), WriteFault>
-    ensures { OnOk result (page.new.text.items ≡ page.old.text.items ++ status_line hash.now (status_at shape.now (journals_in journals.now) hash.now)) }
+    ensures { OnOk result (page.new.text.items ≡ page.old.text.items
+        ++ status_line hash.now (status_at shape.now (journals_in journals.now) hash.now)) }
 {
     let own = journal_at(
         journals,
@@ -69,7 +71,8 @@ fn put_statuses(
     journals: &[List<Record>],
     hashes: &[Hash],
 ) -> Result<(), WriteFault>
-    ensures { OnOk result (page.new.text.items ≡ page.old.text.items ++ status_lines shape.now (journals_in journals.now) hashes.now) }
+    ensures { OnOk result (page.new.text.items
+        ≡ page.old.text.items ++ status_lines shape.now (journals_in journals.now) hashes.now) }
 {
     let Some((hash, rest)) = hashes.split_first() else {
         return Ok(());

@@ -21,7 +21,8 @@ fn begin(
     node: NodeId,
     r: &Record,
 ) -> Result<(), AllocError>
-    ensures ok { (hashes : Items Digest) → OnOk result (Step shape.now (mint_by genesis.now hashes) nodes.old (Begin node r.now) nodes.new) }
+    ensures ok { (hashes : Items Digest)
+        → OnOk result (Step shape.now (mint_by genesis.now hashes) nodes.old (Begin node r.now) nodes.new) }
     ensures err { OnErr result (nodes.new ≡ nodes.old) }
 {
     if !is_quiet(nodes, node) {
@@ -43,7 +44,8 @@ fn end(
     genesis: &Hash,
     node: NodeId,
 ) -> Result<(), AllocError>
-    ensures ok { (hashes : Items Digest) → OnOk result (Step shape.now (mint_by genesis.now hashes) nodes.old (End node) nodes.new) }
+    ensures ok { (hashes : Items Digest)
+        → OnOk result (Step shape.now (mint_by genesis.now hashes) nodes.old (End node) nodes.new) }
     ensures err { OnErr result (nodes.new ≡ nodes.old) }
 {
     if !is_up(nodes, node) || !is_writing(nodes, node) {
@@ -61,7 +63,8 @@ fn crash(
     node: NodeId,
     kept: bool,
 ) -> Result<(), AllocError>
-    ensures ok { (hashes : Items Digest) → OnOk result (Step shape.now (mint_by genesis.now hashes) nodes.old (Crash node kept) nodes.new) }
+    ensures ok { (hashes : Items Digest)
+        → OnOk result (Step shape.now (mint_by genesis.now hashes) nodes.old (Crash node kept) nodes.new) }
     ensures err { OnErr result (nodes.new ≡ nodes.old) }
 {
     if !is_up(nodes, node) {
@@ -76,7 +79,8 @@ fn crash(
 
 // The node is opened again.
 fn reopen(nodes: &mut [Node], shape: &Shape, genesis: &Hash, node: NodeId)
-    ensures { (hashes : Items Digest) → Step shape.now (mint_by genesis.now hashes) nodes.old (Reopen node) nodes.new }
+    ensures { (hashes : Items Digest)
+        → Step shape.now (mint_by genesis.now hashes) nodes.old (Reopen node) nodes.new }
 {
     if is_down(nodes, node) {
         set_up(nodes, node, None);
@@ -92,7 +96,8 @@ fn repeat(
     node: NodeId,
     call: &ShardCall,
 ) -> Result<(), AllocError>
-    ensures ok { (hashes : Items Digest) → OnOk result (Step shape.now (mint_by genesis.now hashes) nodes.old (Repeat node (call_in call.now)) nodes.new) }
+    ensures ok { (hashes : Items Digest) → OnOk result
+        (Step shape.now (mint_by genesis.now hashes) nodes.old (Repeat node (call_in call.now)) nodes.new) }
     ensures err { OnErr result (nodes.new ≡ nodes.old) }
 {
     if is_quiet(nodes, node) {
@@ -112,7 +117,8 @@ pub fn happen(
     genesis: &Hash,
     event: &Event,
 ) -> Result<(), AllocError>
-    ensures ok { (hashes : Items Digest) → OnOk result (Step shape.now (mint_by genesis.now hashes) nodes.old (event_in event.now) nodes.new) }
+    ensures ok { (hashes : Items Digest)
+        → OnOk result (Step shape.now (mint_by genesis.now hashes) nodes.old (event_in event.now) nodes.new) }
     ensures err { OnErr result (nodes.new ≡ nodes.old) }
 {
     match event {

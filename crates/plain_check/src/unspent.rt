@@ -74,7 +74,8 @@ fn add_below(
     out: &mut Vec<Hash>,
 ) -> Result<(), AllocError>
     requires { n ≤ shape.now.shards }
-    ensures { OnOk result (out.new.items ≡ out.old.items ++ named_below shape.now (journals_in journals.now) n) }
+    ensures { OnOk result (out.new.items
+        ≡ out.old.items ++ named_below shape.now (journals_in journals.now) n) }
 {
     if n == 0 {
         return Ok(());
@@ -90,7 +91,8 @@ fn add_unspent(
     xs: &[Hash],
     out: &mut Vec<Hash>,
 ) -> Result<(), AllocError>
-    ensures { OnOk result (out.new.items ≡ out.old.items ++ unspent_among shape.now (journals_in journals.now) xs.now) }
+    ensures { OnOk result (out.new.items
+        ≡ out.old.items ++ unspent_among shape.now (journals_in journals.now) xs.now) }
 {
     let Some((x, rest)) = xs.split_first() else {
         return Ok(());
@@ -107,7 +109,8 @@ pub fn unspent_of(
     journals: &[List<Record>],
     shape: &Shape,
 ) -> Result<List<Hash>, AllocError>
-    ensures all { IfOk result (λ l. (x : Digest) → (has l x ≡ true) ↔ IsUnspent shape.now (journals_in journals.now) x) }
+    ensures all { IfOk result (λ l. (x : Digest)
+        → (has l x ≡ true) ↔ IsUnspent shape.now (journals_in journals.now) x) }
     ensures once { IfOk result (λ l. IsDistinct same_digest l) }
 {
     let shards = shape.shards();

@@ -20,7 +20,8 @@ fn stage_of<V: Verifier>(
     verifier: &V,
     file: &[FullTx],
 ) -> Result<Stage, AllocError>
-    ensures { IfOk result (λ s. (sound : ModelTx → Bool) → TellsSound (V.verdict_of verifier.now) sound → IsFileStage shape.now sound file.now s) }
+    ensures { IfOk result (λ s. (sound : ModelTx → Bool) → TellsSound (V.verdict_of verifier.now) sound
+        → IsFileStage shape.now sound file.now s) }
 {
     let submitted = check_all(alloc, file, shape, verifier)?;
     Ok(Stage::File(submitted.lanes))
@@ -35,7 +36,8 @@ fn add_stages<V: Verifier>(
     files: &[List<FullTx>],
     out: &mut Vec<Stage>,
 ) -> Result<(), AllocError>
-    ensures { OnOk result (AddsStages shape.now (V.verdict_of verifier.now) files.now out.old.items out.new.items) }
+    ensures { OnOk result
+        (AddsStages shape.now (V.verdict_of verifier.now) files.now out.old.items out.new.items) }
 {
     let Some((file, rest)) = files.split_first() else {
         return Ok(());

@@ -83,7 +83,9 @@ impl World {
 
     /// The world after an event. An event that isn't allowed leaves it as it is, and so does running out of memory.
     pub fn step(&mut self, alloc: Global, event: &Event) -> Result<(), AllocError>
-        ensures ok { (hashes : Items Digest) → OnOk result (Step self.old.shape (mint_by self.old.genesis hashes) self.old.nodes.items (event_in event.now) self.new.nodes.items) }
+        ensures ok { (hashes : Items Digest)
+            → OnOk result (Step self.old.shape (mint_by self.old.genesis hashes) self.old.nodes.items
+            (event_in event.now) self.new.nodes.items) }
         ensures err { OnErr result (self.new.nodes.items ≡ self.old.nodes.items) }
         ensures mint { (self.new.shape ≡ self.old.shape) × (self.new.genesis ≡ self.old.genesis) }
     {
@@ -94,8 +96,12 @@ impl World {
 
     /// The world after events in turn. Where memory runs out it is the world after the first of them.
     pub fn run(&mut self, alloc: Global, events: &[Event]) -> Result<(), AllocError>
-        ensures ok { (hashes : Items Digest) → OnOk result (Run self.old.shape (mint_by self.old.genesis hashes) self.old.nodes.items (map event_in events.now) self.new.nodes.items) }
-        ensures err { (hashes : Items Digest) → OnErr result ((n : ℕ) × Run self.old.shape (mint_by self.old.genesis hashes) self.old.nodes.items (map event_in (take n events.now)) self.new.nodes.items) }
+        ensures ok { (hashes : Items Digest)
+            → OnOk result (Run self.old.shape (mint_by self.old.genesis hashes) self.old.nodes.items
+            (map event_in events.now) self.new.nodes.items) }
+        ensures err { (hashes : Items Digest) → OnErr result ((n : ℕ)
+            × Run self.old.shape (mint_by self.old.genesis hashes) self.old.nodes.items
+            (map event_in (take n events.now)) self.new.nodes.items) }
         ensures mint { (self.new.shape ≡ self.old.shape) × (self.new.genesis ≡ self.old.genesis) }
     {
         for event in events {

@@ -46,7 +46,8 @@ fn is_quiet(own: &Node) -> bool
 
 // Whether the lanes below n are idle at their coordinators.
 fn are_idle_below(world: &[Node], shape: &Shape, n: u32) -> bool
-    ensures { IsTrue result ↔ ((lane : ℕ) → lane < n → (slot (journals world.now (home_of shape.now lane)) lane).phase ≡ Idle) }
+    ensures { IsTrue result
+        ↔ ((lane : ℕ) → lane < n → (slot (journals world.now (home_of shape.now lane)) lane).phase ≡ Idle) }
 {
     if n == 0 {
         return true;
@@ -66,7 +67,8 @@ pub fn are_lanes_idle(world: &[Node], shape: &Shape) -> bool
 // Whether the nodes below n are up with nothing in flight.
 fn are_quiet_below(world: &[Node], n: usize) -> bool
     requires { n ≤ length world.now }
-    ensures { IsTrue result ↔ ((k : ℕ) → k < n → ((node_at world.now k).up ≡ true) × ((node_at world.now k).flight ≡ None)) }
+    ensures { IsTrue result
+        ↔ ((k : ℕ) → k < n → ((node_at world.now k).up ≡ true) × ((node_at world.now k).flight ≡ None)) }
 {
     if n == 0 {
         return true;

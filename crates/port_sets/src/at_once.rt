@@ -18,7 +18,8 @@ pub fn lock_at_once<W: Threads + Sync, P: ShardPort + Send, G: Gate + Sync>(
     ports: &mut [P],
 )
     requires asks { AsksLocks P.sight P.serves calls.now out.old ports.old }
-    ensures told { IsToldAtOnce (Locks P.sight P.serves P.alone P.at P.faults P.holds) calls.now out.old ports.old out.new ports.new }
+    ensures told { IsToldAtOnce
+        (Locks P.sight P.serves P.alone P.at P.faults P.holds) calls.now out.old ports.old out.new ports.new }
 {
     hold_places(out, calls.len());
     let lock = |port: &mut P, call: &LockCall| -> Result<Replied, NodeFault>
@@ -37,7 +38,8 @@ pub fn finish_at_once<W: Threads + Sync, P: ShardPort + Send, G: Gate + Sync>(
     ports: &mut [P],
 )
     requires asks { AsksFinishes P.sight P.serves calls.now out.old ports.old }
-    ensures told { IsToldAtOnce (Finishes P.sight P.serves P.alone P.at P.faults P.holds) calls.now out.old ports.old out.new ports.new }
+    ensures told { IsToldAtOnce (Finishes P.sight P.serves P.alone P.at P.faults P.holds)
+        calls.now out.old ports.old out.new ports.new }
 {
     hold_places(out, calls.len());
     let finish = |port: &mut P, call: &FinishCall| -> Result<Stamp, NodeFault>
@@ -56,7 +58,8 @@ pub fn forget_at_once<W: Threads + Sync, P: ShardPort + Send, G: Gate + Sync>(
     ports: &mut [P],
 )
     requires asks { AsksForgets P.sight P.serves calls.now out.old ports.old }
-    ensures told { IsToldAtOnce (Forgets P.sight P.serves P.alone P.at P.faults P.holds) calls.now out.old ports.old out.new ports.new }
+    ensures told { IsToldAtOnce (Forgets P.sight P.serves P.alone P.at P.faults P.holds)
+        calls.now out.old ports.old out.new ports.new }
 {
     hold_places(out, calls.len());
     let forget = |port: &mut P, call: &ForgetCall| -> Result<Stamp, NodeFault>
@@ -141,12 +144,16 @@ fn both_halves<R: Threads + Sync, P: Send, C: Sync, A: Send + Drop, F: Fn(&mut P
     ensures high { IsPhaseMade (Makes F.Fn f.now) at high.now high_ports.old high_ports.new high_answers.new }
 {
     let mut front = ||
-        requires { IsSync R.row × IsSync F.row × IsSync C.row × IsSend P.row × IsSend A.row × IsPhase (Accepts F.Fn f.now) first low.now low_ports.now low_answers.now }
-        ensures { IsPhaseMade (Makes F.Fn f.entry.now) first low.entry.now low_ports.entry.now low_ports.exit.now low_answers.exit.now }
+        requires { IsSync R.row × IsSync F.row × IsSync C.row × IsSend P.row
+            × IsSend A.row × IsPhase (Accepts F.Fn f.now) first low.now low_ports.now low_answers.now }
+        ensures { IsPhaseMade (Makes F.Fn f.entry.now)
+            first low.entry.now low_ports.entry.now low_ports.exit.now low_answers.exit.now }
     { at_each(rt, f, first, low, low_answers, low_ports) };
     let mut back = ||
-        requires { IsSync R.row × IsSync F.row × IsSync C.row × IsSend P.row × IsSend A.row × IsPhase (Accepts F.Fn f.now) at high.now high_ports.now high_answers.now }
-        ensures { IsPhaseMade (Makes F.Fn f.entry.now) at high.entry.now high_ports.entry.now high_ports.exit.now high_answers.exit.now }
+        requires { IsSync R.row × IsSync F.row × IsSync C.row × IsSend P.row
+            × IsSend A.row × IsPhase (Accepts F.Fn f.now) at high.now high_ports.now high_answers.now }
+        ensures { IsPhaseMade (Makes F.Fn f.entry.now)
+            at high.entry.now high_ports.entry.now high_ports.exit.now high_answers.exit.now }
     { at_each(rt, f, at, high, high_answers, high_ports) };
     join_mut(rt, &mut front, &mut back);
 }

@@ -49,7 +49,8 @@ fn prepare<D: Disk>(
     requires idle { (slot log.old.journal lane).phase ≡ Idle }
     requires size { HasSize log.old.header.shape txs.now }
     requires limits { All IsCompact txs.now }
-    ensures gives { NodeGives lane true (prepare_owed lane txs.now) (good_prepare lane txs.now) (log_sight log.old) (log_sight log.new) result }
+    ensures gives { NodeGives lane true (prepare_owed lane txs.now)
+        (good_prepare lane txs.now) (log_sight log.old) (log_sight log.new) result }
     ensures moves { Moves lane (log_sight log.old) (log_sight log.new) }
     ensures goes { IsNodeHeld D.Disk log.old → IsNodeHeld D.Disk log.new }
 {
@@ -79,7 +80,8 @@ fn discard<D: Disk>(log: &mut CoordLog<D>, lane: LaneId, cause: Stamp) -> Result
     requires home { IsLane log.old.header lane }
     requires phase { (slot log.old.journal lane).phase ≡ InCommit }
     requires cause { IsStamp cause }
-    ensures gives { NodeGives lane false (discard_owed lane cause) (good_discard lane) (log_sight log.old) (log_sight log.new) result }
+    ensures gives { NodeGives lane false
+        (discard_owed lane cause) (good_discard lane) (log_sight log.old) (log_sight log.new) result }
     ensures moves { Moves lane (log_sight log.old) (log_sight log.new) }
     ensures goes { IsNodeHeld D.Disk log.old → IsNodeHeld D.Disk log.new }
 {
@@ -91,7 +93,8 @@ fn done<D: Disk>(log: &mut CoordLog<D>, lane: LaneId, cause: Stamp) -> Result<St
     requires home { IsLane log.old.header lane }
     requires phase { (slot log.old.journal lane).phase ≡ InDiscard }
     requires cause { IsStamp cause }
-    ensures gives { NodeGives lane false (done_owed lane cause) (good_done lane) (log_sight log.old) (log_sight log.new) result }
+    ensures gives { NodeGives lane false
+        (done_owed lane cause) (good_done lane) (log_sight log.old) (log_sight log.new) result }
     ensures moves { Moves lane (log_sight log.old) (log_sight log.new) }
     ensures goes { IsNodeHeld D.Disk log.old → IsNodeHeld D.Disk log.new }
 {

@@ -34,7 +34,8 @@ pub enum ShardReply {
 // The three calls, as a lock asks of them.
 fn lock<S: Shard>(node: &mut S, call: &LockCall) -> Result<Replied, NodeFault>
     requires { IsLockCall (S.sight node.old).header call.now }
-    ensures gives { NodeGives call.now.batch.lane true (lock_owed call.now) good_reply (S.sight node.old) (S.sight node.new) result }
+    ensures gives { NodeGives call.now.batch.lane true
+        (lock_owed call.now) good_reply (S.sight node.old) (S.sight node.new) result }
     ensures moves { Moves call.now.batch.lane (S.sight node.old) (S.sight node.new) }
     ensures goes { S.goes node.old node.new }
 {
@@ -43,7 +44,8 @@ fn lock<S: Shard>(node: &mut S, call: &LockCall) -> Result<Replied, NodeFault>
 
 fn finish<S: Shard>(node: &mut S, call: &FinishCall) -> Result<Stamp, NodeFault>
     requires { IsFinishCall (S.sight node.old).header call.now }
-    ensures gives { NodeGives call.now.batch.lane false (finish_owed call.now) good_stamp (S.sight node.old) (S.sight node.new) result }
+    ensures gives { NodeGives call.now.batch.lane false
+        (finish_owed call.now) good_stamp (S.sight node.old) (S.sight node.new) result }
     ensures moves { Moves call.now.batch.lane (S.sight node.old) (S.sight node.new) }
     ensures goes { S.goes node.old node.new }
 {
@@ -52,7 +54,8 @@ fn finish<S: Shard>(node: &mut S, call: &FinishCall) -> Result<Stamp, NodeFault>
 
 fn forget<S: Shard>(node: &mut S, call: &ForgetCall) -> Result<Stamp, NodeFault>
     requires { IsForgetCall (S.sight node.old).header call.now }
-    ensures gives { NodeGives call.now.batch.lane false (forget_owed call.now) good_stamp (S.sight node.old) (S.sight node.new) result }
+    ensures gives { NodeGives call.now.batch.lane false
+        (forget_owed call.now) good_stamp (S.sight node.old) (S.sight node.new) result }
     ensures moves { Moves call.now.batch.lane (S.sight node.old) (S.sight node.new) }
     ensures goes { S.goes node.old node.new }
 {

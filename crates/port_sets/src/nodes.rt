@@ -47,19 +47,22 @@ pub trait Shard {
     /// Locks a part for a batch, answers as before, or refuses and changes nothing.
     fn lock(&mut self, call: &LockCall) -> Result<Replied, NodeFault>
         requires { IsLockCall (sight self.old).header call.now }
-        ensures gives { NodeGives call.now.batch.lane true (lock_owed call.now) good_reply (sight self.old) (sight self.new) result }
+        ensures gives { NodeGives call.now.batch.lane true
+            (lock_owed call.now) good_reply (sight self.old) (sight self.new) result }
         ensures goes { goes self.old self.new };
 
     /// Applies a locked batch, or answers as before. It wants neither room nor memory.
     fn finish(&mut self, call: &FinishCall) -> Result<Stamp, NodeFault>
         requires { IsFinishCall (sight self.old).header call.now }
-        ensures gives { NodeGives call.now.batch.lane false (finish_owed call.now) good_stamp (sight self.old) (sight self.new) result }
+        ensures gives { NodeGives call.now.batch.lane false
+            (finish_owed call.now) good_stamp (sight self.old) (sight self.new) result }
         ensures goes { goes self.old self.new };
 
     /// Forgets an applied batch, or answers as before. It wants neither room nor memory.
     fn forget(&mut self, call: &ForgetCall) -> Result<Stamp, NodeFault>
         requires { IsForgetCall (sight self.old).header call.now }
-        ensures gives { NodeGives call.now.batch.lane false (forget_owed call.now) good_stamp (sight self.old) (sight self.new) result }
+        ensures gives { NodeGives call.now.batch.lane false
+            (forget_owed call.now) good_stamp (sight self.old) (sight self.new) result }
         ensures goes { goes self.old self.new };
 
     /// Where nothing is asked of it, it stays.

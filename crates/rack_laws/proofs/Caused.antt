@@ -16,7 +16,7 @@ use Rattle.audit.proofs.Ordered.{ordered_rows}
 use Rattle.rack_ledgers.specs.Caused.{IsToldHistory, IsUnsound}
 use Rattle.rack_ledgers.proofs.CausedTold.{told_history}
 use Rattle.rack_ledgers.proofs.CausedOnce.{none_uncaused}
-use Rattle.rack_laws.specs.Shown.{node_count}
+use Rattle.cbdc_model.specs.Ranges.{node_count}
 use Rattle.rack_laws.specs.Ready.{ShowsKept}
 use Rattle.rack_laws.proofs.Openings.{opens_to}
 

@@ -16,7 +16,8 @@ use Rattle.run_laws.specs.Flights.{MayCome}
 use Rattle.run_laws.proofs.Flights.{flush_law}
 use Rattle.ledger_runs.specs.Flying.{AllMayCome}
 use Rattle.rack_ledgers.specs.Racked.{OfTold}
-use Rattle.rack_laws.specs.Shown.{node_count, AreImagesLeft, OpenTo}
+use Rattle.rack_laws.specs.Shown.{AreImagesLeft, OpenTo}
+use Rattle.cbdc_model.specs.Ranges.{node_count}
 
 bodies_more : (r : Record) (J : List Record) → bodies_of (reverse J) ++ body_of r ∷ [] ≡ bodies_of (reverse (r ∷ J))
 bodies_more r J = sym (ap (λ rs. map body_of rs) (reverse_onto J r []) ∙ map-append body_of (reverse J) (r ∷ []))

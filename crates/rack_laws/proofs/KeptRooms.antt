@@ -18,7 +18,7 @@ use Rattle.record_log.proofs.LogSizes.{rows_size}
 use Rattle.node_journal.proofs.Journals.{sum_reversed}
 use Rattle.rack_ledgers.proofs.Fronts.{Begins, Follow, journal_begins}
 use Rattle.rack_ledgers.specs.Refused.{IsNodeJournal}
-use Rattle.rack_laws.specs.Shown.{node_count}
+use Rattle.cbdc_model.specs.Ranges.{node_count}
 use Rattle.rack_laws.specs.Ready.{HasKeptRoom}
 
 module _ (K : Shape) (mint : List Output) (submissions : List FullTx) (E : ℕ → List Record) (capacity : ℕ → ℕ) (limits : IsWithinLimits K) (kept : KeptJournals K mint submissions E) where

@@ -6,7 +6,8 @@ use Rattle.cbdc_types.specs.declared.answer.Answer.{Answer}
 use Rattle.cbdc_types.specs.declared.answer.Answer.TheVariants as answers
 use Rattle.cbdc_model.specs.Records.{Shape}
 use Rattle.cbdc_model.specs.Coins.{Output}
-use Rattle.ledger_init.specs.Made.{node_count, IsUnmade}
+use Rattle.cbdc_model.specs.Ranges.{node_count}
+use Rattle.ledger_init.specs.Made.{IsUnmade}
 use Rattle.rack_laws.specs.Making.{CanMake}
 
 pub made : {D : Type 0} (device : Ghosts D) (held : ℕ → Option D) (before now : ℕ → ℕ) (K : Shape) (mint : List Output) (answer : Answer)

@@ -15,7 +15,8 @@ use Rattle.node_ports.specs.Nodes.{sight_at}
 use Rattle.rack_ledgers.proofs.Once.{opens_once_law}
 use Rattle.rack_ledgers.specs.Ledgers.{IsNodeAt, AreOpened}
 use Rattle.run_laws.specs.Runs.{seen_by}
-use Rattle.rack_laws.specs.Shown.{Shows, node_count}
+use Rattle.rack_laws.specs.Shown.{Shows}
+use Rattle.cbdc_model.specs.Ranges.{node_count}
 
 -- the item at a place
 pub at_place : {N : Type 0} (xs : List N) (n : ℕ) → n < length xs → (x : N) × (slice_get xs n ≡ Some x)

@@ -20,7 +20,7 @@ use Rattle.rack_ledgers.specs.Places.{IsOpening}
 use Rattle.rack_ledgers.specs.Racked.{OfTold}
 use Rattle.rack_ledgers.specs.Refused.{IsNodeJournal}
 use Rattle.rack_ledgers.specs.Ledgers.{IsNodeAt, IsNodeRefused, HasOtherMint, LacksLog, LacksShard, IsUnopenedBy}
-use Rattle.rack_laws.specs.Shown.{node_count}
+use Rattle.cbdc_model.specs.Ranges.{node_count}
 use Rattle.rack_laws.specs.Ready.{limit_at, ShowsKept, HasKeptRoom, NoneRises}
 use Rattle.rack_laws.specs.Openings.{NodeOpensLaw}
 

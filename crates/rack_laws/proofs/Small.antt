@@ -19,7 +19,7 @@ use Rattle.cbdc_model.specs.Waves.{IsCut, sent_to, share}
 use Rattle.cbdc_model.specs.World.{first_record}
 use Rattle.ledger_laws.proofs.FirstJournals.{first_is}
 use Rattle.input_files.specs.Contents.{all_txs}
-use Rattle.run_laws.specs.Ample.{Coming, Ample, AreCut, largest_answered, at_coordinator, at_shard, records_of, unwritten, still_to_come, bytes_at}
+use Rattle.run_laws.specs.Ample.{Coming, Ample, AreCut, largest_answered, at_coordinator, coming_at_shard, records_of, unwritten, still_to_come, bytes_at}
 use Rattle.run_laws.proofs.Sums.{Yes, No, same_nat, total, total_is, total-append, sum_below, sum_le, sum_add, sum_none, one_at, once_below, total_range}
 use Rattle.run_laws.proofs.Scales.{bytes}
 use Rattle.run_laws.proofs.Weights.{weight, weight-append, weight_flat, weight_range}
@@ -174,25 +174,25 @@ module _ (K : Shape) (lane : ℕ) (txs : List Compact) (few : AreFew txs) (some 
       (elsewhere n (home_of K lane) 7 (42 + 57 * length txs) third apart (elsewhere n (home_of K lane) 8 34 last apart (elsewhere n (home_of K lane) 9 34 [] apart refl)))
 
   -- at a shard
-  shard_none : (n node : ℕ) (es : List Entry) → node ≢ n → weight bytes n (at_shard node es) ≡ 0
+  shard_none : (n node : ℕ) (es : List Entry) → node ≢ n → weight bytes n (coming_at_shard node es) ≡ 0
   shard_none n node [] apart = refl
   shard_none n node (e ∷ es) apart =
       let last : List Coming = record { node = node; kind = 4; size = 34 } ∷ [] in
       let second : List Coming = record { node = node; kind = 3; size = 42 + length (e ∷ es) } ∷ (record { node = node; kind = 4; size = 34 } ∷ []) in
       elsewhere n node 2 (42 + sum_by largest_answered (e ∷ es)) second apart (elsewhere n node 3 (42 + length (e ∷ es)) last apart (elsewhere n node 4 34 [] apart refl))
 
-  shard_most : (n node s : ℕ) → weight bytes n (at_shard node (part K.shards s 0 txs)) ≤ 320 * length txs
+  shard_most : (n node s : ℕ) → weight bytes n (coming_at_shard node (part K.shards s 0 txs)) ≤ 320 * length txs
   shard_most n node s = go (part K.shards s 0 txs) (part_few K.shards s 0 txs few)
     where
-      go : (es : List Entry) → (length es ≤ length txs) × (total largest_answered es ≤ 201 * length es) → weight bytes n (at_shard node es) ≤ 320 * length txs
+      go : (es : List Entry) → (length es ≤ length txs) × (total largest_answered es ≤ 201 * length es) → weight bytes n (coming_at_shard node es) ≤ 320 * length txs
       go [] bound = omega arith
       go (e ∷ es) bound =
-          let all = weight_top n (at_shard node (e ∷ es)) in
+          let all = weight_top n (coming_at_shard node (e ∷ es)) in
           let is = total_is largest_answered (e ∷ es) in
           omega (arith, all, is, bound.0, bound.1)
 
   abbrev shards_of : List Coming
-  shards_of = flat_map (λ s. at_shard (shard_node K s) (part K.shards s 0 txs)) (range_with_len 0 K.shards)
+  shards_of = flat_map (λ s. coming_at_shard (shard_node K s) (part K.shards s 0 txs)) (range_with_len 0 K.shards)
 
   both : (n : ℕ) → weight bytes n (records_of K lane txs) ≡ weight bytes n (at_coordinator K lane txs) + weight bytes n shards_of
   both n = weight-append bytes n (at_coordinator K lane txs) shards_of
@@ -200,28 +200,28 @@ module _ (K : Shape) (lane : ℕ) (txs : List Compact) (few : AreFew txs) (some 
   -- all records of a batch at a coordinator, and at a shard
   at_home : (n : ℕ) → n < K.coordinators → weight bytes n (records_of K lane txs) ≤ 353 * length txs
   at_home n low =
-      let range : weight bytes n shards_of ≡ sum_below (λ s. weight bytes n (at_shard (shard_node K s) (part K.shards s 0 txs))) K.shards = weight_range bytes n (λ s. at_shard (shard_node K s) (part K.shards s 0 txs)) K.shards in
-      let none : sum_below (λ s. weight bytes n (at_shard (shard_node K s) (part K.shards s 0 txs))) K.shards ≡ 0 = sum_none (λ s. weight bytes n (at_shard (shard_node K s) (part K.shards s 0 txs))) K.shards (λ s lt. shard_none n (shard_node K s) (part K.shards s 0 txs) (λ h. omega (arith, h, low))) in
+      let range : weight bytes n shards_of ≡ sum_below (λ s. weight bytes n (coming_at_shard (shard_node K s) (part K.shards s 0 txs))) K.shards = weight_range bytes n (λ s. coming_at_shard (shard_node K s) (part K.shards s 0 txs)) K.shards in
+      let none : sum_below (λ s. weight bytes n (coming_at_shard (shard_node K s) (part K.shards s 0 txs))) K.shards ≡ 0 = sum_none (λ s. weight bytes n (coming_at_shard (shard_node K s) (part K.shards s 0 txs))) K.shards (λ s lt. shard_none n (shard_node K s) (part K.shards s 0 txs) (λ h. omega (arith, h, low))) in
       omega (arith, both n, range, none, home_most n)
 
   at_shards : (n : ℕ) → home_of K lane < K.coordinators → K.coordinators ≤ n → weight bytes n (records_of K lane txs) ≤ 320 * length txs
   at_shards n home high =
-      let range : weight bytes n shards_of ≡ sum_below (λ s. weight bytes n (at_shard (shard_node K s) (part K.shards s 0 txs))) K.shards = weight_range bytes n (λ s. at_shard (shard_node K s) (part K.shards s 0 txs)) K.shards in
-      let own : sum_below (λ s. weight bytes n (at_shard (shard_node K s) (part K.shards s 0 txs))) K.shards ≤ 320 * length txs = single (λ s. weight bytes n (at_shard (shard_node K s) (part K.shards s 0 txs))) (n - K.coordinators) K.shards (320 * length txs)
+      let range : weight bytes n shards_of ≡ sum_below (λ s. weight bytes n (coming_at_shard (shard_node K s) (part K.shards s 0 txs))) K.shards = weight_range bytes n (λ s. coming_at_shard (shard_node K s) (part K.shards s 0 txs)) K.shards in
+      let own : sum_below (λ s. weight bytes n (coming_at_shard (shard_node K s) (part K.shards s 0 txs))) K.shards ≤ 320 * length txs = single (λ s. weight bytes n (coming_at_shard (shard_node K s) (part K.shards s 0 txs))) (n - K.coordinators) K.shards (320 * length txs)
       (λ s apart. shard_none n (shard_node K s) (part K.shards s 0 txs) (λ h. apart (omega (arith, h)))) (shard_most n (shard_node K (n - K.coordinators)) (n - K.coordinators)) in
       let none = home_none n (λ h. omega (arith, h, home, high)) in
       omega (arith, both n, range, own, none)
 
   -- how many they are
-  shard_count : (node : ℕ) (es : List Entry) → length (at_shard node es) ≤ 3
+  shard_count : (node : ℕ) (es : List Entry) → length (coming_at_shard node es) ≤ 3
   shard_count node [] = omega arith
   shard_count node (e ∷ es) = omega arith
 
-  shards_count : (ss : List ℕ) → length (flat_map (λ s. at_shard (shard_node K s) (part K.shards s 0 txs)) ss) ≤ 3 * length ss
+  shards_count : (ss : List ℕ) → length (flat_map (λ s. coming_at_shard (shard_node K s) (part K.shards s 0 txs)) ss) ≤ 3 * length ss
   shards_count [] = omega arith
   shards_count (s ∷ ss) =
       let here = shard_count (shard_node K s) (part K.shards s 0 txs) in
-      let long = length-append (at_shard (shard_node K s) (part K.shards s 0 txs)) (flat_map (λ s. at_shard (shard_node K s) (part K.shards s 0 txs)) ss) in
+      let long = length-append (coming_at_shard (shard_node K s) (part K.shards s 0 txs)) (flat_map (λ s. coming_at_shard (shard_node K s) (part K.shards s 0 txs)) ss) in
       omega (arith, here, long, shards_count ss)
 
   records_count : K.shards ≤ 64 → length (records_of K lane txs) ≤ 196 * length txs

@@ -13,7 +13,7 @@ use Rattle.cbdc_model.specs.Book.{value}
 use Rattle.cbdc_model.specs.Clean.{IsProperCompact, value_out}
 use Rattle.cbdc_model.specs.Headline.{Headline}
 use Rattle.cbdc_model.specs.History.{minted, header_of, history_of, committed, IsOrdered, AreHandedIn}
-use Rattle.cbdc_model.specs.Ranges.{home_of}
+use Rattle.cbdc_model.specs.Ranges.{home_of, node_count}
 use Rattle.cbdc_model.specs.Slots.{slot}
 use Rattle.cbdc_model.specs.World.{KeptJournals, AreIdle}
 use Rattle.audit.proofs.Rows.{journal-append}
@@ -24,11 +24,10 @@ use Rattle.run_laws.proofs.Nodes.{after_in}
 use Rattle.rack_laws.proofs.Opened.{all_by}
 use Rattle.audit.specs.declared.verdict.Totals.{Totals}
 use Rattle.audit.specs.declared.verdict.Verdict.TheVariants.{Sound, Unsound}
-use Rattle.audit.specs.Walks.{AllCaused, AllDone, IsBatchDone, IsFirstUncaused}
+use Rattle.audit.specs.Walks.{AllCaused, AllDone, HasDoneRecord, IsFirstUncaused}
 use Rattle.audit.specs.Verdicts.{IsSoundHistory, IsVerdict, journals_of}
 use Rattle.audit.proofs.Ordered.{ordered_rows}
 use Rattle.audit.proofs.Single.{one_verdict}
-use Rattle.rack_laws.specs.Shown.{node_count}
 use Rattle.rack_laws.proofs.Caused.{steady_caused, steady_after, kept_beyond}
 
 caused_behind : (K : Shape) (newer past : List Row) → AllCaused K (newer ++ past) → AllCaused K past
@@ -82,7 +81,7 @@ module _ (K : Shape) (mint : List Output) (submissions : List FullTx) (X : ℕ �
         subst (λ J. is_some (record_of 9 J b) ≡ true) at
         (ok.idle_done b (subst (λ J. is_some (record_of 6 J b) ≡ true) (sym at) there) (ap (λ J. (slot J b.lane).phase) at ∙ idle b.lane lane))
 
-    row_done : (k : ℕ) (row : Row) → slice_get rows k ≡ Some row → IsBatchDone K (journals_of rows) row.what
+    row_done : (k : ℕ) (row : Row) → slice_get rows k ≡ Some row → HasDoneRecord K (journals_of rows) row.what
     row_done k row at =
         let (before, after, parts) = split rows k row at in
         let e : journal row.node (reverse rows) ≡ journal row.node (reverse after) ++ row.what ∷ journal row.node (reverse before) =
@@ -97,7 +96,7 @@ module _ (K : Shape) (mint : List Output) (submissions : List FullTx) (X : ℕ �
         cons_not [] older r e = cc
         cons_not (q ∷ newer) older r e = cc
 
-        by_kind : (n : ℕ) (r : Record) (newer older : List Record) → X n ≡ newer ++ r ∷ older → IsBatchDone K (journals_of rows) r
+        by_kind : (n : ℕ) (r : Record) (newer older : List Record) → X n ≡ newer ++ r ∷ older → HasDoneRecord K (journals_of rows) r
         by_kind n (Prepare stamp b txs) newer older e =
             let inside : n < node_count K = elim (cases_lt n (node_count K)) [
               | inl low ↦ low
@@ -115,7 +114,7 @@ module _ (K : Shape) (mint : List Output) (submissions : List FullTx) (X : ℕ �
 
     -- every batch that was prepared is done
     pub all_done : AllDone K (journals_of rows) rows
-    all_done = all_by (λ row. IsBatchDone K (journals_of rows) row.what) rows row_done
+    all_done = all_by (λ row. HasDoneRecord K (journals_of rows) row.what) rows row_done
 
     module _ (headline : Headline K mint submissions X) where
       same_history : history_of K mint headline.later ≡ reverse rows

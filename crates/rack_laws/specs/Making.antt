@@ -6,7 +6,8 @@ use Rattle.cbdc_model.specs.Coins.{Output}
 use Rattle.cbdc_model.specs.Clean.{value_out}
 use Rattle.cbdc_model.specs.Room.{size_of}
 use Rattle.rack_ledgers.specs.Blank.{IsUnused}
-use Rattle.ledger_init.specs.Made.{node_count, first_record_of}
+use Rattle.cbdc_model.specs.Ranges.{node_count}
+use Rattle.ledger_init.specs.Made.{first_record_of}
 
 -- each node's disk tells its content, by which it is not in use, and has room for the node's first record and a closing gate; and the mint's values fit
 pub record CanMake {D : Type 0} (device : Ghosts D) (held : ℕ → Option D) (K : Shape) (mint : List Output) : Type 0 where

@@ -9,7 +9,8 @@ use Rattle.cbdc_model.specs.Room.{kept_room}
 use Rattle.cbdc_model.specs.Due.{used_of}
 use Rattle.cbdc_model.specs.World.{KeptJournals}
 use Rattle.run_laws.specs.Ample.{Ample}
-use Rattle.rack_laws.specs.Shown.{node_count, Shows}
+use Rattle.rack_laws.specs.Shown.{Shows}
+use Rattle.cbdc_model.specs.Ranges.{node_count}
 
 -- how many bytes a disk that is told of may hold
 abbrev pub limit_at : {D : Type 0} → Ghosts D → Option D → ℕ

@@ -12,9 +12,7 @@ use Rattle.record_log.specs.Held.{OpensTo, OpensToEither}
 use Rattle.node_journal.specs.Nodes.{NodeOf}
 use Rattle.rack_ledgers.specs.Racked.{OfTold}
 use Rattle.rack_ledgers.specs.Refused.{IsNodeJournal}
-
-abbrev pub node_count : Shape → ℕ
-node_count K = K.coordinators + K.shards
+use Rattle.cbdc_model.specs.Ranges.{node_count}
 
 -- the rack tells each node's disk, and its content opens to this journal of the ledger
 abbrev pub Shows : {D : Type 0} → Ghosts D → (ℕ → Option D) → Shape → Digest → (ℕ → List Record) → Type 0
@@ -55,6 +53,3 @@ NodeHasRoom n = used_of n.journal + kept_room n.header.shape n.journal ≤ n.cap
 abbrev pub NodeFits : {D : Type 0} → NodeOf D → Type 0
 NodeFits n = IfSome n.flight (λ r. used_of n.journal + need_of n.header.shape n.journal r ≤ n.capacity)
 
--- each disk that is told has room for its node's journal, of these, and for what is kept for its open batches
-abbrev pub HaveRoom : {D : Type 0} → Ghosts D → (ℕ → Option D) → Shape → (ℕ → List Record) → Type 0
-HaveRoom device held K X = (n : ℕ) → n < node_count K → OfTold (held n) (λ d. used_of (X n) + kept_room K (X n) ≤ device.limit d)

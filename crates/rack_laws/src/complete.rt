@@ -23,16 +23,19 @@ pub fn node_opens_law()
 /// The nodes of a kept ledger that a rack showed open, where they have room and no count of theirs rises, unless memory runs out; and each
 /// of its records is caused.
 pub fn ledger_opens_law<R: Rack>(old: &R, new: &R)
-    ensures opens { (K : Shape) (mint : List Output) (submissions : List FullTx) (E : ℕ → List Record) (answer : Told)
-        → ShowsKept R.Disk.Disk (R.held old.now) K mint submissions E → HasKeptRoom K E (λ n. limit_at R.Disk.Disk (R.held old.now n))
+    ensures opens { (K : Shape) (mint : List Output) (submissions : List FullTx) (E : ℕ
+        → List Record) (answer : Told) → ShowsKept R.Disk.Disk (R.held old.now) K mint submissions E
+        → HasKeptRoom K E (λ n. limit_at R.Disk.Disk (R.held old.now n))
         → NoneRises K (R.count old.now) (R.count new.now)
-        → IsUnopened R.Disk.Disk (R.held old.now) (R.count old.now) (R.count new.now) answer → answer ≡ Memory }
-    ensures minted { (K : Shape) (mint : List Output) (submissions : List FullTx) (E : ℕ → List Record) (answer : Told)
-        → ShowsKept R.Disk.Disk (R.held old.now) K mint submissions E → HasKeptRoom K E (λ n. limit_at R.Disk.Disk (R.held old.now n))
-        → NoneRises K (R.count old.now) (R.count new.now)
-        → IsUnopenedBy R.Disk.Disk (R.held old.now) (R.count old.now) (R.count new.now) (Some (genesis_id mint)) answer → answer ≡ Memory }
-    ensures caused { (K : Shape) (mint : List Output) (submissions : List FullTx) (E : ℕ → List Record) (answer : Told)
-        → ShowsKept R.Disk.Disk (R.held old.now) K mint submissions E
+        → IsUnopened R.Disk.Disk (R.held old.now) (R.count old.now) (R.count new.now) answer
+        → answer ≡ Memory }
+    ensures minted { (K : Shape) (mint : List Output) (submissions : List FullTx) (E : ℕ
+        → List Record) (answer : Told) → ShowsKept R.Disk.Disk (R.held old.now) K mint submissions E
+        → HasKeptRoom K E (λ n. limit_at R.Disk.Disk (R.held old.now n))
+        → NoneRises K (R.count old.now) (R.count new.now) → IsUnopenedBy R.Disk.Disk (R.held old.now)
+        (R.count old.now) (R.count new.now) (Some (genesis_id mint)) answer → answer ≡ Memory }
+    ensures caused { (K : Shape) (mint : List Output) (submissions : List FullTx) (E : ℕ
+        → List Record) (answer : Told) → ShowsKept R.Disk.Disk (R.held old.now) K mint submissions E
         → IsUnsound R.Disk.Disk (R.held old.now) answer → ⊥ }
 {}
 

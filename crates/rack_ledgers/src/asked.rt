@@ -33,7 +33,8 @@ pub(crate) fn is_asked(kept: &Header, node: NodeId, ledger: Option<&Header>) -> 
 
 /// The answer where a node has another header than it should have.
 pub(crate) fn foreign(kept: &Header, node: NodeId, ledger: Option<&Header>) -> Answer
-    ensures { result ≡ Answer.Foreign node kept.now (header_asked node (option_copied ledger.entry) kept.now) }
+    ensures { result
+        ≡ Answer.Foreign node kept.now (header_asked node (option_copied ledger.entry) kept.now) }
 {
     Answer::Foreign {
         node,

@@ -41,12 +41,17 @@ fn take_disks<R: Rack, N: OnDisk<R::Disk>>(
     requires empty { room.items ≡ [] }
     requires waiting { (n : ℕ) → first ≤ n → n < first + count → R.can_take rack.old n }
     ensures some { length result.items ≤ count }
-    ensures taken { EachFrom (IsTakenSlot R.Disk.Disk (R.held rack.old) (R.count rack.old)) first result.items }
-    ensures failed { length result.items < count → Rose (R.count rack.old (first + length result.items)) (R.count rack.new (first + length result.items)) }
-    ensures others_held { (n : ℕ) → IsOutsideRange first (first + length result.items) n → R.held rack.new n ≡ R.held rack.old n }
+    ensures taken { EachFrom
+        (IsTakenSlot R.Disk.Disk (R.held rack.old) (R.count rack.old)) first result.items }
+    ensures failed { length result.items < count → Rose
+        (R.count rack.old (first + length result.items)) (R.count rack.new (first + length result.items)) }
+    ensures others_held { (n : ℕ) → IsOutsideRange first (first + length result.items) n
+        → R.held rack.new n ≡ R.held rack.old n }
     ensures out { EachFrom (MayPut R.Disk.Disk N.disk_of (R.can_put rack.new)) first result.items }
-    ensures others_in { (n : ℕ) → IsOutsideRange first (first + length result.items) n → R.can_take rack.old n → R.can_take rack.new n }
-    ensures others_out { (n k : ℕ) → IsOutsideRange first (first + count) n → R.can_put rack.old n k → R.can_put rack.new n k }
+    ensures others_in { (n : ℕ) → IsOutsideRange first (first + length result.items) n → R.can_take rack.old n
+        → R.can_take rack.new n }
+    ensures others_out { (n k : ℕ) → IsOutsideRange first (first + count) n → R.can_put rack.old n k
+        → R.can_put rack.new n k }
     ensures later { (n : ℕ) → R.count rack.old n ≤ R.count rack.new n }
 {
     let mut slots = room;
@@ -78,7 +83,9 @@ fn open_slots<W: Threads + Sync, D: Disk + Send, N: OnDisk<D> + Send>(
     slots: &mut [Slot<D, N>],
 )
     requires { All IsWaitingSlot slots.old }
-    ensures { (i : ℕ) (d : _) → i < length slots.old → SlotCameOf D.Disk N.disk_of N.opens N.fits N.refusals N.refused ledger.now (slice_index_or slots.old i d) (slice_index_or slots.new i d) }
+    ensures { (i : ℕ) (d : _) → i < length slots.old
+        → SlotCameOf D.Disk N.disk_of N.opens N.fits N.refusals N.refused ledger.now
+        (slice_index_or slots.old i d) (slice_index_or slots.new i d) }
 {
     let count = thread_count(rt, slots.len());
     thread::for_each_mut(
@@ -87,7 +94,8 @@ fn open_slots<W: Threads + Sync, D: Disk + Send, N: OnDisk<D> + Send>(
         count,
         &|_: usize, slot: &mut Slot<D, N>|
             requires { IsWaitingSlot slot.old }
-            ensures { SlotCameOf D.Disk N.disk_of N.opens N.fits N.refusals N.refused ledger.entry.now slot.old slot.new }
+            ensures { SlotCameOf
+                D.Disk N.disk_of N.opens N.fits N.refusals N.refused ledger.entry.now slot.old slot.new }
         { slot.open(alloc, ledger) },
     );
 }
@@ -101,7 +109,9 @@ fn open_list<W: Threads + Sync, D: Disk + Send, N: OnDisk<D> + Send>(
 ) -> Vec<Slot<D, N>>
     requires { All IsWaitingSlot slots.items }
     ensures same { length result.items ≡ length slots.items }
-    ensures came { (i : ℕ) (d : _) → i < length slots.items → SlotCameOf D.Disk N.disk_of N.opens N.fits N.refusals N.refused ledger.now (slice_index_or slots.items i d) (slice_index_or result.items i d) }
+    ensures came { (i : ℕ) (d : _) → i < length slots.items
+        → SlotCameOf D.Disk N.disk_of N.opens N.fits N.refusals N.refused ledger.now
+        (slice_index_or slots.items i d) (slice_index_or result.items i d) }
 {
     let mut slots = slots;
     open_slots(rt, alloc, ledger, slots.as_mut_slice());
@@ -125,12 +135,17 @@ where
     requires empty { room.items ≡ [] }
     requires waiting { (n : ℕ) → first ≤ n → n < first + count → R.can_take rack.old n }
     ensures some { length result.items ≤ count }
-    ensures came { EachFrom (CameAt R.Disk.Disk N.disk_of N.opens N.fits N.refusals N.refused ledger.now (R.held rack.old) (R.count rack.old)) first result.items }
-    ensures failed { length result.items < count → Rose (R.count rack.old (first + length result.items)) (R.count rack.new (first + length result.items)) }
-    ensures others_held { (n : ℕ) → IsOutsideRange first (first + length result.items) n → R.held rack.new n ≡ R.held rack.old n }
+    ensures came { EachFrom (CameAt R.Disk.Disk N.disk_of N.opens N.fits N.refusals N.refused ledger.now
+        (R.held rack.old) (R.count rack.old)) first result.items }
+    ensures failed { length result.items < count → Rose
+        (R.count rack.old (first + length result.items)) (R.count rack.new (first + length result.items)) }
+    ensures others_held { (n : ℕ) → IsOutsideRange first (first + length result.items) n
+        → R.held rack.new n ≡ R.held rack.old n }
     ensures out { EachFrom (MayPut R.Disk.Disk N.disk_of (R.can_put rack.new)) first result.items }
-    ensures others_in { (n : ℕ) → IsOutsideRange first (first + length result.items) n → R.can_take rack.old n → R.can_take rack.new n }
-    ensures others_out { (n k : ℕ) → IsOutsideRange first (first + count) n → R.can_put rack.old n k → R.can_put rack.new n k }
+    ensures others_in { (n : ℕ) → IsOutsideRange first (first + length result.items) n → R.can_take rack.old n
+        → R.can_take rack.new n }
+    ensures others_out { (n k : ℕ) → IsOutsideRange first (first + count) n → R.can_put rack.old n k
+        → R.can_put rack.new n k }
     ensures later { (n : ℕ) → R.count rack.old n ≤ R.count rack.new n }
 {
     let slots = take_disks(rack, first, count, room);
@@ -156,7 +171,8 @@ fn first_fault<D: Disk, N: OnDisk<D>>(
     slots: &[Slot<D, N>],
 ) -> Option<Answer>
     requires { first + count < 2 ^ 32 }
-    ensures { MatchOption result (AreNotRefused slots.now × (count ≤ length slots.now)) (IsFirstNodeFault first count slots.now) }
+    ensures { MatchOption result (AreNotRefused slots.now
+        × (count ≤ length slots.now)) (IsFirstNodeFault first count slots.now) }
 {
     match first_refusal(slots) {
         Some(fault) => Some(fault),
@@ -201,11 +217,15 @@ fn put_back<R: Rack, N: OnDisk<R::Disk>>(rack: &mut R, first: u32, slots: Vec<Sl
     requires few { first + length slots.items < 2 ^ 32 }
     requires out { EachFrom (MayPut R.Disk.Disk N.disk_of (R.can_put rack.old)) first slots.items }
     ensures closed { EachFrom (λ n s. OfTold (R.held rack.new n) (IsDiskIn N.disk_of s)) first slots.items }
-    ensures counted { EachFrom (λ n s. faults_in R.Disk.Disk N.disk_of s ≤ R.count rack.new n) first slots.items }
-    ensures others_held { (n : ℕ) → IsOutsideRange first (first + length slots.items) n → R.held rack.new n ≡ R.held rack.old n }
+    ensures counted { EachFrom
+        (λ n s. faults_in R.Disk.Disk N.disk_of s ≤ R.count rack.new n) first slots.items }
+    ensures others_held { (n : ℕ) → IsOutsideRange first (first + length slots.items) n
+        → R.held rack.new n ≡ R.held rack.old n }
     ensures back { (n : ℕ) → first ≤ n → n < first + length slots.items → R.can_take rack.new n }
-    ensures others_in { (n : ℕ) → IsOutsideRange first (first + length slots.items) n → R.can_take rack.old n → R.can_take rack.new n }
-    ensures others_out { (n k : ℕ) → IsOutsideRange first (first + length slots.items) n → R.can_put rack.old n k → R.can_put rack.new n k }
+    ensures others_in { (n : ℕ) → IsOutsideRange first (first + length slots.items) n → R.can_take rack.old n
+        → R.can_take rack.new n }
+    ensures others_out { (n k : ℕ) → IsOutsideRange first (first + length slots.items) n
+        → R.can_put rack.old n k → R.can_put rack.new n k }
     ensures later { (n : ℕ) → R.count rack.old n ≤ R.count rack.new n }
 {
     let mut slots = slots;
@@ -230,21 +250,23 @@ where
     requires few { first + count < 2 ^ 32 }
     requires some { 0 < count }
     requires waiting { (n : ℕ) → first ≤ n → n < first + count → R.can_take rack.old n }
-    ensures opened { IfOk result (λ v. IsListGrown
-        (λ n x. OpensAt R.Disk.Disk N.disk_of N.opens N.fits N.refusals N.refused ledger.now (R.held rack.old) (R.count rack.old) n x
-        × MayReturn (λ y. R.Disk.count (N.disk_of y)) (R.can_put rack.new) n x)
-        first count nodes.items v.items) }
+    ensures opened { IfOk result (λ v. IsListGrown (λ n x. OpensAt R.Disk.Disk N.disk_of
+        N.opens N.fits N.refusals N.refused ledger.now (R.held rack.old) (R.count rack.old) n x × MayReturn
+        (λ y. R.Disk.count (N.disk_of y)) (R.can_put rack.new) n x) first count nodes.items v.items) }
     ensures same { IfErr result (λ e. e.0.items ≡ nodes.items) }
     ensures refusal { IfErr result (λ e. FailsFirst
-        (OpensAt R.Disk.Disk N.disk_of N.opens N.fits N.refusals N.refused ledger.now (R.held rack.old) (R.count rack.old))
-        (FailsAt R.Disk.Disk N.disk_of N.opens N.fits N.refusals N.refused ledger.now (R.held rack.old) (R.count rack.old) (R.count rack.new))
-        first (first + count) e.1) }
-    ensures held { OnErr result ((n : ℕ) → first ≤ n → n < first + count
-        → IsDiskBack R.Disk.Disk (R.count rack.old n) (R.count rack.new n) (R.held rack.old n) (R.held rack.new n)) }
-    ensures others_held { (n : ℕ) → IsOutsideRange first (first + count) n → R.held rack.new n ≡ R.held rack.old n }
+        (OpensAt R.Disk.Disk N.disk_of N.opens N.fits N.refusals N.refused ledger.now (R.held rack.old)
+        (R.count rack.old)) (FailsAt R.Disk.Disk N.disk_of N.opens N.fits N.refusals N.refused ledger.now
+        (R.held rack.old) (R.count rack.old) (R.count rack.new)) first (first + count) e.1) }
+    ensures held { OnErr result ((n : ℕ) → first ≤ n → n < first + count → IsDiskBack R.Disk.Disk
+        (R.count rack.old n) (R.count rack.new n) (R.held rack.old n) (R.held rack.new n)) }
+    ensures others_held { (n : ℕ) → IsOutsideRange first (first + count) n
+        → R.held rack.new n ≡ R.held rack.old n }
     ensures back { OnErr result ((n : ℕ) → first ≤ n → n < first + count → R.can_take rack.new n) }
-    ensures others_in { (n : ℕ) → IsOutsideRange first (first + count) n → R.can_take rack.old n → R.can_take rack.new n }
-    ensures others_out { (n k : ℕ) → IsOutsideRange first (first + count) n → R.can_put rack.old n k → R.can_put rack.new n k }
+    ensures others_in { (n : ℕ) → IsOutsideRange first (first + count) n → R.can_take rack.old n
+        → R.can_take rack.new n }
+    ensures others_out { (n k : ℕ) → IsOutsideRange first (first + count) n → R.can_put rack.old n k
+        → R.can_put rack.new n k }
     ensures later { (n : ℕ) → R.count rack.old n ≤ R.count rack.new n }
 {
     let mut nodes = nodes;
@@ -277,7 +299,8 @@ where
     R::Disk: Send,
     requires few { first + count < 2 ^ 32 }
     requires some { length nodes.items ≤ count }
-    requires out { EachFrom (MayReturn (λ n. R.Disk.count (N.disk_of n)) (R.can_put rack.old)) first nodes.items }
+    requires out { EachFrom
+        (MayReturn (λ n. R.Disk.count (N.disk_of n)) (R.can_put rack.old)) first nodes.items }
     requires waiting { (n : ℕ) → first + length nodes.items ≤ n → n < first + count → R.can_take rack.old n }
     // Those that were open already come first, and each of the others is the node that was asked for and stands for what was told of its disk.
     ensures opened { IfOk result (λ v. ListGoesOn
@@ -286,23 +309,28 @@ where
         first nodes.items v.items) }
 
     // Why the first that can't be opened is not, and the disks are back.
-    ensures refusal { IfErr result (FailsFirst
-        (λ n x. (N.fits n (Some ledger.now) x × (R.count rack.old n ≤ R.Disk.count (N.disk_of x)))
-        × OfTold (R.held rack.old n) (λ was. IsNodeOpened R.Disk.Disk N.disk_of N.opens was x))
-        (λ n e. (N.refusals e × IsOpening n (R.count rack.old n) (R.count rack.new n) e)
-        × OfTold (R.held rack.old n) (λ was. Tells (R.Disk.content was) (λ c. N.refused n (Some ledger.now) (R.Disk.limit was) c e)))
+    ensures refusal { IfErr result
+        (FailsFirst (λ n x. (N.fits n (Some ledger.now) x × (R.count rack.old n ≤ R.Disk.count (N.disk_of x)))
+        × OfTold (R.held rack.old n) (λ was. IsNodeOpened R.Disk.Disk N.disk_of N.opens was x)) (λ n e.
+        (N.refusals e × IsOpening n (R.count rack.old n) (R.count rack.new n) e) × OfTold (R.held rack.old n)
+        (λ was. Tells (R.Disk.content was) (λ c. N.refused n (Some ledger.now) (R.Disk.limit was) c e)))
         (first + length nodes.items) (first + count)) }
-    ensures closed { OnErr result (EachFrom (λ n x. OfTold (R.held rack.new n) (λ now. now ≡ N.disk_of x)) first nodes.items) }
-    ensures held { OnErr result ((n : ℕ) → first + length nodes.items ≤ n → n < first + count
-        → IsDiskBack R.Disk.Disk (R.count rack.old n) (R.count rack.new n) (R.held rack.old n) (R.held rack.new n)) }
-    ensures others_held { (n : ℕ) → IsOutsideRange first (first + count) n → R.held rack.new n ≡ R.held rack.old n }
+    ensures closed { OnErr result
+        (EachFrom (λ n x. OfTold (R.held rack.new n) (λ now. now ≡ N.disk_of x)) first nodes.items) }
+    ensures held { OnErr result ((n : ℕ) → first + length nodes.items ≤ n → n < first + count → IsDiskBack
+        R.Disk.Disk (R.count rack.old n) (R.count rack.new n) (R.held rack.old n) (R.held rack.new n)) }
+    ensures others_held { (n : ℕ) → IsOutsideRange first (first + count) n
+        → R.held rack.new n ≡ R.held rack.old n }
 
     ensures all { IfOk result (λ v. length v.items ≡ count) }
-    ensures out { IfOk result (λ v. EachFrom (MayReturn (λ n. R.Disk.count (N.disk_of n)) (R.can_put rack.new)) first v.items) }
+    ensures out { IfOk result
+        (λ v. EachFrom (MayReturn (λ n. R.Disk.count (N.disk_of n)) (R.can_put rack.new)) first v.items) }
     ensures back { OnErr result ((n : ℕ) → first ≤ n → n < first + count → R.can_take rack.new n) }
     ensures fault { IfErr result (IsOpeningIn first (first + count) (R.count rack.old) (R.count rack.new)) }
-    ensures others_in { (n : ℕ) → IsOutsideRange first (first + count) n → R.can_take rack.old n → R.can_take rack.new n }
-    ensures others_out { (n k : ℕ) → IsOutsideRange first (first + count) n → R.can_put rack.old n k → R.can_put rack.new n k }
+    ensures others_in { (n : ℕ) → IsOutsideRange first (first + count) n → R.can_take rack.old n
+        → R.can_take rack.new n }
+    ensures others_out { (n k : ℕ) → IsOutsideRange first (first + count) n → R.can_put rack.old n k
+        → R.can_put rack.new n k }
     ensures later { (n : ℕ) → R.count rack.old n ≤ R.count rack.new n }
 {
     let from = nodes.len() as u32;

@@ -27,7 +27,8 @@ fn verdict_of<W: Threads + Sync, D: Disk>(
     requires few { length nodes.now.logs.items + length nodes.now.shards.items < 2 ^ 32 }
     requires logs { ByPlace (λ n l. IsJournal l.header l.journal) nodes.now.logs.items }
     requires shards { ByPlace (λ n s. IsJournal s.header s.journal) nodes.now.shards.items }
-    ensures { IfOk result (HasAuditVerdict nodes.now.header.shape (listed_journals nodes.now.logs.items nodes.now.shards.items) mint.now handed.now) }
+    ensures { IfOk result (HasAuditVerdict nodes.now.header.shape
+        (listed_journals nodes.now.logs.items nodes.now.shards.items) mint.now handed.now) }
 {
     let mut all = Vec::new(alloc);
     lend_logs(nodes.logs.as_slice(), &mut all)?;
@@ -66,18 +67,20 @@ where
 
     // Whatever the verdict, each disk had room for its journal of the history that was audited, and for what is kept for the batches open there, and it
     // still holds that journal.
-    ensures room { IfOk result (λ v. (was : IsAudited R.Disk.Disk (R.held rack.old) mint.now handed.now v) × HistoryHasRoom R.Disk.Disk (R.held rack.old) was.shape was.rows
-        × HistoryIsHeld R.Disk.Disk (R.held rack.old) (R.held rack.new) was.shape (mint_id mint.now) was.rows) }
+    ensures room { IfOk result (λ v. (was : IsAudited R.Disk.Disk (R.held rack.old) mint.now handed.now v)
+        × HistoryHasRoom R.Disk.Disk (R.held rack.old) was.shape was.rows × HistoryIsHeld R.Disk.Disk
+        (R.held rack.old) (R.held rack.new) was.shape (mint_id mint.now) was.rows) }
 
     // Where all is sound, no money was made, lost or spent twice, and the shards hold just what is left: the sentence.
     ensures sentence { IfOk result (Accounts R.Disk.Disk (R.held rack.old) mint.now handed.now) }
 
     // Why there is no verdict.
-    ensures refusal { IfErr result (λ a. IsUnopenedBy R.Disk.Disk (R.held rack.old) (R.count rack.old) (R.count rack.new) (Some (mint_id mint.now)) a
-        ⊎ (a ≡ Answer.Memory)) }
+    ensures refusal { IfErr result (λ a. IsUnopenedBy R.Disk.Disk (R.held rack.old)
+        (R.count rack.old) (R.count rack.new) (Some (mint_id mint.now)) a ⊎ (a ≡ Answer.Memory)) }
     ensures kind { IfErr result IsNodeRefusal }
     ensures unchanged { OnOk result (AreUnchanged R.Disk.Disk (R.held rack.old) (R.held rack.new)) }
-    ensures held { AreBack R.Disk.Disk (R.count rack.old) (R.count rack.new) (R.held rack.old) (R.held rack.new) }
+    ensures held { AreBack R.Disk.Disk
+        (R.count rack.old) (R.count rack.new) (R.held rack.old) (R.held rack.new) }
     ensures back { (n : ℕ) → R.can_take rack.new n }
     ensures later { (n : ℕ) → R.count rack.old n ≤ R.count rack.new n }
 {

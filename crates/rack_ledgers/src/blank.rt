@@ -32,7 +32,8 @@ fn is_blank(node: NodeId, records: usize) -> bool
 fn records_of(node: NodeId, refused: NoLog) -> Result<usize, Answer>
     ensures whole { IfOk result (λ n. (c : List ℕ) → IsNoLog c refused → AreWholeRecords n c) }
     ensures kept { IfOk result (λ _. refused ≢ NoLog.Fault NodeOpenFault.DiskFault) }
-    ensures fault { IfErr result (λ e. (before now : _) → (refused ≡ NoLog.Fault NodeOpenFault.DiskFault → Rose before now) → IsOpening node before now e) }
+    ensures fault { IfErr result (λ e. (before now : _)
+        → (refused ≡ NoLog.Fault NodeOpenFault.DiskFault → Rose before now) → IsOpening node before now e) }
     ensures free { IfErr result (λ e. (c : List ℕ) → IsNoBlank node c e) }
     ensures kind { IfErr result IsBlankRefusal }
 {
@@ -49,8 +50,10 @@ fn records_of(node: NodeId, refused: NoLog) -> Result<usize, Answer>
 
 // A disk with so many records as a blank one, where it is.
 fn blank_of<D: Disk>(node: NodeId, disk: D, records: usize) -> Result<Blank<D>, (D, Answer)>
-    ensures blank { MatchResult result (λ b. (b.disk ≡ disk) × (b.node ≡ node)) (λ e. (e.0 ≡ disk) × (e.1 ≡ Answer.NotEmpty node)) }
-    ensures unused { (c : List ℕ) → AreWholeRecords records c → MatchResult result (λ _. IsUnused node c) (λ _. IsInUse node c) }
+    ensures blank { MatchResult result (λ b. (b.disk ≡ disk)
+        × (b.node ≡ node)) (λ e. (e.0 ≡ disk) × (e.1 ≡ Answer.NotEmpty node)) }
+    ensures unused { (c : List ℕ) → AreWholeRecords records c
+        → MatchResult result (λ _. IsUnused node c) (λ _. IsInUse node c) }
 {
     if is_blank(node, records) {
         Ok(Blank { node, disk })

@@ -12,13 +12,18 @@ use outside::Rack;
 /// All these disks are back, each in its place, and each node's count is no less than its disk's; others untouched.
 pub fn close_all<R: Rack, N: OnDisk<R::Disk>>(rack: &mut R, first: u32, nodes: Vec<N>)
     requires few { first + length nodes.items < 2 ^ 32 }
-    requires out { EachFrom (MayReturn (λ n. R.Disk.count (N.disk_of n)) (R.can_put rack.old)) first nodes.items }
-    ensures closed { EachFrom (λ n x. OfTold (R.held rack.new n) (λ now. now ≡ N.disk_of x)) first nodes.items }
+    requires out { EachFrom
+        (MayReturn (λ n. R.Disk.count (N.disk_of n)) (R.can_put rack.old)) first nodes.items }
+    ensures closed { EachFrom
+        (λ n x. OfTold (R.held rack.new n) (λ now. now ≡ N.disk_of x)) first nodes.items }
     ensures counted { EachFrom (λ n x. R.Disk.count (N.disk_of x) ≤ R.count rack.new n) first nodes.items }
-    ensures others_held { (n : ℕ) → IsOutsideRange first (first + length nodes.items) n → R.held rack.new n ≡ R.held rack.old n }
+    ensures others_held { (n : ℕ) → IsOutsideRange first (first + length nodes.items) n
+        → R.held rack.new n ≡ R.held rack.old n }
     ensures back { (n : ℕ) → first ≤ n → n < first + length nodes.items → R.can_take rack.new n }
-    ensures others_in { (n : ℕ) → IsOutsideRange first (first + length nodes.items) n → R.can_take rack.old n → R.can_take rack.new n }
-    ensures others_out { (n k : ℕ) → IsOutsideRange first (first + length nodes.items) n → R.can_put rack.old n k → R.can_put rack.new n k }
+    ensures others_in { (n : ℕ) → IsOutsideRange first (first + length nodes.items) n → R.can_take rack.old n
+        → R.can_take rack.new n }
+    ensures others_out { (n k : ℕ) → IsOutsideRange first (first + length nodes.items) n
+        → R.can_put rack.old n k → R.can_put rack.new n k }
     ensures later { (n : ℕ) → R.count rack.old n ≤ R.count rack.new n }
 {
     let mut nodes = nodes;

@@ -38,13 +38,17 @@ fn append_body<D: Disk>(node: NodeId, journal: &mut Journal<D>, body: &[u8]) -> 
     requires empty { gate_of journal.old ≡ 0 }
     requires room { 10 + length body.now ≤ D.limit (disk_of journal.old) }
     ensures written { HoldsRows (D.content (disk_of journal.old)) (D.images (disk_of journal.old)) 0 []
-        → OnOk result (HoldsRows (D.content (disk_of journal.new)) (D.images (disk_of journal.new)) (9 + length body.now) (body.now ∷ [])) }
-    ensures fault { IfErr result (IsUnstored node (D.count (disk_of journal.old)) (D.count (disk_of journal.new))) }
-    ensures untouched { IfErr result (λ e. e ≢ Answer.DiskFault node → disk_of journal.new ≡ disk_of journal.old) }
+        → OnOk result (HoldsRows (D.content (disk_of journal.new))
+        (D.images (disk_of journal.new)) (9 + length body.now) (body.now ∷ [])) }
+    ensures fault { IfErr result
+        (IsUnstored node (D.count (disk_of journal.old)) (D.count (disk_of journal.new))) }
+    ensures untouched { IfErr result (λ e. e ≢ Answer.DiskFault node
+        → disk_of journal.new ≡ disk_of journal.old) }
     ensures later { D.count (disk_of journal.old) ≤ D.count (disk_of journal.new) }
     ensures limit { D.limit (disk_of journal.new) ≡ D.limit (disk_of journal.old) }
     ensures leaves { HoldsRows (D.content (disk_of journal.old)) (D.images (disk_of journal.old)) 0 []
-        → Leaves D.tells_past D.moment D.images_since D.images (disk_of journal.old) (disk_of journal.new) (OpensWithOrWithout [] body.now) }
+        → Leaves D.tells_past D.moment D.images_since D.images
+        (disk_of journal.old) (disk_of journal.new) (OpensWithOrWithout [] body.now) }
 {
     if body.len() > 1 << 40 {
         return Err(Answer::Memory);
@@ -66,13 +70,15 @@ fn append_first<D: Disk>(node: NodeId, journal: Journal<D>, body: &[u8]) -> Wrot
     requires empty { gate_of journal ≡ 0 }
     requires room { 10 + length body.now ≤ D.limit (disk_of journal) }
     ensures written { HoldsRows (D.content (disk_of journal)) (D.images (disk_of journal)) 0 []
-        → OnOk result.result (HoldsRows (D.content result.disk) (D.images result.disk) (9 + length body.now) (body.now ∷ [])) }
+        → OnOk result.result
+        (HoldsRows (D.content result.disk) (D.images result.disk) (9 + length body.now) (body.now ∷ [])) }
     ensures fault { IfErr result.result (IsUnstored node (D.count (disk_of journal)) (D.count result.disk)) }
     ensures untouched { IfErr result.result (λ e. e ≢ Answer.DiskFault node → result.disk ≡ disk_of journal) }
     ensures later { D.count (disk_of journal) ≤ D.count result.disk }
     ensures limit { D.limit result.disk ≡ D.limit (disk_of journal) }
     ensures leaves { HoldsRows (D.content (disk_of journal)) (D.images (disk_of journal)) 0 []
-        → Leaves D.tells_past D.moment D.images_since D.images (disk_of journal) result.disk (OpensWithOrWithout [] body.now) }
+        → Leaves D.tells_past D.moment D.images_since D.images
+        (disk_of journal) result.disk (OpensWithOrWithout [] body.now) }
 {
     let mut journal = journal;
     let result = append_body(node, &mut journal, body);
@@ -85,12 +91,16 @@ fn append_first<D: Disk>(node: NodeId, journal: Journal<D>, body: &[u8]) -> Wrot
 // Makes a disk that has room for a body a journal of that body alone.
 fn write_body<D: Disk>(alloc: Global, node: NodeId, disk: D, body: &[u8]) -> Wrote<D>
     requires { 10 + length body.now ≤ D.limit disk }
-    ensures written { Tells (D.content disk) (λ _. OnOk result.result (HoldsRows (D.content result.disk) (D.images result.disk) (9 + length body.now) (body.now ∷ []))) }
+    ensures written { Tells (D.content disk) (λ _. OnOk result.result
+        (HoldsRows (D.content result.disk) (D.images result.disk) (9 + length body.now) (body.now ∷ []))) }
     ensures fault { IfErr result.result (IsUnstored node (D.count disk) (D.count result.disk)) }
     ensures later { D.count disk ≤ D.count result.disk }
     ensures limit { D.limit result.disk ≡ D.limit disk }
-    ensures leaves { IsSome (D.content disk) → Leaves D.tells_past D.moment D.images_since D.images disk result.disk (IsFirstStored (D.images disk) body.now) }
-    ensures unwritten { IfErr result.result (λ e. e ≢ Answer.DiskFault node → IsSome (D.content disk) → (c : List ℕ) → D.images result.disk c → IsEmptied (D.images disk) c) }
+    ensures leaves { IsSome (D.content disk)
+        → Leaves D.tells_past D.moment D.images_since D.images disk result.disk
+        (IsFirstStored (D.images disk) body.now) }
+    ensures unwritten { IfErr result.result (λ e. e ≢ Answer.DiskFault node
+        → IsSome (D.content disk) → (c : List ℕ) → D.images result.disk c → IsEmptied (D.images disk) c) }
 {
     match Journal::format(alloc, disk) {
         Ok(journal) => append_first(node, journal, body),
@@ -109,7 +119,8 @@ fn write_body<D: Disk>(alloc: Global, node: NodeId, disk: D, body: &[u8]) -> Wro
 /// Makes a disk a journal and writes its first record. It is full where the record and the gates around it have no room.
 pub fn write_first<D: Disk>(alloc: Global, disk: D, first: &Record, header: &Header) -> Wrote<D>
     // The disk holds this record alone, and so does whatever a crash may leave of it.
-    ensures written { OnOk result.result (Tells (D.content disk) (λ _. HoldsRecords (D.content result.disk) (D.images result.disk) (9 + length (spelled first.now)) (first.now ∷ []))) }
+    ensures written { OnOk result.result (Tells (D.content disk) (λ _. HoldsRecords
+        (D.content result.disk) (D.images result.disk) (9 + length (spelled first.now)) (first.now ∷ []))) }
     ensures room { OnOk result.result (first_need first.now ≤ D.limit disk) }
 
     // Which refusal it is.
@@ -119,9 +130,11 @@ pub fn write_first<D: Disk>(alloc: Global, disk: D, first: &Record, header: &Hea
     ensures limit { D.limit result.disk ≡ D.limit disk }
 
     // A crash at any moment leaves no first record, what it might have left before, or this record alone: this only at Ok or where the disk failed.
-    ensures leaves { IsSome (D.content disk) → Leaves D.tells_past D.moment D.images_since D.images disk result.disk (IsBegun (D.images disk) first.now) }
-    ensures unwritten { IfErr result.result (λ e. e ≢ Answer.DiskFault header.now.node → IsSome (D.content disk)
-        → (c : List ℕ) → D.images result.disk c → IsEmptied (D.images disk) c) }
+    ensures leaves { IsSome (D.content disk)
+        → Leaves D.tells_past D.moment D.images_since D.images disk result.disk
+        (IsBegun (D.images disk) first.now) }
+    ensures unwritten { IfErr result.result (λ e. e ≢ Answer.DiskFault header.now.node
+        → IsSome (D.content disk) → (c : List ℕ) → D.images result.disk c → IsEmptied (D.images disk) c) }
 {
     let node = header.node;
     let Ok(body) = body_of(alloc, first, header) else {

@@ -22,14 +22,19 @@ pub struct Nodes<D: Disk> {
 pub fn close_nodes<R: Rack>(rack: &mut R, nodes: Nodes<R::Disk>)
     requires few { length nodes.logs.items + length nodes.shards.items < 2 ^ 32 }
     requires logs { EachFrom (MayReturn (λ x. R.Disk.count x.disk) (R.can_put rack.old)) 0 nodes.logs.items }
-    requires shards { EachFrom (MayReturn (λ x. R.Disk.count x.disk) (R.can_put rack.old)) (length nodes.logs.items) nodes.shards.items }
-    requires others { (n : ℕ) → length nodes.logs.items + length nodes.shards.items ≤ n → R.can_take rack.old n }
+    requires shards { EachFrom (MayReturn (λ x. R.Disk.count x.disk) (R.can_put rack.old))
+        (length nodes.logs.items) nodes.shards.items }
+    requires others { (n : ℕ) → length nodes.logs.items + length nodes.shards.items ≤ n
+        → R.can_take rack.old n }
     // What the rack then tells of each node is its disk.
     ensures closed_logs { ByPlace (λ n l. OfTold (R.held rack.new n) (λ now. now ≡ l.disk)) nodes.logs.items }
-    ensures closed_shards { ByPlace (λ s x. OfTold (R.held rack.new (length nodes.logs.items + s)) (λ now. now ≡ x.disk)) nodes.shards.items }
+    ensures closed_shards { ByPlace (λ s x.
+        OfTold (R.held rack.new (length nodes.logs.items + s)) (λ now. now ≡ x.disk)) nodes.shards.items }
     ensures counted_logs { ByPlace (λ n l. R.Disk.count l.disk ≤ R.count rack.new n) nodes.logs.items }
-    ensures counted_shards { ByPlace (λ s x. R.Disk.count x.disk ≤ R.count rack.new (length nodes.logs.items + s)) nodes.shards.items }
-    ensures others_held { (n : ℕ) → length nodes.logs.items + length nodes.shards.items ≤ n → R.held rack.new n ≡ R.held rack.old n }
+    ensures counted_shards { ByPlace
+        (λ s x. R.Disk.count x.disk ≤ R.count rack.new (length nodes.logs.items + s)) nodes.shards.items }
+    ensures others_held { (n : ℕ) → length nodes.logs.items + length nodes.shards.items ≤ n
+        → R.held rack.new n ≡ R.held rack.old n }
 
     ensures back { (n : ℕ) → R.can_take rack.new n }
     ensures later { (n : ℕ) → R.count rack.old n ≤ R.count rack.new n }

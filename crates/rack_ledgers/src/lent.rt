@@ -13,7 +13,8 @@ pub fn lend_logs<'a, D: Disk>(
     logs: &'a [CoordLog<D>],
     all: &mut Vec<&'a [Record]>,
 ) -> Result<(), AllocError>
-    ensures { IfOk result (λ u. read all.new.items ≡ read all.old.items ++ map (λ l. reverse l.journal) logs.entry.now) }
+    ensures { IfOk result
+        (λ u. read all.new.items ≡ read all.old.items ++ map (λ l. reverse l.journal) logs.entry.now) }
 {
     'logs: for log in logs {
         all.push(log.records())?;
@@ -26,7 +27,8 @@ pub fn lend_shards<'a, D: Disk>(
     shards: &'a [ShardNode<D>],
     all: &mut Vec<&'a [Record]>,
 ) -> Result<(), AllocError>
-    ensures { IfOk result (λ u. read all.new.items ≡ read all.old.items ++ map (λ s. reverse s.journal) shards.entry.now) }
+    ensures { IfOk result
+        (λ u. read all.new.items ≡ read all.old.items ++ map (λ s. reverse s.journal) shards.entry.now) }
 {
     'shards: for shard in shards {
         all.push(shard.records())?;

@@ -24,7 +24,8 @@ fn shard_instead<D: Disk>(
     ledger: Option<&Header>,
     disk: D,
 ) -> (D, Answer)
-    ensures refusal { Tells (D.content disk) (λ c. HasRow IsGenesis c → IsNoNode IsCoord node (option_copied ledger.entry) (D.limit disk) c result.1) }
+    ensures refusal { Tells (D.content disk) (λ c. HasRow IsGenesis c
+        → IsNoNode IsCoord node (option_copied ledger.entry) (D.limit disk) c result.1) }
     ensures kind { IsNodeRefusal result.1 }
     ensures fault { IsOpening node (D.count disk) (D.count result.0) result.1 }
     ensures later { D.count disk ≤ D.count result.0 }
@@ -48,7 +49,8 @@ fn coordinator_instead<D: Disk>(
     ledger: Option<&Header>,
     disk: D,
 ) -> (D, Answer)
-    ensures refusal { Tells (D.content disk) (λ c. HasRow IsStart c → IsNoNode IsShardHeader node (option_copied ledger.entry) (D.limit disk) c result.1) }
+    ensures refusal { Tells (D.content disk) (λ c. HasRow IsStart c
+        → IsNoNode IsShardHeader node (option_copied ledger.entry) (D.limit disk) c result.1) }
     ensures kind { IsNodeRefusal result.1 }
     ensures fault { IsOpening node (D.count disk) (D.count result.0) result.1 }
     ensures later { D.count disk ≤ D.count result.0 }

@@ -46,11 +46,14 @@ pub trait OnDisk<D: Disk>: Sized {
         ensures fits { IfOk result (fits node (option_copied ledger.entry)) }
 
         // Which refusal it is.
-        ensures refusal { IfErr result (λ e. Tells (D.content disk) (λ c. refused node (option_copied ledger.entry) (D.limit disk) c e.1)) }
+        ensures refusal { IfErr result (λ e.
+            Tells (D.content disk) (λ c. refused node (option_copied ledger.entry) (D.limit disk) c e.1)) }
         ensures kind { IfErr result (λ e. refusals e.1) }
         ensures fault { IfErr result (λ e. IsOpening node (D.count disk) (D.count e.0) e.1) }
-        ensures later { MatchResult result (λ n. D.count disk ≤ D.count (disk_of n)) (λ e. D.count disk ≤ D.count e.0) }
-        ensures limit { MatchResult result (λ n. D.limit (disk_of n) ≡ D.limit disk) (λ e. D.limit e.0 ≡ D.limit disk) }
+        ensures later { MatchResult result
+            (λ n. D.count disk ≤ D.count (disk_of n)) (λ e. D.count disk ≤ D.count e.0) }
+        ensures limit { MatchResult result
+            (λ n. D.limit (disk_of n) ≡ D.limit disk) (λ e. D.limit e.0 ≡ D.limit disk) }
 
         // Unless it failed, it reads as before, and it changes nothing that a crash may leave.
         ensures same { MatchResult result (λ n. D.content (disk_of n) ≡ D.content disk)

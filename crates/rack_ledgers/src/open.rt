@@ -20,15 +20,17 @@ pub fn open_one<R: Rack, N: OnDisk<R::Disk>>(
 ) -> Result<N, Answer>
     requires { R.can_take rack.old node }
     // It is the node that was asked for, and stands for what was told of its disk.
-    ensures opened { IfOk result (λ n. OfTold (R.held rack.old node) (λ was. IsNodeOpened R.Disk.Disk N.disk_of N.opens was n)) }
+    ensures opened { IfOk result
+        (λ n. OfTold (R.held rack.old node) (λ was. IsNodeOpened R.Disk.Disk N.disk_of N.opens was n)) }
     ensures fits { IfOk result (N.fits node (option_copied ledger.entry)) }
     ensures since { IfOk result (λ n. R.count rack.old node ≤ R.Disk.count (N.disk_of n)) }
 
     // Why it is not, and the disk is back.
-    ensures refusal { IfErr result (λ e. OfTold (R.held rack.old node) (λ was. Tells (R.Disk.content was) (λ c.
-        N.refused node (option_copied ledger.entry) (R.Disk.limit was) c e))) }
+    ensures refusal { IfErr result (λ e. OfTold (R.held rack.old node) (λ was. Tells (R.Disk.content was)
+        (λ c. N.refused node (option_copied ledger.entry) (R.Disk.limit was) c e))) }
     ensures kind { IfErr result N.refusals }
-    ensures held { OnErr result (IsDiskBack R.Disk.Disk (R.count rack.old node) (R.count rack.new node) (R.held rack.old node) (R.held rack.new node)) }
+    ensures held { OnErr result (IsDiskBack R.Disk.Disk
+        (R.count rack.old node) (R.count rack.new node) (R.held rack.old node) (R.held rack.new node)) }
     ensures others_held { (n : ℕ) → n ≢ node → R.held rack.new n ≡ R.held rack.old n }
 
     ensures out { IfOk result (λ n. MayReturn (λ n. R.Disk.count (N.disk_of n)) (R.can_put rack.new) node n) }
@@ -62,7 +64,8 @@ pub fn open_all<R: Rack, N: OnDisk<R::Disk>>(
 ) -> Result<Vec<N>, Answer>
     requires few { first + count < 2 ^ 32 }
     requires some { length nodes.items ≤ count }
-    requires out { EachFrom (MayReturn (λ n. R.Disk.count (N.disk_of n)) (R.can_put rack.old)) first nodes.items }
+    requires out { EachFrom
+        (MayReturn (λ n. R.Disk.count (N.disk_of n)) (R.can_put rack.old)) first nodes.items }
     requires waiting { (n : ℕ) → first + length nodes.items ≤ n → n < first + count → R.can_take rack.old n }
     // Those that were open already come first, and each of the others is the node that was asked for and stands for what was told of its disk.
     ensures opened { IfOk result (λ v. ListGoesOn
@@ -75,19 +78,24 @@ pub fn open_all<R: Rack, N: OnDisk<R::Disk>>(
         (λ n x. (N.fits n (option_copied ledger.entry) x × (R.count rack.old n ≤ R.Disk.count (N.disk_of x)))
         × OfTold (R.held rack.old n) (λ was. IsNodeOpened R.Disk.Disk N.disk_of N.opens was x))
         (λ n e. (N.refusals e × IsOpening n (R.count rack.old n) (R.count rack.new n) e)
-        × OfTold (R.held rack.old n) (λ was. Tells (R.Disk.content was) (λ c. N.refused n (option_copied ledger.entry) (R.Disk.limit was) c e)))
-        (first + length nodes.items) (first + count)) }
-    ensures closed { OnErr result (EachFrom (λ n x. OfTold (R.held rack.new n) (λ now. now ≡ N.disk_of x)) first nodes.items) }
-    ensures held { OnErr result ((n : ℕ) → first + length nodes.items ≤ n → n < first + count
-        → IsDiskBack R.Disk.Disk (R.count rack.old n) (R.count rack.new n) (R.held rack.old n) (R.held rack.new n)) }
-    ensures others_held { (n : ℕ) → IsOutsideRange first (first + count) n → R.held rack.new n ≡ R.held rack.old n }
+        × OfTold (R.held rack.old n) (λ was. Tells (R.Disk.content was) (λ c. N.refused n
+        (option_copied ledger.entry) (R.Disk.limit was) c e))) (first + length nodes.items) (first + count)) }
+    ensures closed { OnErr result
+        (EachFrom (λ n x. OfTold (R.held rack.new n) (λ now. now ≡ N.disk_of x)) first nodes.items) }
+    ensures held { OnErr result ((n : ℕ) → first + length nodes.items ≤ n → n < first + count → IsDiskBack
+        R.Disk.Disk (R.count rack.old n) (R.count rack.new n) (R.held rack.old n) (R.held rack.new n)) }
+    ensures others_held { (n : ℕ) → IsOutsideRange first (first + count) n
+        → R.held rack.new n ≡ R.held rack.old n }
 
     ensures all { IfOk result (λ v. length v.items ≡ count) }
-    ensures out { IfOk result (λ v. EachFrom (MayReturn (λ n. R.Disk.count (N.disk_of n)) (R.can_put rack.new)) first v.items) }
+    ensures out { IfOk result
+        (λ v. EachFrom (MayReturn (λ n. R.Disk.count (N.disk_of n)) (R.can_put rack.new)) first v.items) }
     ensures back { OnErr result ((n : ℕ) → first ≤ n → n < first + count → R.can_take rack.new n) }
     ensures fault { IfErr result (IsOpeningIn first (first + count) (R.count rack.old) (R.count rack.new)) }
-    ensures others_in { (n : ℕ) → IsOutsideRange first (first + count) n → R.can_take rack.old n → R.can_take rack.new n }
-    ensures others_out { (n k : ℕ) → IsOutsideRange first (first + count) n → R.can_put rack.old n k → R.can_put rack.new n k }
+    ensures others_in { (n : ℕ) → IsOutsideRange first (first + count) n → R.can_take rack.old n
+        → R.can_take rack.new n }
+    ensures others_out { (n k : ℕ) → IsOutsideRange first (first + count) n → R.can_put rack.old n k
+        → R.can_put rack.new n k }
     ensures later { (n : ℕ) → R.count rack.old n ≤ R.count rack.new n }
 {
     let mut nodes = nodes;

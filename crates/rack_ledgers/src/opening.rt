@@ -19,7 +19,8 @@ use std::thread::Threads;
 // What is answered where another mint than the one with this id began the ledger with this header.
 fn other_mint(kept: &Header, id: Option<&Hash>) -> Option<Answer>
     requires { kept.now.node ≡ 0 }
-    ensures { MatchOption result (IsMintOf (option_copied id.entry) kept.now) (IsOtherMint (option_copied id.entry) kept.now) }
+    ensures { MatchOption result
+        (IsMintOf (option_copied id.entry) kept.now) (IsOtherMint (option_copied id.entry) kept.now) }
 {
     let id = id?;
     if kept.genesis == *id {
@@ -43,12 +44,15 @@ fn open_lead<R: Rack>(
     id: Option<&Hash>,
 ) -> Result<CoordLog<R::Disk>, Answer>
     requires { R.can_take rack.old 0 }
-    ensures opened { IfOk result (λ l. (l.header.node ≡ 0) × IsNodeAt R.Disk.Disk (R.held rack.old) IsCoord l.header 0 l) }
+    ensures opened { IfOk result (λ l. (l.header.node ≡ 0)
+        × IsNodeAt R.Disk.Disk (R.held rack.old) IsCoord l.header 0 l) }
     ensures minted { IfOk result (λ l. IsMintOf (option_copied id.entry) l.header) }
     ensures since { IfOk result (λ l. R.count rack.old 0 ≤ R.Disk.count l.disk) }
-    ensures refusal { IfErr result (IsUnledBy R.Disk.Disk (R.held rack.old) (R.count rack.old) (R.count rack.new) (option_copied id.entry)) }
+    ensures refusal { IfErr result (IsUnledBy R.Disk.Disk
+        (R.held rack.old) (R.count rack.old) (R.count rack.new) (option_copied id.entry)) }
     ensures kind { IfErr result IsNodeRefusal }
-    ensures held { OnErr result (IsDiskBack R.Disk.Disk (R.count rack.old 0) (R.count rack.new 0) (R.held rack.old 0) (R.held rack.new 0)) }
+    ensures held { OnErr result (IsDiskBack R.Disk.Disk
+        (R.count rack.old 0) (R.count rack.new 0) (R.held rack.old 0) (R.held rack.new 0)) }
     ensures others_held { (n : ℕ) → n ≢ 0 → R.held rack.new n ≡ R.held rack.old n }
     ensures out { IfOk result (MayReturn (λ x. R.Disk.count x.disk) (R.can_put rack.new) 0) }
     ensures back { OnErr result (R.can_take rack.new 0) }
@@ -79,7 +83,8 @@ fn lead_alone<R: Rack>(
     ensures alone { IfOk result (λ v. v.items ≡ lead ∷ []) }
     ensures closed { OnErr result (OfTold (R.held rack.new 0) (λ now. now ≡ lead.disk)) }
     ensures others_held { (n : ℕ) → 1 ≤ n → R.held rack.new n ≡ R.held rack.old n }
-    ensures out { IfOk result (λ v. EachFrom (MayReturn (λ x. R.Disk.count x.disk) (R.can_put rack.new)) 0 v.items) }
+    ensures out { IfOk result
+        (λ v. EachFrom (MayReturn (λ x. R.Disk.count x.disk) (R.can_put rack.new)) 0 v.items) }
     ensures back { OnErr result (R.can_take rack.new 0) }
     ensures others_in { (n : ℕ) → 1 ≤ n → R.can_take rack.old n → R.can_take rack.new n }
     ensures later { (n : ℕ) → R.count rack.old n ≤ R.count rack.new n }
@@ -106,15 +111,20 @@ where
     R::Disk: Send,
     requires { (n : ℕ) → R.can_take rack.old n }
     ensures first { IfOk result (λ l. (l.0.node ≡ 0) × IsWithinLimits l.0.shape) }
-    ensures opened { IfOk result (λ l. ByPlace (IsNodeAt R.Disk.Disk (R.held rack.old) IsCoord l.0) l.1.items) }
+    ensures opened { IfOk result
+        (λ l. ByPlace (IsNodeAt R.Disk.Disk (R.held rack.old) IsCoord l.0) l.1.items) }
     ensures minted { IfOk result (λ l. IsMintOf (option_copied id.entry) l.0) }
     ensures since { IfOk result (λ l. ByPlace (λ n x. R.count rack.old n ≤ R.Disk.count x.disk) l.1.items) }
-    ensures refusal { IfErr result (IsUnledBy R.Disk.Disk (R.held rack.old) (R.count rack.old) (R.count rack.new) (option_copied id.entry)) }
+    ensures refusal { IfErr result (IsUnledBy R.Disk.Disk
+        (R.held rack.old) (R.count rack.old) (R.count rack.new) (option_copied id.entry)) }
     ensures kind { IfErr result IsNodeRefusal }
-    ensures held { OnErr result (AreBack R.Disk.Disk (R.count rack.old) (R.count rack.new) (R.held rack.old) (R.held rack.new)) }
-    ensures others_held { IfOk result (λ l. (n : ℕ) → l.0.shape.coordinators ≤ n → R.held rack.new n ≡ R.held rack.old n) }
+    ensures held { OnErr result
+        (AreBack R.Disk.Disk (R.count rack.old) (R.count rack.new) (R.held rack.old) (R.held rack.new)) }
+    ensures others_held { IfOk result (λ l. (n : ℕ) → l.0.shape.coordinators ≤ n
+        → R.held rack.new n ≡ R.held rack.old n) }
     ensures few { IfOk result (λ l. l.0.shape.coordinators + l.0.shape.shards < 2 ^ 32) }
-    ensures logs { IfOk result (λ l. (length l.1.items ≡ l.0.shape.coordinators) × EachFrom (MayReturn (λ x. R.Disk.count x.disk) (R.can_put rack.new)) 0 l.1.items) }
+    ensures logs { IfOk result (λ l. (length l.1.items ≡ l.0.shape.coordinators)
+        × EachFrom (MayReturn (λ x. R.Disk.count x.disk) (R.can_put rack.new)) 0 l.1.items) }
     ensures others_in { IfOk result (λ l. (n : ℕ) → l.0.shape.coordinators ≤ n → R.can_take rack.new n) }
     ensures back { OnErr result ((n : ℕ) → R.can_take rack.new n) }
     ensures later { (n : ℕ) → R.count rack.old n ≤ R.count rack.new n }
@@ -146,18 +156,27 @@ fn open_ledger<W: Threads + Sync, R: Rack>(
 where
     R::Disk: Send,
     requires { (n : ℕ) → R.can_take rack.old n }
-    ensures opened { IfOk result (λ l. AreOpened R.Disk.Disk (R.held rack.old) l.header l.logs.items l.shards.items) }
+    ensures opened { IfOk result
+        (λ l. AreOpened R.Disk.Disk (R.held rack.old) l.header l.logs.items l.shards.items) }
     ensures minted { IfOk result (λ l. IsMintOf (option_copied id.entry) l.header) }
-    ensures logs_since { IfOk result (λ l. ByPlace (λ n x. R.count rack.old n ≤ R.Disk.count x.disk) l.logs.items) }
-    ensures shards_since { IfOk result (λ l. ByPlace (λ s x. R.count rack.old (l.header.shape.coordinators + s) ≤ R.Disk.count x.disk) l.shards.items) }
-    ensures refusal { IfErr result (IsUnopenedBy R.Disk.Disk (R.held rack.old) (R.count rack.old) (R.count rack.new) (option_copied id.entry)) }
+    ensures logs_since { IfOk result
+        (λ l. ByPlace (λ n x. R.count rack.old n ≤ R.Disk.count x.disk) l.logs.items) }
+    ensures shards_since { IfOk result (λ l. ByPlace
+        (λ s x. R.count rack.old (l.header.shape.coordinators + s) ≤ R.Disk.count x.disk) l.shards.items) }
+    ensures refusal { IfErr result (IsUnopenedBy R.Disk.Disk
+        (R.held rack.old) (R.count rack.old) (R.count rack.new) (option_copied id.entry)) }
     ensures kind { IfErr result IsNodeRefusal }
-    ensures held { OnErr result (AreBack R.Disk.Disk (R.count rack.old) (R.count rack.new) (R.held rack.old) (R.held rack.new)) }
-    ensures others_held { IfOk result (λ l. (n : ℕ) → length l.logs.items + length l.shards.items ≤ n → R.held rack.new n ≡ R.held rack.old n) }
+    ensures held { OnErr result
+        (AreBack R.Disk.Disk (R.count rack.old) (R.count rack.new) (R.held rack.old) (R.held rack.new)) }
+    ensures others_held { IfOk result (λ l. (n : ℕ) → length l.logs.items + length l.shards.items ≤ n
+        → R.held rack.new n ≡ R.held rack.old n) }
     ensures few { IfOk result (λ l. length l.logs.items + length l.shards.items < 2 ^ 32) }
-    ensures logs { IfOk result (λ l. EachFrom (MayReturn (λ x. R.Disk.count x.disk) (R.can_put rack.new)) 0 l.logs.items) }
-    ensures shards { IfOk result (λ l. EachFrom (MayReturn (λ x. R.Disk.count x.disk) (R.can_put rack.new)) (length l.logs.items) l.shards.items) }
-    ensures others_in { IfOk result (λ l. (n : ℕ) → length l.logs.items + length l.shards.items ≤ n → R.can_take rack.new n) }
+    ensures logs { IfOk result
+        (λ l. EachFrom (MayReturn (λ x. R.Disk.count x.disk) (R.can_put rack.new)) 0 l.logs.items) }
+    ensures shards { IfOk result (λ l. EachFrom
+        (MayReturn (λ x. R.Disk.count x.disk) (R.can_put rack.new)) (length l.logs.items) l.shards.items) }
+    ensures others_in { IfOk result (λ l. (n : ℕ) → length l.logs.items + length l.shards.items ≤ n
+        → R.can_take rack.new n) }
     ensures back { OnErr result ((n : ℕ) → R.can_take rack.new n) }
     ensures later { (n : ℕ) → R.count rack.old n ≤ R.count rack.new n }
 {
@@ -193,22 +212,31 @@ where
     R::Disk: Send,
     requires { (n : ℕ) → R.can_take rack.old n }
     // They are all nodes of the ledger, and each stands for what was told of its disk.
-    ensures opened { IfOk result (λ l. AreOpened R.Disk.Disk (R.held rack.old) l.header l.logs.items l.shards.items) }
+    ensures opened { IfOk result
+        (λ l. AreOpened R.Disk.Disk (R.held rack.old) l.header l.logs.items l.shards.items) }
 
     // Its disk had not failed less often by then than before the call.
-    ensures logs_since { IfOk result (λ l. ByPlace (λ n x. R.count rack.old n ≤ R.Disk.count x.disk) l.logs.items) }
-    ensures shards_since { IfOk result (λ l. ByPlace (λ s x. R.count rack.old (l.header.shape.coordinators + s) ≤ R.Disk.count x.disk) l.shards.items) }
+    ensures logs_since { IfOk result
+        (λ l. ByPlace (λ n x. R.count rack.old n ≤ R.Disk.count x.disk) l.logs.items) }
+    ensures shards_since { IfOk result (λ l. ByPlace
+        (λ s x. R.count rack.old (l.header.shape.coordinators + s) ≤ R.Disk.count x.disk) l.shards.items) }
 
     // Why the first that can't be opened is not, and the disks are back.
-    ensures refusal { IfErr result (IsUnopened R.Disk.Disk (R.held rack.old) (R.count rack.old) (R.count rack.new)) }
+    ensures refusal { IfErr result
+        (IsUnopened R.Disk.Disk (R.held rack.old) (R.count rack.old) (R.count rack.new)) }
     ensures kind { IfErr result IsNodeRefusal }
-    ensures held { OnErr result (AreBack R.Disk.Disk (R.count rack.old) (R.count rack.new) (R.held rack.old) (R.held rack.new)) }
-    ensures others_held { IfOk result (λ l. (n : ℕ) → length l.logs.items + length l.shards.items ≤ n → R.held rack.new n ≡ R.held rack.old n) }
+    ensures held { OnErr result
+        (AreBack R.Disk.Disk (R.count rack.old) (R.count rack.new) (R.held rack.old) (R.held rack.new)) }
+    ensures others_held { IfOk result (λ l. (n : ℕ) → length l.logs.items + length l.shards.items ≤ n
+        → R.held rack.new n ≡ R.held rack.old n) }
 
     ensures few { IfOk result (λ l. length l.logs.items + length l.shards.items < 2 ^ 32) }
-    ensures logs { IfOk result (λ l. EachFrom (MayReturn (λ x. R.Disk.count x.disk) (R.can_put rack.new)) 0 l.logs.items) }
-    ensures shards { IfOk result (λ l. EachFrom (MayReturn (λ x. R.Disk.count x.disk) (R.can_put rack.new)) (length l.logs.items) l.shards.items) }
-    ensures others_in { IfOk result (λ l. (n : ℕ) → length l.logs.items + length l.shards.items ≤ n → R.can_take rack.new n) }
+    ensures logs { IfOk result
+        (λ l. EachFrom (MayReturn (λ x. R.Disk.count x.disk) (R.can_put rack.new)) 0 l.logs.items) }
+    ensures shards { IfOk result (λ l. EachFrom
+        (MayReturn (λ x. R.Disk.count x.disk) (R.can_put rack.new)) (length l.logs.items) l.shards.items) }
+    ensures others_in { IfOk result (λ l. (n : ℕ) → length l.logs.items + length l.shards.items ≤ n
+        → R.can_take rack.new n) }
     ensures back { OnErr result ((n : ℕ) → R.can_take rack.new n) }
     ensures later { (n : ℕ) → R.count rack.old n ≤ R.count rack.new n }
 {
@@ -230,18 +258,25 @@ where
     requires { (n : ℕ) → R.can_take rack.old n }
     // They are all nodes of the ledger, which this mint began, and each stands for what was told of its disk.
     ensures minted { IfOk result (λ l. l.header.genesis ≡ id.now) }
-    ensures opened { IfOk result (λ l. AreOpened R.Disk.Disk (R.held rack.old) l.header l.logs.items l.shards.items) }
+    ensures opened { IfOk result
+        (λ l. AreOpened R.Disk.Disk (R.held rack.old) l.header l.logs.items l.shards.items) }
 
     // Why the first that can't be opened is not, and the disks are back.
-    ensures refusal { IfErr result (IsUnopenedBy R.Disk.Disk (R.held rack.old) (R.count rack.old) (R.count rack.new) (Some id.now)) }
+    ensures refusal { IfErr result
+        (IsUnopenedBy R.Disk.Disk (R.held rack.old) (R.count rack.old) (R.count rack.new) (Some id.now)) }
     ensures kind { IfErr result IsNodeRefusal }
-    ensures held { OnErr result (AreBack R.Disk.Disk (R.count rack.old) (R.count rack.new) (R.held rack.old) (R.held rack.new)) }
-    ensures others_held { IfOk result (λ l. (n : ℕ) → length l.logs.items + length l.shards.items ≤ n → R.held rack.new n ≡ R.held rack.old n) }
+    ensures held { OnErr result
+        (AreBack R.Disk.Disk (R.count rack.old) (R.count rack.new) (R.held rack.old) (R.held rack.new)) }
+    ensures others_held { IfOk result (λ l. (n : ℕ) → length l.logs.items + length l.shards.items ≤ n
+        → R.held rack.new n ≡ R.held rack.old n) }
 
     ensures few { IfOk result (λ l. length l.logs.items + length l.shards.items < 2 ^ 32) }
-    ensures logs { IfOk result (λ l. EachFrom (MayReturn (λ x. R.Disk.count x.disk) (R.can_put rack.new)) 0 l.logs.items) }
-    ensures shards { IfOk result (λ l. EachFrom (MayReturn (λ x. R.Disk.count x.disk) (R.can_put rack.new)) (length l.logs.items) l.shards.items) }
-    ensures others_in { IfOk result (λ l. (n : ℕ) → length l.logs.items + length l.shards.items ≤ n → R.can_take rack.new n) }
+    ensures logs { IfOk result
+        (λ l. EachFrom (MayReturn (λ x. R.Disk.count x.disk) (R.can_put rack.new)) 0 l.logs.items) }
+    ensures shards { IfOk result (λ l. EachFrom
+        (MayReturn (λ x. R.Disk.count x.disk) (R.can_put rack.new)) (length l.logs.items) l.shards.items) }
+    ensures others_in { IfOk result (λ l. (n : ℕ) → length l.logs.items + length l.shards.items ≤ n
+        → R.can_take rack.new n) }
     ensures back { OnErr result ((n : ℕ) → R.can_take rack.new n) }
     ensures later { (n : ℕ) → R.count rack.old n ≤ R.count rack.new n }
 {

@@ -14,7 +14,8 @@ use outside::Rack;
 /// Where the disks tell a ledger each record of which is caused, with their contents, there is no first record that is not: so `run` and `recover`
 /// never answer Unsound of a rack over which they may come through.
 pub fn none_uncaused_law<R: Rack>(rack: &R)
-    ensures { (caused : IsCausedLedger R.Disk.Disk (R.held rack.now)) (answer : Told) → AllTell R.Disk.Disk (R.held rack.now) caused.shape
+    ensures { (caused : IsCausedLedger R.Disk.Disk (R.held rack.now)) (answer : Told)
+        → AllTell R.Disk.Disk (R.held rack.now) caused.shape
         → IsUnsound R.Disk.Disk (R.held rack.now) answer → ⊥ }
 {}
 
@@ -29,14 +30,17 @@ pub fn none_uncaused_law<R: Rack>(rack: &R)
 /// Damaged, Foreign or Full as it opens the nodes.
 pub fn none_refused_law<R: Rack>(rack: &R)
     // Where no mint is asked for.
-    ensures opened { (K : Shape) (genesis : Digest) (J : ℕ → List Record) (before now : ℕ → ℕ) (answer : Told) → TellLedger R.Disk.Disk (R.held rack.now) K genesis J
+    ensures opened { (K : Shape) (genesis : Digest) (J : ℕ → List Record) (before now : ℕ → ℕ) (answer : Told)
+        → TellLedger R.Disk.Disk (R.held rack.now) K genesis J
         → IsAnswerOfBytes answer → (IsOfRoom answer → AllHaveRoom R.Disk.Disk (R.held rack.now) K J)
         → IsUnopened R.Disk.Disk (R.held rack.now) before now answer → ⊥ }
     // Where the mint that is asked for began it.
-    ensures minted { (K : Shape) (genesis : Digest) (J : ℕ → List Record) (before now : ℕ → ℕ) (answer : Told) → TellLedger R.Disk.Disk (R.held rack.now) K genesis J
+    ensures minted { (K : Shape) (genesis : Digest) (J : ℕ → List Record) (before now : ℕ → ℕ) (answer : Told)
+        → TellLedger R.Disk.Disk (R.held rack.now) K genesis J
         → IsAnswerOfBytes answer → (IsOfRoom answer → AllHaveRoom R.Disk.Disk (R.held rack.now) K J)
         → IsUnopenedBy R.Disk.Disk (R.held rack.now) before now (Some genesis) answer → ⊥ }
     // Disks that are told, with their contents, tell the ledger to whose journals whatever is told of them opens.
-    ensures told { (K : Shape) (genesis : Digest) (J : ℕ → List Record) → IsWithinLimits K → EachOpens R.Disk.Disk (R.held rack.now) K genesis J → AllTell R.Disk.Disk (R.held rack.now) K
+    ensures told { (K : Shape) (genesis : Digest) (J : ℕ → List Record) → IsWithinLimits K
+        → EachOpens R.Disk.Disk (R.held rack.now) K genesis J → AllTell R.Disk.Disk (R.held rack.now) K
         → TellLedger R.Disk.Disk (R.held rack.now) K genesis J }
 {}

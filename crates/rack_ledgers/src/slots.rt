@@ -23,7 +23,8 @@ fn come_of<D: Disk, N: OnDisk<D>>(
     ledger: &Header,
     disk: D,
 ) -> Slot<D, N>
-    ensures { SlotCameOf D.Disk N.disk_of N.opens N.fits N.refusals N.refused ledger.now (Slot.Waiting node disk) result }
+    ensures { SlotCameOf D.Disk N.disk_of N.opens N.fits N.refusals N.refused ledger.now
+        (Slot.Waiting node disk) result }
 {
     match N::open_disk(alloc, node, Some(ledger), disk) {
         Ok(node) => Slot::Opened(node),
@@ -35,7 +36,8 @@ impl<D: Disk, N: OnDisk<D>> Slot<D, N> {
     /// Opens the disk that waits.
     pub(crate) fn open(&mut self, alloc: Global, ledger: &Header)
         requires { IsWaitingSlot self.old }
-        ensures { SlotCameOf D.Disk N.disk_of N.opens N.fits N.refusals N.refused ledger.now self.old self.new }
+        ensures { SlotCameOf
+            D.Disk N.disk_of N.opens N.fits N.refusals N.refused ledger.now self.old self.new }
     {
         let (node, disk) = match mem::replace(self, Slot::Gone) {
             Slot::Waiting(node, disk) => (node, disk),

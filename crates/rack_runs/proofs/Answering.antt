@@ -21,11 +21,13 @@ use Rattle.ledger_runs.specs.Turning.{IsLaneOf}
 use Rattle.ledger_runs.specs.Faults.{IsCauseOf, IsSomeCauseOf, IsRunCause, HaveFailed, MayHoldBytes, Nothing, RestsSince, AllRestSince}
 use Rattle.ledger_runs.specs.Least.{IsLeastOpen}
 use Rattle.file_runs.specs.Ledgers.{IsLedger, node_journals, flights_of, faults_of, opened_of, capacity_of, HaveCheckedJournals, AreStored, AreQuiet}
-use Rattle.rack_laws.specs.Shown.{OfShown, HoldsEach, HaveRoom, node_count}
+use Rattle.rack_laws.specs.Shown.{OfShown, HoldsEach}
+use Rattle.rack_ledgers.specs.RefusalLaws.{AllHaveRoom}
+use Rattle.cbdc_model.specs.Ranges.{node_count}
 use Rattle.rack_runs.proofs.Behind.{are_quiet, is_ledger, none_fly, keeps_flights, holds_each, rooms_each, told_stored, may_hold, have_risen}
 use Rattle.rack_runs.specs.Kinds.{answer_at, answer_to, IsLaneAnswer, MayComeNext}
 use Rattle.rack_runs.specs.Endings.{IsLeastAnswer}
-use Rattle.rack_runs.specs.Runs.{IsCutShort, KeepsFlights, IsLaneFault, MayHold, RoseAt, TookLedger}
+use Rattle.rack_runs.specs.Runs.{IsCutShort, KeepsFlights, IsLaneFault, DiskMayHold, RoseAt, TookLedger}
 use Rattle.rack_runs.specs.Works.{Deed, FitsBatch, BeginsWork, EndsWork, LeavesAll, AllBadly, AreSeen, work_turns}
 use Rattle.rack_runs.proofs.Checking.{same_journals}
 use Rattle.rack_runs.proofs.Wanted.{wanted_inside, wants_there, stays_caused}
@@ -169,11 +171,11 @@ module _ {D : Type 0} (device : Ghosts D) (held back : ℕ → Option D) (h g : 
   may n c inside is_so = may_hold device held h logs shards are n c inside is_so
 
   -- what the disks that are back have room for
-  rooms_back : HaveRoom device back h.shape (node_journals h.shape now after)
-  rooms_back = subst (λ k. HaveRoom device back k (node_journals k now after)) shape (rooms_each device back g now after is logs_back shards_back seen)
+  rooms_back : AllHaveRoom device back h.shape (node_journals h.shape now after)
+  rooms_back = subst (λ k. AllHaveRoom device back k (node_journals k now after)) shape (rooms_each device back g now after is logs_back shards_back seen)
 
   -- what was taken, and how it was left
-  pub took : HaveRoom device held h.shape (node_journals h.shape logs shards) → ((n : ℕ) → n < node_count h.shape → SameRoom device (held n) (back n)) → ((n : ℕ) → node_count h.shape ≤ n → back n ≡ held n)
+  pub took : AllHaveRoom device held h.shape (node_journals h.shape logs shards) → ((n : ℕ) → n < node_count h.shape → SameRoom device (held n) (back n)) → ((n : ℕ) → node_count h.shape ≤ n → back n ≡ held n)
       → ((n : ℕ) → IsEnd (node_journals h.shape logs shards n) (node_journals h.shape now after n)) → HaveCheckedJournals h.shape now after → AreQuiet now after → TookLedger device held back
   took room same_room spared grows checked quiet = record {
     ledger = record {
@@ -183,7 +185,7 @@ module _ {D : Type 0} (device : Ghosts D) (held back : ℕ → Option D) (h g : 
       history = told_history device held h logs shards are caused.rows caused.merged;
       caused = caused.caused;
     };
-    room = subst (λ L. HaveRoom device held h.shape L) entry room;
+    room = subst (λ L. AllHaveRoom device held h.shape L) entry room;
     exit = node_journals h.shape now after;
     grows = subst (λ L. (n : ℕ) → IsEnd (L n) (node_journals h.shape now after n)) entry grows;
     caused = stays_caused device h g logs now shards after (is_ledger device held h logs shards are) is shape checked grows;
@@ -206,7 +208,7 @@ module _ {D : Type 0} (device : Ghosts D) (held back : ℕ → Option D) (h g : 
       (HaveFailed (opened_of h.shape logs shards) (faults_of h.shape now after)) (MayHoldBytes (capacity_of h.shape logs shards)) a
       → IsLeastAnswer (EndsWork d h.shape (node_journals h.shape logs shards) (node_journals h.shape now after)
       (HaveFailed (opened_of h.shape logs shards) (faults_of h.shape now after)) (MayHoldBytes (capacity_of h.shape logs shards))) a
-      → HaveRoom device held h.shape (node_journals h.shape logs shards) → ((n : ℕ) → n < node_count h.shape → SameRoom device (held n) (back n)) → HaveCheckedJournals h.shape now after
+      → AllHaveRoom device held h.shape (node_journals h.shape logs shards) → ((n : ℕ) → n < node_count h.shape → SameRoom device (held n) (back n)) → HaveCheckedJournals h.shape now after
       → OfShown device held (IsCutShort device back d.handed (node_journals h.shape now after)) → ((n : ℕ) → node_count h.shape ≤ n → back n ≡ held n)
       → IsLaneFault device (record { held = held; faults = before }) (record { held = back; faults = behind }) (work_turns d) a
   lane_fault d fits leaves flown a cause least room same_room checked kept spared =
@@ -240,7 +242,7 @@ module _ {D : Type 0} (device : Ghosts D) (held back : ℕ → Option D) (h g : 
             (wants_there device h g logs now shards after (is_ledger device held h logs shards are) is shape checked (d.next K E X) fits);
         least = subst (λ L. IsLeastAnswer (EndsWork d K L X Rises Holds) a) entry (least_by K failed Rises holds Holds risen may d E X a least);
         rests = subst (λ L. AllRestSince K L X Rises) entry (rest_by K failed Rises holds Holds risen may E X leaves.rests);
-        room = subst (λ L. HaveRoom device held K L) entry room;
+        room = subst (λ L. AllHaveRoom device held K L) entry room;
         same_room = same_room;
         rooms = rooms_back;
         kept = kept;
@@ -279,8 +281,8 @@ fault_as device before after next ends others begun starts handed ends_as begun_
     }
   where
     Whose : (Shape → (ℕ → List Record) → (ℕ → List Record) → (ℕ → Type 0) → (ℕ → ℕ → Type 0) → LaneFault → Type 0) → Type 0
-    Whose which = IsLeastAnswer (which f.ledger.shape (λ n. journal n (reverse f.ledger.rows)) f.exit (RoseAt before after) (MayHold device before)) a
+    Whose which = IsLeastAnswer (which f.ledger.shape (λ n. journal n (reverse f.ledger.rows)) f.exit (RoseAt before after) (DiskMayHold device before)) a
 
     go : Whose ends → Whose others
     go (inl memory) = inl memory
-    go (inr (e, is, so)) = inr (e, is, ends_as f.ledger.shape (λ n. journal n (reverse f.ledger.rows)) f.exit (RoseAt before after) (MayHold device before) e so)
+    go (inr (e, is, so)) = inr (e, is, ends_as f.ledger.shape (λ n. journal n (reverse f.ledger.rows)) f.exit (RoseAt before after) (DiskMayHold device before) e so)

@@ -17,7 +17,9 @@ use Rattle.node_ports.specs.Nodes.{sight_at}
 use Rattle.rack_ledgers.specs.Places.{EachFrom, MayReturn}
 use Rattle.rack_ledgers.specs.Racked.{OfTold, SameRoom}
 use Rattle.rack_ledgers.specs.Ledgers.{ByPlace, AreOpened}
-use Rattle.rack_laws.specs.Shown.{KeepsEach, HoldsEach, HaveRoom, node_count}
+use Rattle.rack_laws.specs.Shown.{KeepsEach, HoldsEach}
+use Rattle.rack_ledgers.specs.RefusalLaws.{AllHaveRoom}
+use Rattle.cbdc_model.specs.Ranges.{node_count}
 use Rattle.rack_laws.proofs.Opened.{at_place, sight_there, all_by}
 use Rattle.rack_runs.specs.Works.{IsSeen, AreSeen}
 use Rattle.file_runs.specs.Ledgers.{IsLedger, node_journals, flights_of, faults_of, opened_of, capacity_of, AreStored, AreQuiet}
@@ -229,7 +231,7 @@ module _ {D : Type 0} (device : Ghosts D) where
           })
 
       -- disks that are back have room for what is kept for their open batches
-      pub rooms_each : HaveRoom device held h.shape (node_journals h.shape logs shards)
+      pub rooms_each : AllHaveRoom device held h.shape (node_journals h.shape logs shards)
       rooms_each n inside d told =
           let x = seen_back n inside in
           let s = x.1.has.0 in

@@ -17,7 +17,8 @@ use Rattle.rack_ledgers.specs.Caused.{listed_journals as lent_journals, AreCause
 use Rattle.ledger_runs.specs.Faults.{HaveFailed, MayHoldBytes}
 use Rattle.file_runs.specs.Ledgers.{LedgerOf, IsLedger, node_journals, flights_of, faults_of, opened_of, capacity_of, HaveCheckedJournals, AreStored, AreQuiet}
 use Rattle.file_runs.proofs.Whole.{when_whole, of_whole}
-use Rattle.rack_laws.specs.Shown.{HaveRoom, node_count}
+use Rattle.rack_ledgers.specs.RefusalLaws.{AllHaveRoom}
+use Rattle.cbdc_model.specs.Ranges.{node_count}
 use Rattle.rack_runs.specs.Kinds.{answer_to}
 use Rattle.rack_runs.specs.Telling.{CountAll}
 use Rattle.rack_runs.specs.Works.{Deed, AllNextFit, LeavesAll, AllWell, AllBadly, HasRunWork, AreSeen, AtEntry, entry_ledger, IsLedgerOpened, HasOpenedAndRun, HasDoneWork}
@@ -110,7 +111,7 @@ module _ {D Done : Type 0} (device : Ghosts D) (held : ℕ → Option D) (h g : 
     spared : (n : ℕ) → node_count h.shape ≤ n → back n ≡ held n
     spared n le = others_put n (omega (arith, le, logs_are, shards_are, are.coordinators, are.shards_are)) ∙ others_taken n (omega (arith, le, are.coordinators, are.shards_are))
 
-    room : HaveRoom device held h.shape E
+    room : AllHaveRoom device held h.shape E
     room = opened_room device held back h g logs now shards after deed are is shape logs_back shards_back stored
 
     same_room : (n : ℕ) → n < node_count h.shape → SameRoom device (held n) (back n)

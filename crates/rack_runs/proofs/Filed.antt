@@ -32,7 +32,7 @@ use Rattle.file_runs.proofs.Filing.{stays_more}
 use Rattle.file_runs.proofs.Flying.{flies_none}
 use Rattle.file_runs.proofs.Pieces.{files_unbegun}
 use Rattle.printed_lines.specs.Unspent.{IsUnspentCount}
-use Rattle.rack_laws.specs.Shown.{node_count}
+use Rattle.cbdc_model.specs.Ranges.{node_count}
 use Rattle.rack_runs.specs.Endings.{EndsRun, IsRunOrCut}
 use Rattle.rack_runs.specs.Runs.{IsCutWaves, NonePrepared, NothingNext, PieceNext, PiecesPrepared}
 use Rattle.rack_runs.specs.Telling.{IsRunTold}

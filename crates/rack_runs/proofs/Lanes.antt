@@ -6,14 +6,14 @@ use Rattle.cbdc_types.specs.declared.answer.Answer.{Answer}
 use Rattle.cbdc_types.specs.declared.answer.Answer.TheVariants as answers
 use Rattle.cbdc_model.specs.Records.{Shape, Compact, Record, journal, record_of, Prepare}
 use Rattle.cbdc_model.specs.Slots.{slot}
-use Rattle.cbdc_model.specs.Ranges.{home_of, shard_node, part, is_no_part, Concerned}
+use Rattle.cbdc_model.specs.Ranges.{home_of, shard_node, part, is_no_part, Concerned, node_count}
 use Rattle.cbdc_model.specs.Coins.{Output, FullTx}
 use Rattle.cbdc_model.specs.History.{minted}
 use Rattle.cbdc_model.specs.Lanes.{IsEnd}
 use Rattle.lane_laws.specs.Calls.{is_concerned}
 use Rattle.run_laws.proofs.Checked.{kept_is_checked_law}
 use Rattle.run_laws.specs.Ample.{Ample, AreCut}
-use Rattle.run_laws.specs.Enough.{HasLeft, HasRoom, IsUnderway}
+use Rattle.run_laws.specs.Enough.{HasBatchesLeft, HasRoom, IsUnderway}
 use Rattle.run_laws.proofs.Room.{prepare_room_law, lock_room_law}
 use Rattle.submissions.specs.Checks.{VerdictsOf}
 use Rattle.submissions.specs.SoundTest.{sound_by}
@@ -22,10 +22,9 @@ use Rattle.ledger_runs.specs.Turning.{IsLaneOf}
 use Rattle.ledger_runs.specs.Faults.{IsWanted, wants_prepare, wants_lock, HasNoRoomFor, HasNoStampFor}
 use Rattle.file_runs.specs.Runs.{joined, AreFilesPieces}
 use Rattle.command_answers.specs.Scene.{Disks}
-use Rattle.rack_laws.specs.Shown.{node_count}
 use Rattle.rack_runs.specs.Kinds.{IsLaneAnswer}
 use Rattle.rack_runs.proofs.Wanted.{wanted_inside}
-use Rattle.rack_runs.specs.Runs.{IsGrown, IsLaneFault, MayHold, RoseAt, Turns, file_turns, open_turns}
+use Rattle.rack_runs.specs.Runs.{IsGrown, IsLaneFault, DiskMayHold, RoseAt, Turns, file_turns, open_turns}
 use Rattle.rack_laws.specs.Ready.{NoneRises, ShowsKept, limit_at}
 use Rattle.rack_laws.proofs.Caused.{told_shape, told_journals}
 
@@ -42,7 +41,7 @@ is_concerned_there K txs s h =
 
 module _ (K : Shape) (mint : List Output) (sound : FullTx → Bool) (capacity : ℕ → ℕ) (files : List (List FullTx)) (E X : ℕ → List Record) (limits : IsWithinLimits K)
     (ample : Ample K sound capacity files E) (way : IsUnderway K (minted mint) sound files E X) (next : ℕ → List Compact → Type 0)
-    (left_of : (lane : ℕ) (txs : List Compact) → IsLaneOf K lane → next lane txs → (left : List (List Compact)) × HasLeft K sound files E X lane (txs ∷ left))
+    (left_of : (lane : ℕ) (txs : List Compact) → IsLaneOf K lane → next lane txs → (left : List (List Compact)) × HasBatchesLeft K sound files E X lane (txs ∷ left))
     (failed : ℕ → Type 0) (may_hold : ℕ → ℕ → Type 0) (none : (n : ℕ) → n < node_count K → failed n → ⊥) (holds : (n c : ℕ) → n < node_count K → may_hold n c → c ≡ capacity n) where
   -- there is room for what a lane wants
   has_room : (lane node : ℕ) (front : List Record) (r : Record) → IsLaneOf K lane → IsWanted K lane (next lane) X node front r → IsEnd (E node) front → IsEnd front (X node) → HasRoom K capacity node front r
@@ -95,15 +94,15 @@ module _ (K : Shape) (mint : List Output) (sound : FullTx → Bool) (capacity : 
 module _ {D : Type 0} (device : Ghosts D) (before after : Disks D)
     (K : Shape) (mint : List Output) (submissions : List FullTx) (E : ℕ → List Record) (ready : ShowsKept device before.held K mint submissions E) (steady : NoneRises K before.faults after.faults)
     (sound : FullTx → Bool) where
-  may_hold : (n c : ℕ) → n < node_count K → MayHold device before n c → c ≡ limit_at device (before.held n)
+  may_hold : (n c : ℕ) → n < node_count K → DiskMayHold device before n c → c ≡ limit_at device (before.held n)
   may_hold n c inside told = let s = ready.shown n inside in told s.0 s.1 ∙ ap (limit_at device) (sym s.1)
 
   module _ (turns : Turns) (ample : Ample K sound (λ n. limit_at device (before.held n)) turns.handed E)
-      (lefts : (X : ℕ → List Record) → ((lane : ℕ) (txs : List Compact) → IsLaneOf K lane → turns.next K E X lane txs → (left : List (List Compact)) × HasLeft K sound turns.handed E X lane (txs ∷ left))
-      × (turns.begun K E X → (lane : ℕ) → IsLaneOf K lane → (left : List (List Compact)) × HasLeft K sound turns.handed E X lane left)) where
+      (lefts : (X : ℕ → List Record) → ((lane : ℕ) (txs : List Compact) → IsLaneOf K lane → turns.next K E X lane txs → (left : List (List Compact)) × HasBatchesLeft K sound turns.handed E X lane (txs ∷ left))
+      × (turns.begun K E X → (lane : ℕ) → IsLaneOf K lane → (left : List (List Compact)) × HasBatchesLeft K sound turns.handed E X lane left)) where
     -- from the journals themselves
     from_these : (X : ℕ → List Record) → IsGrown K mint (submissions ++ joined turns.handed) E X → turns.begun K E X → (a : Answer)
-        → IsLaneAnswer K (turns.next K E X) E X (RoseAt before after) (MayHold device before) a → a ≡ answers.Memory
+        → IsLaneAnswer K (turns.next K E X) E X (RoseAt before after) (DiskMayHold device before) a → a ≡ answers.Memory
     from_these X grown prepared a cause =
         let way : IsUnderway K (minted mint) sound turns.handed E X = record {
           old = kept_is_checked_law K mint submissions E ready.kept;
@@ -111,7 +110,7 @@ module _ {D : Type 0} (device : Ghosts D) (before after : Disks D)
           grows = grown.grows;
           lanes = (lefts X).1 prepared;
         } in
-        answer_none K mint sound (λ n. limit_at device (before.held n)) turns.handed E X ready.limits ample way (turns.next K E X) (lefts X).0 (RoseAt before after) (MayHold device before) steady may_hold a cause
+        answer_none K mint sound (λ n. limit_at device (before.held n)) turns.handed E X ready.limits ample way (turns.next K E X) (lefts X).0 (RoseAt before after) (DiskMayHold device before) steady may_hold a cause
 
     pub fault_none : (a : Answer) → IsLaneFault device before after turns a → a ≡ answers.Memory
     fault_none a fault =
@@ -119,9 +118,9 @@ module _ {D : Type 0} (device : Ghosts D) (before after : Disks D)
         let journals : (λ n. journal n (reverse fault.ledger.rows)) ≡ E = λ i n. told_journals device before.held K mint submissions E ready fault.ledger.shape fault.ledger.genesis fault.ledger.rows fault.ledger.history n i in
         let grown : IsGrown K mint (submissions ++ joined turns.handed) E fault.exit = (fault.kept K mint submissions E ready.limits ready.shown ready.kept).grown in
         subst (λ k. (L : ℕ → List Record) → L ≡ E → turns.begun k L fault.exit
-        → IsLaneAnswer k (turns.next k L fault.exit) L fault.exit (RoseAt before after) (MayHold device before) a → a ≡ answers.Memory) (sym shape)
+        → IsLaneAnswer k (turns.next k L fault.exit) L fault.exit (RoseAt before after) (DiskMayHold device before) a → a ≡ answers.Memory) (sym shape)
         (λ L same. subst (λ J. turns.begun K J fault.exit
-        → IsLaneAnswer K (turns.next K J fault.exit) J fault.exit (RoseAt before after) (MayHold device before) a → a ≡ answers.Memory) (sym same)
+        → IsLaneAnswer K (turns.next K J fault.exit) J fault.exit (RoseAt before after) (DiskMayHold device before) a → a ≡ answers.Memory) (sym same)
         (λ prepared cause. from_these fault.exit grown prepared a cause))
         (λ n. journal n (reverse fault.ledger.rows)) journals fault.prepared fault.cause
 

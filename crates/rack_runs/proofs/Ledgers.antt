@@ -21,7 +21,9 @@ use Rattle.record_log.specs.Held.{OpensToEither}
 use Rattle.node_journal.specs.Nodes.{NodeOf}
 use Rattle.rack_ledgers.specs.Ledgers.{ByPlace, AreOpened}
 use Rattle.rack_ledgers.specs.Racked.{OfTold}
-use Rattle.rack_laws.specs.Shown.{Shows, OfShown, KeepsEach, HoldsEach, OpenTo, HaveRoom, node_count}
+use Rattle.rack_laws.specs.Shown.{Shows, OfShown, KeepsEach, HoldsEach, OpenTo}
+use Rattle.rack_ledgers.specs.RefusalLaws.{AllHaveRoom}
+use Rattle.cbdc_model.specs.Ranges.{node_count}
 use Rattle.rack_laws.proofs.Opened.{same_shape, same_journals, logs_held, shards_held}
 use Rattle.rack_runs.proofs.Behind.{node_there, are_quiet, none_fly, keeps_each, keeps_flights, holds_each, rooms_each, fits_each}
 use Rattle.rack_laws.proofs.Rooms.{room_behind}
@@ -86,7 +88,7 @@ module _ {D Done : Type 0} (device : Ghosts D) (held back : ℕ → Option D) (h
   OrdersIt S = IsInOrder S (node_journals S logs shards) (node_journals S now after)
 
   -- each disk that was told had room for its journal and for what is kept for its open batches
-  pub opened_room : HaveRoom device held h.shape (node_journals h.shape logs shards)
+  pub opened_room : AllHaveRoom device held h.shape (node_journals h.shape logs shards)
   opened_room n inside was told =
       let HasRoom : ℕ → NodeOf D → Type 0 = λ k x. OfTold (held k) (λ was. used_of x.journal + kept_room h.shape x.journal ≤ device.limit was) in
       let x = node_there h.shape logs shards are.coordinators are.shards_are HasRoom
@@ -121,8 +123,8 @@ module _ {D Done : Type 0} (device : Ghosts D) (held back : ℕ → Option D) (h
     disks_fly = subst (λ k. (n : ℕ) → n < node_count k → OfTold (back n) (λ d. (c : List ℕ) → device.images d c → OpensToEither (reverse (node_journals k now after n)) (flights_of k now after n) c))
         (shape ∙ shape_is) (keeps_flights device back g now after is logs_back shards_back is_stored)
 
-    rooms_there : AreSeen device now after → HaveRoom device back K (node_journals K now after)
-    rooms_there seen = subst (λ k. HaveRoom device back k (node_journals k now after)) (shape ∙ shape_is) (rooms_each device back g now after is logs_back shards_back seen)
+    rooms_there : AreSeen device now after → AllHaveRoom device back K (node_journals K now after)
+    rooms_there seen = subst (λ k. AllHaveRoom device back k (node_journals k now after)) (shape ∙ shape_is) (rooms_each device back g now after is logs_back shards_back seen)
 
     -- nothing was in flight at entry
     may_come : FliesIt h.shape → AllMayCome K mint (submissions ++ joined deed.handed) (node_journals K now after) (flights_of K now after)

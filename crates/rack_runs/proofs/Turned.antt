@@ -8,7 +8,7 @@ use Rattle.command_answers.specs.Scene.{Disks}
 use Rattle.rack_ledgers.specs.Ledgers.{IsUnopened}
 use Rattle.rack_ledgers.proofs.Lacks.{unopened_kind}
 use Rattle.rack_runs.specs.Kinds.{IsLaneAnswer}
-use Rattle.rack_runs.specs.Runs.{MayHold, RoseAt, Turns}
+use Rattle.rack_runs.specs.Runs.{DiskMayHold, RoseAt, Turns}
 use Rattle.rack_runs.specs.Stops.{WhyNoTurns, TurnsLeave}
 use Rattle.command_answers.specs.Causes.{IsWell}
 use Rattle.command_answers.specs.Left.{IsBeforeDisks}
@@ -48,7 +48,7 @@ module _ {D : Type 0} (device : Ghosts D) where
         ⊎_elim
         (λ unopened. ⊎_elim (λ closed. not_unopened before.held before.faults after.faults a closed)
         (λ other. ⊎_elim (λ unsound. subst (λ b. IsBeforeDisks b → ⊥) (sym unsound.told) (λ none. none)) (λ memory. subst (λ b. IsBeforeDisks b → ⊥) (sym memory) (λ none. none)) other) unopened.0)
-        (λ lane. not_by_lane lane.ledger.shape (turns.next lane.ledger.shape (λ n. journal n (reverse lane.ledger.rows)) lane.exit) (λ n. journal n (reverse lane.ledger.rows)) lane.exit (RoseAt before after) (MayHold device before) a lane.cause) is
+        (λ lane. not_by_lane lane.ledger.shape (turns.next lane.ledger.shape (λ n. journal n (reverse lane.ledger.rows)) lane.exit) (λ n. journal n (reverse lane.ledger.rows)) lane.exit (RoseAt before after) (DiskMayHold device before) a lane.cause) is
 
     -- where a run or a recovery did not come through, all was not done
     pub not_done : WhyNoTurns device before after turns a → IsWell a → ⊥
@@ -56,7 +56,7 @@ module _ {D : Type 0} (device : Ghosts D) where
         ⊎_elim
         (λ unopened. ⊎_elim (λ closed. refused_alone a (unopened_kind device before.held before.faults after.faults None a closed))
         (λ other. ⊎_elim (λ unsound. subst (λ b. IsWell b → ⊥) (sym unsound.told) (λ none. none)) (λ memory. subst (λ b. IsWell b → ⊥) (sym memory) (λ none. none)) other) unopened.0)
-        (λ lane. lane_alone lane.ledger.shape (turns.next lane.ledger.shape (λ n. journal n (reverse lane.ledger.rows)) lane.exit) (λ n. journal n (reverse lane.ledger.rows)) lane.exit (RoseAt before after) (MayHold device before) a lane.cause) is
+        (λ lane. lane_alone lane.ledger.shape (turns.next lane.ledger.shape (λ n. journal n (reverse lane.ledger.rows)) lane.exit) (λ n. journal n (reverse lane.ledger.rows)) lane.exit (RoseAt before after) (DiskMayHold device before) a lane.cause) is
 
     -- what it leaves
     pub turns_leave : WhyNoTurns device before after turns a → TurnsLeave device before after turns a

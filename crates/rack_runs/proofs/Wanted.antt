@@ -10,7 +10,7 @@ use Rattle.cbdc_types.specs.Limits.{IsWithinLimits}
 use Rattle.cbdc_types.specs.declared.calls.LockCall.{LockCall}
 use Rattle.cbdc_model.specs.Records.{Digest, Shape, Header, Batch, Compact, Record, journal, record_of, last_stamp, stamp_of, Genesis, Lock, Finish, Forget, Start, Prepare, Commit, Discard, Done}
 use Rattle.cbdc_model.specs.Slots.{Phase, slot, Idle, InPrepare, InCommit, InDiscard}
-use Rattle.cbdc_model.specs.Ranges.{home_of, shard_node, part}
+use Rattle.cbdc_model.specs.Ranges.{home_of, shard_node, part, node_count}
 use Rattle.cbdc_model.specs.Replies.{answered}
 use Rattle.cbdc_model.specs.Grammar.{IsCompact, IsInGrammar}
 use Rattle.cbdc_model.specs.Calls.{IsLockCall}
@@ -44,7 +44,6 @@ use Rattle.rack_runs.specs.Kinds.{MayComeNext, StaysCaused}
 use Rattle.rack_runs.specs.Works.{FitsBatch}
 use Rattle.node_journal.specs.Nodes.{NodeOf, sight}
 use Rattle.file_runs.specs.Ledgers.{IsLedger, node_journals, HaveCheckedJournals}
-use Rattle.rack_laws.specs.Shown.{node_count}
 use Rattle.rack_laws.proofs.Opened.{at_place, sight_there}
 use Rattle.rack_runs.proofs.Behind.{by_all, log_journal, shard_journal}
 

@@ -12,7 +12,9 @@ use Rattle.cbdc_model.specs.Headline.{Headline}
 use Rattle.cbdc_model.specs.Waves.{Adds, has_prepare, has_done, IsResumed, Waves}
 use Rattle.lane_driver.specs.declared.fault.LaneFault.{LaneFault}
 use Rattle.record_log.specs.Held.{OpensToEither}
-use Rattle.rack_laws.specs.Shown.{OfShown, KeepsEach, HoldsEach, AreImagesLeft, OpenTo, HaveRoom, node_count}
+use Rattle.rack_laws.specs.Shown.{OfShown, KeepsEach, HoldsEach, AreImagesLeft, OpenTo}
+use Rattle.rack_ledgers.specs.RefusalLaws.{AllHaveRoom}
+use Rattle.cbdc_model.specs.Ranges.{node_count}
 use Rattle.submissions.specs.Checks.{VerdictsOf, TellsSound}
 use Rattle.submissions.specs.SoundTest.{sound_by}
 use Rattle.command_answers.specs.Scene.{Disks}
@@ -40,7 +42,7 @@ pub record IsRun {D : Type 0} (device : Ghosts D) (held : ℕ → Option D) (ver
   pub grown : IsGrown K mint (submissions ++ joined files) E exit
   -- each disk holds its journal and no record more, and has room for it and for what is kept
   pub disks : HoldsEach device held K exit
-  pub rooms : HaveRoom device held K exit
+  pub rooms : AllHaveRoom device held K exit
   -- the open batches are brought to their end, lane by lane in rising order, and one file's wave after another follows
   pub resumed : files ≡ [] → IsResumed K E exit
   pub waves : Waves K (sound_by verdicts) files E exit
@@ -55,7 +57,7 @@ pub record IsRecovery {D : Type 0} (device : Ghosts D) (held : ℕ → Option D)
   pub grown : IsGrown K mint submissions E exit
   -- each disk holds its journal and no record more, and has room for it and for what is kept
   pub disks : HoldsEach device held K exit
-  pub rooms : HaveRoom device held K exit
+  pub rooms : AllHaveRoom device held K exit
   -- the open batches are brought to their end, lane by lane in rising order, and nothing else is done
   pub resumed : IsResumed K E exit
   pub in_order : IsInOrder K E exit
@@ -66,14 +68,14 @@ pub record IsRecovery {D : Type 0} (device : Ghosts D) (held : ℕ → Option D)
 -- and for what is kept for the batches that are open there
 abbrev pub SurvivesCrashes : {D : Type 0} → Ghosts D → (ℕ → Option D) → Shape → List Output → List FullTx → (ℕ → List Record) → Type 0
 SurvivesCrashes device held K mint submissions E =
-    (contents : ℕ → List ℕ) → AreImagesLeft device held K contents → (X : ℕ → List Record) × OpenTo held K contents X × IsGrown K mint submissions E X × HaveRoom device held K X
+    (contents : ℕ → List ℕ) → AreImagesLeft device held K contents → (X : ℕ → List Record) × OpenTo held K contents X × IsGrown K mint submissions E X × AllHaveRoom device held K X
 
 -- a run that a lane's fault cut short: each disk keeps its journal at exit, with one record more or without, and has room for it and for what is kept
 -- for the batches that are open there; and whatever a crash leaves of the disks is kept
 pub record IsCutShort {D : Type 0} (device : Ghosts D) (held : ℕ → Option D) (files : List (List FullTx)) (exit : ℕ → List Record) (K : Shape) (mint : List Output) (submissions : List FullTx) (E : ℕ → List Record) : Type 0 where
   pub grown : IsGrown K mint (submissions ++ joined files) E exit
   pub disks : KeepsEach device held K exit
-  pub rooms : HaveRoom device held K exit
+  pub rooms : AllHaveRoom device held K exit
   pub crashes : SurvivesCrashes device held K mint (submissions ++ joined files) E
 
 -- the journals of the ledger that the disks told
@@ -86,7 +88,7 @@ pub record TookLedger {D : Type 0} (device : Ghosts D) (held back : ℕ → Opti
   pub ledger : IsCausedLedger device held
   -- each of its disks had room for its journal and for what is kept for the batches that were open there, and in each place there is as much room as
   -- there was
-  pub room : HaveRoom device held ledger.shape (entry_journals ledger)
+  pub room : AllHaveRoom device held ledger.shape (entry_journals ledger)
   pub same_room : (n : ℕ) → n < node_count ledger.shape → SameRoom device (held n) (back n)
   -- its journals have grown at their ends, by records that are caused too
   pub exit : ℕ → List Record
@@ -94,7 +96,7 @@ pub record TookLedger {D : Type 0} (device : Ghosts D) (held back : ℕ → Opti
   pub caused : StaysCaused ledger.shape ledger.genesis exit
   -- where the disks told all, whatever a crash leaves of one opens to exactly its node's journal
   pub disks : AllTell device held ledger.shape → HoldsEach device back ledger.shape exit
-  pub rooms : HaveRoom device back ledger.shape exit
+  pub rooms : AllHaveRoom device back ledger.shape exit
   -- the disks that are no nodes of it are as before
   pub spared : (n : ℕ) → node_count ledger.shape ≤ n → back n ≡ held n
 
@@ -115,8 +117,8 @@ abbrev pub RoseAt : {D : Type 0} → Disks D → Disks D → ℕ → Type 0
 RoseAt before after = λ n. Rose (before.faults n) (after.faults n)
 
 -- the node's disk, where it was told, may hold so many bytes
-abbrev pub MayHold : {D : Type 0} → Ghosts D → Disks D → ℕ → ℕ → Type 0
-MayHold device before = λ n c. OfTold (before.held n) (λ d. c ≡ device.limit d)
+abbrev pub DiskMayHold : {D : Type 0} → Ghosts D → Disks D → ℕ → ℕ → Type 0
+DiskMayHold device before = λ n c. OfTold (before.held n) (λ d. c ≡ device.limit d)
 
 -- A lane's fault ended a run, or a recovery, over the ledger that the disks told: what it leaves, and why it is the answer.
 pub record IsLaneFault {D : Type 0} (device : Ghosts D) (before after : Disks D) (turns : Turns) (answer : Answer) : Type 0 where
@@ -136,19 +138,19 @@ pub record IsLaneFault {D : Type 0} (device : Ghosts D) (before after : Disks D)
   pub disks : AllTell device before.held ledger.shape → KeepsFlights device after.held ledger.shape exit flights
   -- the answer has its cause, by the counts of faults and by what the disks that were told may hold
   pub cause : IsLaneAnswer ledger.shape (turns.next ledger.shape (entry_journals ledger) exit) (entry_journals ledger) exit
-      (RoseAt before after) (MayHold device before) answer
+      (RoseAt before after) (DiskMayHold device before) answer
   -- whatever a lane wants may come next where it would stand
   pub may_come : MayComeNext ledger.shape ledger.genesis (turns.next ledger.shape (entry_journals ledger) exit) (entry_journals ledger) exit
   -- the fault is that of the least lane that met one
-  pub least : IsLeastAnswer (turns.ends ledger.shape (entry_journals ledger) exit (RoseAt before after) (MayHold device before)) answer
+  pub least : IsLeastAnswer (turns.ends ledger.shape (entry_journals ledger) exit (RoseAt before after) (DiskMayHold device before)) answer
   -- nothing was written, or each lane is between batches, or its batch lacks a Lock, or the disk of a node that it asks has failed, or its batch was
   -- prepared and is so still, because memory ran out
   pub rests : AllRestSince ledger.shape (entry_journals ledger) exit (RoseAt before after)
   -- each disk of the ledger had room for its journal and for what was kept for the batches open there; in each place there is as much room as there
   -- was, and so for its journal at exit
-  pub room : HaveRoom device before.held ledger.shape (entry_journals ledger)
+  pub room : AllHaveRoom device before.held ledger.shape (entry_journals ledger)
   pub same_room : (n : ℕ) → n < node_count ledger.shape → SameRoom device (before.held n) (after.held n)
-  pub rooms : HaveRoom device after.held ledger.shape exit
+  pub rooms : AllHaveRoom device after.held ledger.shape exit
   -- where the ledger was kept the run is cut short: it is kept still, whatever a crash leaves of the disks
   pub kept : OfShown device before.held (IsCutShort device after.held turns.handed exit)
   -- the disks that are no nodes of it are as before

@@ -25,7 +25,9 @@ use Rattle.command_answers.specs.Scene.{Disks}
 use Rattle.rack_ledgers.specs.Places.{EachFrom, MayReturn}
 use Rattle.rack_ledgers.specs.Ledgers.{ByPlace, AreOpened}
 use Rattle.rack_ledgers.specs.Caused.{listed_journals as told_journals, AreCaused}
-use Rattle.rack_laws.specs.Shown.{OfShown, HoldsEach, NodeHasRoom, NodeFits, HaveRoom, node_count}
+use Rattle.rack_laws.specs.Shown.{OfShown, HoldsEach, NodeHasRoom, NodeFits}
+use Rattle.rack_ledgers.specs.RefusalLaws.{AllHaveRoom}
+use Rattle.cbdc_model.specs.Ranges.{node_count}
 use Rattle.printed_lines.specs.Unspent.{IsUnspentCount}
 use Rattle.rack_runs.specs.Kinds.{FliesBroken}
 use Rattle.rack_runs.specs.Endings.{IsInOrder}
@@ -215,7 +217,7 @@ pub record HasEndedWork {D Done : Type 0} (device : Ghosts D) (held : ℕ → Op
   pub well : AllWell d K E exit told.resumed.items told.done
   pub grown : IsGrown K mint (submissions ++ joined d.handed) E exit
   pub disks : HoldsEach device held K exit
-  pub rooms : HaveRoom device held K exit
+  pub rooms : AllHaveRoom device held K exit
   pub in_order : IsInOrder K E exit
   pub unspent : IsUnspentCount K exit told.unspent
   pub headline : Clean mint (submissions ++ joined d.handed) → Headline K mint (submissions ++ joined d.handed) exit

@@ -49,7 +49,8 @@ pub trait Core: Sized + Drop {
         ensures header { header self.new ≡ header self.old }
         ensures stands { (J : List AnyRecord) → stands self.old J → stands self.new J }
         ensures admitted { IfOk result (λ yes. OnTrue yes (admits self.new next.now)) }
-        ensures next { IfOk result (λ yes. (J : List AnyRecord) → stands self.old J → IsJournal (header self.old) J → kind (header self.old)
+        ensures next { IfOk result (λ yes. (J : List AnyRecord)
+            → stands self.old J → IsJournal (header self.old) J → kind (header self.old)
             → (IsTrue yes ↔ After (header self.old) J next.now)) };
 
     /// Takes a record in.

@@ -16,7 +16,7 @@ use Rattle.byte_fields.specs.declared.fault.Fault.{Fault}
 use Rattle.byte_fields.specs.Faults.{fault, IsBytes}
 use Rattle.byte_spelling.specs.Spelling.{number, counted, FitsNumber, FitsHash, FitsList}
 use Rattle.byte_fields.specs.Reading.{field_at, number_at, hash_at, list_at}
-use Rattle.byte_fields.specs.Records.{hashes, batch, compact, answered, outcome, decision, small_at, batch_at, compact_at, answered_at, outcome_at, decision_at}
+use Rattle.byte_fields.specs.Records.{hashes, batch_bytes, compact_bytes, answered_bytes, outcome_bytes, decision_bytes, small_at, batch_at, compact_at, answered_at, outcome_field_at, decision_at}
 use Rattle.byte_fields.proofs.Fields.{IsRead, Takes, read_of, field_item}
 use Rattle.byte_fields.proofs.Lists.{list_read}
 use Rattle.byte_fields.proofs.Readers.{one_read, two_read, three_read, four_read, tested_read, refits, respells, chosen}
@@ -142,11 +142,11 @@ head_is : ℕ → BatchId → Head
 head_is stamp b = record { stamp = stamp; batch = b }
 
 abbrev head_text : Head → List ℕ
-head_text h = number h.stamp ++ batch h.batch
+head_text h = number h.stamp ++ batch_bytes h.batch
 
 head_read : IsRead head_at head_text FitsHead
 unfolding head_at head_is
-head_read = two_read number_at number FitsNumber number_read batch_at batch FitsBatch batch_read head_is head_text FitsHead
+head_read = two_read number_at number FitsNumber number_read batch_at batch_bytes FitsBatch batch_read head_is head_text FitsHead
     (λ stamp b. refl)
     (λ stamp b p q. record { stamp = p; batch = q })
     (λ h fits. (h.stamp, h.batch, fits.stamp, fits.batch, refl))
@@ -156,31 +156,31 @@ head_read = two_read number_at number FitsNumber number_read batch_at batch Fits
 pub minted_read : IsRead (list_at 1000000 hash_at) hashes (FitsList 1000000 FitsHash)
 minted_read = list_read hash_at (λ h. h) FitsHash hash_read 1000000 (omega arith)
 
-pub entries_read : IsRead (list_at 1024 answered_at) (counted answered) (FitsList 1024 FitsAnswered)
-entries_read = list_read answered_at answered FitsAnswered answered_read 1024 (omega arith)
+pub entries_read : IsRead (list_at 1024 answered_at) (counted answered_bytes) (FitsList 1024 FitsAnswered)
+entries_read = list_read answered_at answered_bytes FitsAnswered answered_read 1024 (omega arith)
 
-pub decisions_read : IsRead (list_at 1024 decision_at) (counted decision) (FitsList 1024 FitsDecision)
-decisions_read = list_read decision_at decision FitsDecision decision_read 1024 (omega arith)
+pub decisions_read : IsRead (list_at 1024 decision_at) (counted decision_bytes) (FitsList 1024 FitsDecision)
+decisions_read = list_read decision_at decision_bytes FitsDecision decision_read 1024 (omega arith)
 
-pub txs_read : IsRead (list_at 1024 compact_at) (counted compact) (FitsList 1024 FitsCompact)
-txs_read = list_read compact_at compact FitsCompact compact_read 1024 (omega arith)
+pub txs_read : IsRead (list_at 1024 compact_at) (counted compact_bytes) (FitsList 1024 FitsCompact)
+txs_read = list_read compact_at compact_bytes FitsCompact compact_read 1024 (omega arith)
 
-pub outcomes_read : IsRead (list_at 1024 outcome_at) (counted outcome) (FitsList 1024 FitsOutcome)
-outcomes_read = list_read outcome_at outcome FitsOutcome outcome_read 1024 (omega arith)
+pub outcomes_read : IsRead (list_at 1024 outcome_field_at) (counted outcome_bytes) (FitsList 1024 FitsOutcome)
+outcomes_read = list_read outcome_field_at outcome_bytes FitsOutcome outcome_read 1024 (omega arith)
 
 -- ---- each kind, behind its first byte
 
 -- what stands behind a record's first byte
 abbrev record_rest : Record → List ℕ
 record_rest (Genesis h hs) = (number 0 ++ header_bytes h) ++ hashes hs
-record_rest (Lock stamp b es) = (number stamp ++ batch b) ++ counted answered es
-record_rest (Finish stamp b ds) = (number stamp ++ batch b) ++ counted decision ds
-record_rest (Forget stamp b) = number stamp ++ batch b
+record_rest (Lock stamp b es) = (number stamp ++ batch_bytes b) ++ counted answered_bytes es
+record_rest (Finish stamp b ds) = (number stamp ++ batch_bytes b) ++ counted decision_bytes ds
+record_rest (Forget stamp b) = number stamp ++ batch_bytes b
 record_rest (Start h) = number 0 ++ header_bytes h
-record_rest (Prepare stamp b txs) = (number stamp ++ batch b) ++ counted compact txs
-record_rest (Commit stamp b os) = (number stamp ++ batch b) ++ counted outcome os
-record_rest (Discard stamp b) = number stamp ++ batch b
-record_rest (Done stamp b) = number stamp ++ batch b
+record_rest (Prepare stamp b txs) = (number stamp ++ batch_bytes b) ++ counted compact_bytes txs
+record_rest (Commit stamp b os) = (number stamp ++ batch_bytes b) ++ counted outcome_bytes os
+record_rest (Discard stamp b) = number stamp ++ batch_bytes b
+record_rest (Done stamp b) = number stamp ++ batch_bytes b
 
 abbrev IsGenesis : Record → Type 0
 IsGenesis r = (z : ℕ) × (h : Header) × (hs : List (List ℕ)) × IsZero z × FitsHeader h × FitsList 1000000 FitsHash hs × (Genesis h hs ≡ r)
@@ -207,7 +207,7 @@ IsLock r = (h : Head) × (xs : List Answered) × FitsHead h × FitsList 1024 Fit
 
 lock_read : IsRead lock_at record_rest IsLock
 unfolding lock_at
-lock_read = two_read head_at head_text FitsHead head_read (list_at 1024 answered_at) (counted answered) (FitsList 1024 FitsAnswered) entries_read (λ h xs. Lock h.stamp h.batch xs) record_rest IsLock
+lock_read = two_read head_at head_text FitsHead head_read (list_at 1024 answered_at) (counted answered_bytes) (FitsList 1024 FitsAnswered) entries_read (λ h xs. Lock h.stamp h.batch xs) record_rest IsLock
     (λ h xs. refl)
     (λ h xs a b. (h, xs, a, b, refl))
     (λ r is. is)
@@ -217,7 +217,7 @@ IsFinish r = (h : Head) × (xs : List Bool) × FitsHead h × FitsList 1024 FitsD
 
 finish_read : IsRead finish_at record_rest IsFinish
 unfolding finish_at
-finish_read = two_read head_at head_text FitsHead head_read (list_at 1024 decision_at) (counted decision) (FitsList 1024 FitsDecision) decisions_read (λ h xs. Finish h.stamp h.batch xs) record_rest IsFinish
+finish_read = two_read head_at head_text FitsHead head_read (list_at 1024 decision_at) (counted decision_bytes) (FitsList 1024 FitsDecision) decisions_read (λ h xs. Finish h.stamp h.batch xs) record_rest IsFinish
     (λ h xs. refl)
     (λ h xs a b. (h, xs, a, b, refl))
     (λ r is. is)
@@ -227,7 +227,7 @@ IsPrepare r = (h : Head) × (xs : List CompactTx) × FitsHead h × FitsList 1024
 
 prepare_read : IsRead prepare_at record_rest IsPrepare
 unfolding prepare_at
-prepare_read = two_read head_at head_text FitsHead head_read (list_at 1024 compact_at) (counted compact) (FitsList 1024 FitsCompact) txs_read (λ h xs. Prepare h.stamp h.batch xs) record_rest IsPrepare
+prepare_read = two_read head_at head_text FitsHead head_read (list_at 1024 compact_at) (counted compact_bytes) (FitsList 1024 FitsCompact) txs_read (λ h xs. Prepare h.stamp h.batch xs) record_rest IsPrepare
     (λ h xs. refl)
     (λ h xs a b. (h, xs, a, b, refl))
     (λ r is. is)
@@ -237,7 +237,7 @@ IsCommit r = (h : Head) × (xs : List Outcome) × FitsHead h × FitsList 1024 Fi
 
 commit_read : IsRead commit_at record_rest IsCommit
 unfolding commit_at
-commit_read = two_read head_at head_text FitsHead head_read (list_at 1024 outcome_at) (counted outcome) (FitsList 1024 FitsOutcome) outcomes_read (λ h xs. Commit h.stamp h.batch xs) record_rest IsCommit
+commit_read = two_read head_at head_text FitsHead head_read (list_at 1024 outcome_field_at) (counted outcome_bytes) (FitsList 1024 FitsOutcome) outcomes_read (λ h xs. Commit h.stamp h.batch xs) record_rest IsCommit
     (λ h xs. refl)
     (λ h xs a b. (h, xs, a, b, refl))
     (λ r is. is)

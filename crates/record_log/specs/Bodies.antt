@@ -4,7 +4,7 @@ use Rattle.cbdc_types.specs.declared.record.Header.{Header}
 use Rattle.cbdc_types.specs.declared.record.Record.{Record}
 use Rattle.cbdc_types.specs.declared.record.Record.TheVariants.{Genesis, Lock, Finish, Forget, Start, Prepare, Commit, Discard, Done}
 use Rattle.byte_spelling.specs.Spelling.{number, counted}
-use Rattle.byte_fields.specs.Records.{hashes, batch, compact, answered, outcome, decision}
+use Rattle.byte_fields.specs.Records.{hashes, batch_bytes, compact_bytes, answered_bytes, outcome_bytes, decision_bytes}
 use Rattle.cbdc_model.specs.Records.{genesis_kind, lock_kind, finish_kind, forget_kind, start_kind, prepare_kind, commit_kind, discard_kind, done_kind}
 
 -- HAMJRNL1, which each journal begins with
@@ -22,11 +22,11 @@ head kind stamp = kind ∷ [] ++ number stamp
 -- the one spelling of a record
 abbrev pub body_of : Record → List ℕ
 body_of (Genesis h hs) = head genesis_kind 0 ++ header_bytes h ++ hashes hs
-body_of (Lock stamp b es) = head lock_kind stamp ++ batch b ++ counted answered es
-body_of (Finish stamp b ds) = head finish_kind stamp ++ batch b ++ counted decision ds
-body_of (Forget stamp b) = head forget_kind stamp ++ batch b
+body_of (Lock stamp b es) = head lock_kind stamp ++ batch_bytes b ++ counted answered_bytes es
+body_of (Finish stamp b ds) = head finish_kind stamp ++ batch_bytes b ++ counted decision_bytes ds
+body_of (Forget stamp b) = head forget_kind stamp ++ batch_bytes b
 body_of (Start h) = head start_kind 0 ++ header_bytes h
-body_of (Prepare stamp b txs) = head prepare_kind stamp ++ batch b ++ counted compact txs
-body_of (Commit stamp b os) = head commit_kind stamp ++ batch b ++ counted outcome os
-body_of (Discard stamp b) = head discard_kind stamp ++ batch b
-body_of (Done stamp b) = head done_kind stamp ++ batch b
+body_of (Prepare stamp b txs) = head prepare_kind stamp ++ batch_bytes b ++ counted compact_bytes txs
+body_of (Commit stamp b os) = head commit_kind stamp ++ batch_bytes b ++ counted outcome_bytes os
+body_of (Discard stamp b) = head discard_kind stamp ++ batch_bytes b
+body_of (Done stamp b) = head done_kind stamp ++ batch_bytes b

@@ -8,7 +8,7 @@ use Rattle.base_types.specs.declared.faults.InputKind.TheVariants.{Form}
 use Rattle.byte_fields.specs.declared.fault.Fault.{Fault}
 use Rattle.byte_fields.specs.Faults.{◌>>=◌, fault}
 use Rattle.byte_fields.specs.Reading.{field_at, number_at, hash_at, list_at}
-use Rattle.byte_fields.specs.Records.{byte_at, small_at, batch_at, compact_at, answered_at, outcome_at, decision_at}
+use Rattle.byte_fields.specs.Records.{byte_at, small_at, batch_at, compact_at, answered_at, outcome_field_at, decision_at}
 use Rattle.record_log.specs.declared.reading.Head.{Head}
 use Rattle.record_log.specs.Bodies.{magic}
 use Rattle.cbdc_model.specs.Records.{genesis_kind, lock_kind, finish_kind, forget_kind, start_kind, prepare_kind, commit_kind, discard_kind, done_kind}
@@ -101,7 +101,7 @@ prepare_at bytes = do
 unfoldable pub commit_at : List ℕ → Result (Record × List ℕ) Fault
 commit_at bytes = do
   h ← head_at bytes
-  os ← list_at 1024 outcome_at h.1
+  os ← list_at 1024 outcome_field_at h.1
   Ok (Commit h.0.stamp h.0.batch os.0, os.1)
 
 unfoldable pub discard_at : List ℕ → Result (Record × List ℕ) Fault

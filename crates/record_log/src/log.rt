@@ -90,26 +90,31 @@ impl<D: Disk> RecordLog<D> {
     /// Writes a record to the disk, in memory that was taken before. It is kept by `keep`.
     pub fn write(&mut self, next: &Record) -> Result<(), LogFault>
         // Where there is memory, Broken and Full come exactly where it is so, and nothing is written.
-        ensures answer { HasLogRoom self.old 1 (length (body_of next.now)) →
-            MatchOption (append_fault (broken_of self.old.journal) (gate_of self.old.journal + 1) (9 + length (body_of next.now)) (D.limit (disk_of self.old.journal)))
-            (IsOkUnless result LogFault.DiskFault)
-            (λ fault. result ≡ Err (log_fault fault)) }
+        ensures answer { HasLogRoom self.old 1 (length (body_of next.now))
+            → MatchOption (append_fault (broken_of self.old.journal) (gate_of self.old.journal + 1)
+            (9 + length (body_of next.now)) (D.limit (disk_of self.old.journal)))
+            (IsOkUnless result LogFault.DiskFault) (λ fault. result ≡ Err (log_fault fault)) }
         ensures unwritten { IfErr result (λ e. e ≢ LogFault.DiskFault → IsUntouched self.old self.new) }
 
         // It doesn't give up by itself.
-        ensures fault { IsErrOf result LogFault.DiskFault → Rose (D.count (disk_of self.old.journal)) (D.count (disk_of self.new.journal)) }
-        ensures broken { IsErrOf result LogFault.DiskFault → broken_of self.new.journal ≡ Some (D.count (disk_of self.new.journal)) }
+        ensures fault { IsErrOf result LogFault.DiskFault
+            → Rose (D.count (disk_of self.old.journal)) (D.count (disk_of self.new.journal)) }
+        ensures broken { IsErrOf result LogFault.DiskFault
+            → broken_of self.new.journal ≡ Some (D.count (disk_of self.new.journal)) }
         ensures later { D.count (disk_of self.old.journal) ≤ D.count (disk_of self.new.journal) }
-        ensures grows { OnOk result ((gate_of self.new.journal ≡ gate_of self.old.journal + 9 + length (body_of next.now)) × (broken_of self.new.journal ≡ None)) }
+        ensures grows { OnOk result ((gate_of self.new.journal ≡ gate_of self.old.journal
+            + 9 + length (body_of next.now)) × (broken_of self.new.journal ≡ None)) }
         ensures gate { OnErr result (gate_of self.new.journal ≡ gate_of self.old.journal) }
         ensures limit { D.limit (disk_of self.new.journal) ≡ D.limit (disk_of self.old.journal) }
 
         // The disk holds the record behind those that it held before.
-        ensures written { (records : List Record) → HoldsAll self.old records → OnOk result (HoldsAll self.new (records ++ next.now ∷ [])) }
+        ensures written { (records : List Record) → HoldsAll self.old records
+            → OnOk result (HoldsAll self.new (records ++ next.now ∷ [])) }
 
         // A crash at any moment leaves the records from before, with the new one or without.
         ensures leaves { (records : List Record) → HoldsAll self.old records
-            → Leaves D.tells_past D.moment D.images_since D.images (disk_of self.old.journal) (disk_of self.new.journal) (OpensWithOrWithout (bodies_of records) (body_of next.now)) }
+            → Leaves D.tells_past D.moment D.images_since D.images (disk_of self.old.journal)
+            (disk_of self.new.journal) (OpensWithOrWithout (bodies_of records) (body_of next.now)) }
 
         ensures room { OnOk result (vec_len self.new.records < vec_capacity self.new.records) }
         ensures keeps { KeepsRoom self.old self.new }
@@ -149,7 +154,8 @@ impl<D: Disk> RecordLog<D> {
     pub fn keep(&mut self, next: Record)
         requires { vec_len self.old.records < vec_capacity self.old.records }
         ensures kept { self.new.records.items ≡ self.old.records.items ++ next ∷ [] }
-        ensures room { (count bytes : ℕ) → HasLogRoom self.old (count + 1) bytes → HasLogRoom self.new count bytes }
+        ensures room { (count bytes : ℕ) → HasLogRoom self.old (count + 1) bytes
+            → HasLogRoom self.new count bytes }
         ensures header { self.new.header ≡ self.old.header }
         ensures journal { self.new.journal ≡ self.old.journal }
     {
@@ -164,27 +170,33 @@ impl<D: Disk> RecordLog<D> {
         ensures as_before { OnErr result (self.new.records.items ≡ self.old.records.items) }
 
         // Where there is memory, Broken and Full come exactly where it is so, and nothing is written.
-        ensures answer { HasLogRoom self.old 1 (length (body_of added)) →
-            MatchOption (append_fault (broken_of self.old.journal) (gate_of self.old.journal + 1) (9 + length (body_of added)) (D.limit (disk_of self.old.journal)))
-            (IsOkUnless result LogFault.DiskFault)
-            (λ fault. result ≡ Err (log_fault fault)) }
+        ensures answer { HasLogRoom self.old 1 (length (body_of added))
+            → MatchOption (append_fault (broken_of self.old.journal)
+            (gate_of self.old.journal + 1) (9 + length (body_of added)) (D.limit (disk_of self.old.journal)))
+            (IsOkUnless result LogFault.DiskFault) (λ fault. result ≡ Err (log_fault fault)) }
         ensures unwritten { IfErr result (λ e. e ≢ LogFault.DiskFault → IsUntouched self.old self.new) }
-        ensures fault { IsErrOf result LogFault.DiskFault → Rose (D.count (disk_of self.old.journal)) (D.count (disk_of self.new.journal)) }
-        ensures broken { IsErrOf result LogFault.DiskFault → broken_of self.new.journal ≡ Some (D.count (disk_of self.new.journal)) }
+        ensures fault { IsErrOf result LogFault.DiskFault
+            → Rose (D.count (disk_of self.old.journal)) (D.count (disk_of self.new.journal)) }
+        ensures broken { IsErrOf result LogFault.DiskFault
+            → broken_of self.new.journal ≡ Some (D.count (disk_of self.new.journal)) }
         ensures later { D.count (disk_of self.old.journal) ≤ D.count (disk_of self.new.journal) }
-        ensures grows { OnOk result ((gate_of self.new.journal ≡ gate_of self.old.journal + 9 + length (body_of added)) × (broken_of self.new.journal ≡ None)) }
+        ensures grows { OnOk result ((gate_of self.new.journal
+            ≡ gate_of self.old.journal + 9 + length (body_of added)) × (broken_of self.new.journal ≡ None)) }
         ensures gate { OnErr result (gate_of self.new.journal ≡ gate_of self.old.journal) }
         ensures limit { D.limit (disk_of self.new.journal) ≡ D.limit (disk_of self.old.journal) }
 
         // The disk holds the record behind those that it held before.
-        ensures written { (records : List Record) → HoldsAll self.old records → OnOk result (HoldsAll self.new (records ++ added ∷ [])) }
+        ensures written { (records : List Record) → HoldsAll self.old records
+            → OnOk result (HoldsAll self.new (records ++ added ∷ [])) }
 
         // A crash at any moment leaves the records from before, with the new one or without.
         ensures leaves { (records : List Record) → HoldsAll self.old records
-            → Leaves D.tells_past D.moment D.images_since D.images (disk_of self.old.journal) (disk_of self.new.journal) (OpensWithOrWithout (bodies_of records) (body_of added)) }
+            → Leaves D.tells_past D.moment D.images_since D.images (disk_of self.old.journal)
+            (disk_of self.new.journal) (OpensWithOrWithout (bodies_of records) (body_of added)) }
 
         // One record's room is taken by it.
-        ensures room { (count bytes : ℕ) → HasLogRoom self.old (count + 1) bytes → HasLogRoom self.new count bytes }
+        ensures room { (count bytes : ℕ) → HasLogRoom self.old (count + 1) bytes
+            → HasLogRoom self.new count bytes }
         ensures header { self.new.header ≡ self.old.header }
     {
         match self.write(&added) {

@@ -2,7 +2,7 @@
 ghost use Rattle.std.specs.Prelude.{◌≡◌, ◌-◌, ◌^◌, length, min};
 ghost use Rattle.std.specs.List.{flat_map};
 ghost use Rattle.byte_spelling.specs.Spelling.{counted};
-ghost use Rattle.byte_fields.specs.Records.{reply};
+ghost use Rattle.byte_fields.specs.Records.{reply_bytes};
 ghost use Rattle.record_log.specs.Bodies.{header_bytes, body_of};
 
 use byte_fields::Spell;
@@ -53,7 +53,7 @@ impl Measure for CompactTx {
 }
 
 fn length_of_reply(r: &Reply) -> u64
-    ensures { result ≡ min (length (reply r.now)) (2 ^ 64 - 1) }
+    ensures { result ≡ min (length (reply_bytes r.now)) (2 ^ 64 - 1) }
 {
     match r {
         Reply::Held => 1,

@@ -70,7 +70,8 @@ fn later_records(
     requires some { 0 < length bodies.now }
     requires first { MayHold header (first ∷ []) }
     requires spelled { slice_get bodies.now 0 ≡ Some (body_of first) }
-    ensures read { IfOk result (λ r. MayHold r.header r.records.items × SpellRecords r.header r.records.items r.cut bodies.now) }
+    ensures read { IfOk result (λ r. MayHold r.header r.records.items
+        × SpellRecords r.header r.records.items r.cut bodies.now) }
     ensures unread { IfErr result (λ e. e ≡ NodeOpenFault.Memory) }
 {
     let Ok(mut records) = Vec::with_capacity(alloc, bodies.len()) else {
@@ -105,7 +106,8 @@ fn later_records(
 
 // The records that bodies spell, where the first body is a first record.
 fn records_of(alloc: Global, bodies: &Bodies) -> Result<Read, NodeOpenFault>
-    ensures read { IfOk result (λ r. MayHold r.header r.records.items × SpellRecords r.header r.records.items r.cut bodies.now) }
+    ensures read { IfOk result (λ r. MayHold r.header r.records.items
+        × SpellRecords r.header r.records.items r.cut bodies.now) }
     ensures unread { IfErr result (λ e. IsUnread bodies.now e) }
 {
     if bodies.is_empty() {
@@ -130,8 +132,10 @@ fn log_of<D: Disk>(
     requires whole { broken_of journal ≡ None }
     requires grammar { MayHold read.header read.records.items }
     ensures grammar { IfErr result (λ e. HoldsBefore e.1) }
-    ensures log { IfOk result (λ l. (l.journal ≡ journal) × (l.header ≡ read.header) × (l.records.items ≡ read.records.items) × (read.cut ≡ None)) }
-    ensures cut { IfErr result (λ e. (e.0 ≡ disk_of journal) × IfSome read.cut (λ at. e.1 ≡ NoLog.Cut read.header read.records at)) }
+    ensures log { IfOk result (λ l. (l.journal ≡ journal)
+        × (l.header ≡ read.header) × (l.records.items ≡ read.records.items) × (read.cut ≡ None)) }
+    ensures cut { IfErr result (λ e. (e.0 ≡ disk_of journal)
+        × IfSome read.cut (λ at. e.1 ≡ NoLog.Cut read.header read.records at)) }
     ensures is_cut { IfErr result (λ e. IsSome read.cut) }
 {
     let Read {
@@ -161,7 +165,8 @@ fn log_of<D: Disk>(
 fn cut_at(read: Read, damaged: u64) -> NoLog
     requires { MayHold read.header read.records.items }
     ensures grammar { HoldsBefore result }
-    ensures cut { MatchOption read.cut (result ≡ NoLog.Cut read.header read.records damaged) (λ at. result ≡ NoLog.Cut read.header read.records at) }
+    ensures cut { MatchOption read.cut (result ≡ NoLog.Cut read.header read.records damaged)
+        (λ at. result ≡ NoLog.Cut read.header read.records at) }
 {
     let Read {
         header,
@@ -186,7 +191,8 @@ fn cut_at(read: Read, damaged: u64) -> NoLog
 fn cut_of(alloc: Global, before: &Bodies, damaged: u64) -> NoLog
     ensures told { result ≢ NoLog.Fault NodeOpenFault.DiskFault }
     ensures grammar { HoldsBefore result }
-    ensures cut { (c : Items ℕ) → Breaks before.now c → damaged ≡ length (rows before.now) → 1 ≤ length before.now → IsNoLog c result }
+    ensures cut { (c : Items ℕ) → Breaks before.now c
+        → damaged ≡ length (rows before.now) → 1 ≤ length before.now → IsNoLog c result }
 {
     match records_of(alloc, before) {
         Ok(read) => cut_at(read, damaged),
@@ -215,7 +221,8 @@ fn refusal_of(alloc: Global, fault: OpenFault) -> NoLog
 /// Out of memory: the disk comes back as it was read.
 pub fn open_records<D: Disk>(alloc: Global, disk: D) -> Result<RecordLog<D>, (D, NoLog)>
     // The content opens to just these records, and a crash leaves nothing else.
-    ensures opens { IfOk result (λ l. Tells (D.content disk) (λ c. OpensTo l.records.items c × HoldsAll l l.records.items)) }
+    ensures opens { IfOk result
+        (λ l. Tells (D.content disk) (λ c. OpensTo l.records.items c × HoldsAll l l.records.items)) }
     ensures grammar { IfOk result (λ l. MayHold l.header l.records.items) }
     ensures ends { IfOk result (λ l. gate_of l.journal ≡ sum_by size_of l.records.items) }
     ensures whole { IfOk result (λ l. broken_of l.journal ≡ None) }
@@ -223,9 +230,12 @@ pub fn open_records<D: Disk>(alloc: Global, disk: D) -> Result<RecordLog<D>, (D,
     // Which refusal it is.
     ensures refusal { IfErr result (λ e. Tells (D.content disk) (λ c. IsNoLog c e.1)) }
     ensures before { IfErr result (λ e. HoldsBefore e.1) }
-    ensures later { MatchResult result (λ l. D.count disk ≤ D.count (disk_of l.journal)) (λ e. D.count disk ≤ D.count e.0) }
-    ensures fault { IfErr result (λ e. e.1 ≡ NoLog.Fault NodeOpenFault.DiskFault → Rose (D.count disk) (D.count e.0)) }
-    ensures limit { MatchResult result (λ l. D.limit (disk_of l.journal) ≡ D.limit disk) (λ e. D.limit e.0 ≡ D.limit disk) }
+    ensures later { MatchResult result
+        (λ l. D.count disk ≤ D.count (disk_of l.journal)) (λ e. D.count disk ≤ D.count e.0) }
+    ensures fault { IfErr result (λ e. e.1 ≡ NoLog.Fault NodeOpenFault.DiskFault
+        → Rose (D.count disk) (D.count e.0)) }
+    ensures limit { MatchResult result
+        (λ l. D.limit (disk_of l.journal) ≡ D.limit disk) (λ e. D.limit e.0 ≡ D.limit disk) }
 
     // Unless the disk failed, what was read is still what is read, and it changes nothing that a crash may leave.
     ensures same { MatchResult result (λ l. D.content (disk_of l.journal) ≡ D.content disk)

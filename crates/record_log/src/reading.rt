@@ -45,9 +45,9 @@ fn magic_in(bytes: &[u8]) -> Result<(&[u8], &[u8]), ReadError>
 
 // The shape with these numbers, where each is within its limit.
 fn shape_of(shards: u32, coordinators: u32, lanes: u32, batch: u32) -> Option<Shape>
-    ensures { result ≡
-        (if is_shape (record { shards = shards; coordinators = coordinators; lanes = lanes; batch = batch })
-        then Some (record { shards = shards; coordinators = coordinators; lanes = lanes; batch = batch }) else None) }
+    ensures { result ≡ (if is_shape
+        (record { shards = shards; coordinators = coordinators; lanes = lanes; batch = batch }) then Some
+        (record { shards = shards; coordinators = coordinators; lanes = lanes; batch = batch }) else None) }
 {
     Shape::new(shards, coordinators, lanes, batch).ok()
 }

@@ -1,7 +1,7 @@
 // Writing a record.
 ghost use Rattle.std.specs.Prelude.{◌≡◌, ◌++◌, ◌+◌, ◌<◌, ◌≤◌, length, OnOk, OnErr};
 ghost use Rattle.std.specs.Vec.{vec_len, vec_capacity};
-ghost use Rattle.byte_fields.specs.Records.{batch};
+ghost use Rattle.byte_fields.specs.Records.{batch_bytes};
 ghost use Rattle.record_log.specs.Bodies.{magic, header_bytes, head, body_of};
 
 use crate::measure::length_of_body;
@@ -46,9 +46,11 @@ fn put_head(out: &mut Vec<u8>, kind: u8, stamp: u64) -> Result<(), AllocError>
 
 // The head of a record of a batch.
 fn put_batch(out: &mut Vec<u8>, kind: u8, stamp: u64, b: &BatchId) -> Result<(), AllocError>
-    ensures ok { OnOk result (out.new.items ≡ out.old.items ++ (head kind stamp ++ batch b.now)) }
-    ensures len { OnOk result (vec_len out.new ≡ vec_len out.old + length (head kind stamp ++ batch b.now)) }
-    ensures full { OnErr result (vec_capacity out.old < vec_len out.old + length (head kind stamp ++ batch b.now)) }
+    ensures ok { OnOk result (out.new.items ≡ out.old.items ++ (head kind stamp ++ batch_bytes b.now)) }
+    ensures len { OnOk result (vec_len out.new
+        ≡ vec_len out.old + length (head kind stamp ++ batch_bytes b.now)) }
+    ensures full { OnErr result (vec_capacity out.old
+        < vec_len out.old + length (head kind stamp ++ batch_bytes b.now)) }
     ensures capacity { vec_capacity out.old ≤ vec_capacity out.new }
 {
     put_head(out, kind, stamp)?;

@@ -8,7 +8,7 @@ use Rattle.cbdc_types.specs.declared.calls.NodeFault.{NodeFault}
 use Rattle.cbdc_model.specs.Slots.{Idle, InPrepare}
 use Rattle.cbdc_model.specs.Records.{Shape, Batch, same_batch, Compact, Entry, Outcome, Record, record_of, outcomes_in, outcomes_of, Commit, Discard, Done}
 use Rattle.cbdc_model.specs.Sights.{Sight}
-use Rattle.lane_laws.specs.Calls.{AreParts, AreLocks, lock_of}
+use Rattle.lane_laws.specs.Calls.{AreParts, AreLocks, lock_call_of}
 use Rattle.lane_laws.specs.Traces.{ToldDiscarded, ToldCommitted, ToldPrepared, DiscardedStopped, CommittedStopped, PreparedStopped}
 use Rattle.lane_laws.specs.Batches.{own}
 use Rattle.lane_laws.specs.Resuming.{IsTakenUp, IsLeft}
@@ -56,7 +56,7 @@ module _ (K : Shape) (alone : Bool) (o : OpenLane) (log log' : Sight) (I J : ℕ
       ∙ ap (λ L. record_of 7 L o.batch) (r.rest.log_own ∙ ap (λ L. Done r.rest.ended o.batch ∷ Discard r.rest.discarded o.batch ∷ L) r.commit.own_is)
       ∙ commit_below o.batch r.rest.ended r.rest.discarded r.committed os (own o.batch.lane log.seen)))
 
-  module _ (locks : List (ℕ × LockCall)) (locks_are : locks ≡ map (lock_of o.batch o.stamp) parts) where
+  module _ (locks : List (ℕ × LockCall)) (locks_are : locks ≡ map (lock_call_of o.batch o.stamp) parts) where
     own_locks : AreLocks K o.txs o.batch o.stamp locks
     own_locks = subst (λ cs. AreLocks K o.txs o.batch o.stamp cs) (sym locks_are) (are_locks K o.txs o.batch o.stamp parts own_parts)
 
@@ -73,9 +73,9 @@ pub told_left : (K : Shape) (alone : Bool) (o : OpenLane) (parts : List (ℕ × 
     → IsBatchUnfinished p K o old.home old.shards → IsLeft K alone o.batch old.home old.shards new.home new.shards n f
 told_left K alone o parts are old new n f Prepared told h = leaves_prepared K alone o.batch o.txs o.stamp old.home new.home old.shards new.shards 0 parts n f h are told
 told_left K alone o parts are old new n f Committed told h =
-    leaves_committed K alone o.batch o.txs h.0 old.home new.home old.shards new.shards o.stamp o.stamp o.outcomes 0 (map (lock_of o.batch o.stamp) parts) n f h.1 (are_locks K o.txs o.batch o.stamp parts are) told
+    leaves_committed K alone o.batch o.txs h.0 old.home new.home old.shards new.shards o.stamp o.stamp o.outcomes 0 (map (lock_call_of o.batch o.stamp) parts) n f h.1 (are_locks K o.txs o.batch o.stamp parts are) told
 told_left K alone o parts are old new n f Discarded told h =
-    leaves_discarded K alone o.batch o.txs h.0 old.home new.home old.shards new.shards o.stamp o.stamp 0 (map (lock_of o.batch o.stamp) parts) n f h.1 (are_locks K o.txs o.batch o.stamp parts are) told
+    leaves_discarded K alone o.batch o.txs h.0 old.home new.home old.shards new.shards o.stamp o.stamp 0 (map (lock_call_of o.batch o.stamp) parts) n f h.1 (are_locks K o.txs o.batch o.stamp parts are) told
 
 -- how it stopped, from the phase in which it stood
 module _ (K : Shape) (alone : Bool) (o : OpenLane) (parts : List (ℕ × List Entry)) (are : AreParts K o.txs parts) (old new : LaneSights) (e : Stop) where
@@ -94,7 +94,7 @@ module _ (K : Shape) (alone : Bool) (o : OpenLane) (parts : List (ℕ × List En
     want = λ w. (phase, stop.want w);
   }
 
-  module _ (locks : List (ℕ × LockCall)) (locks_are : locks ≡ map (lock_of o.batch o.stamp) parts) where
+  module _ (locks : List (ℕ × LockCall)) (locks_are : locks ≡ map (lock_call_of o.batch o.stamp) parts) where
     pub committed_from : (os : List Outcome) → os ≡ o.outcomes → o.phase ≡ Committed → IsStop K new (CommittedStopped K alone o.batch o.stamp os 0 locks old.home new.home old.shards new.shards) TakesNone e → StopsFrom
     committed_from os os_are phase stop = record {
       told_so = subst (λ p. IsToldFrom p K alone o parts old new e.node e.fault) (sym phase)

@@ -11,7 +11,7 @@ use Rattle.cbdc_model.specs.Records.{Shape, Entry, Record, outcomes_of}
 use Rattle.cbdc_model.specs.Lanes.{IsEnd}
 use Rattle.cbdc_model.specs.Sights.{Sight}
 use Rattle.cbdc_types.specs.declared.calls.NodeFault.{NodeFault}
-use Rattle.lane_laws.specs.Calls.{AreParts, lock_of}
+use Rattle.lane_laws.specs.Calls.{AreParts, lock_call_of}
 use Rattle.lane_laws.specs.Traces.{DiscardedStopped, CommittedStopped, PreparedStopped}
 use Rattle.lane_laws.specs.Resuming.{IsPreparedAt, IsCommittedAt, IsDiscardedAt, IsTakenUp, IsLeft}
 use Rattle.lane_driver.specs.declared.fault.LaneFault.{LaneFault}
@@ -108,9 +108,9 @@ IsResumeStopped K alone o log I log' J e = IsBatchUnfinished o.phase K o log I �
 abbrev pub IsToldFrom : OpenPhase → Shape → Bool → OpenLane → List (ℕ × List Entry) → LaneSights → LaneSights → ℕ → NodeFault → Type 0
 IsToldFrom Prepared K alone o parts old new n f = PreparedStopped K alone o.batch o.stamp 0 parts old.home new.home old.shards new.shards n f
 IsToldFrom Committed K alone o parts old new n f =
-    CommittedStopped K alone o.batch o.stamp o.outcomes 0 (map (lock_of o.batch o.stamp) parts) old.home new.home old.shards new.shards n f
+    CommittedStopped K alone o.batch o.stamp o.outcomes 0 (map (lock_call_of o.batch o.stamp) parts) old.home new.home old.shards new.shards n f
 IsToldFrom Discarded K alone o parts old new n f =
-    DiscardedStopped K alone o.batch o.stamp 0 (map (lock_of o.batch o.stamp) parts) old.home new.home old.shards new.shards n f
+    DiscardedStopped K alone o.batch o.stamp 0 (map (lock_call_of o.batch o.stamp) parts) old.home new.home old.shards new.shards n f
 
 -- it was prepared, and memory ran out at the Lock of this shard, with nothing asked behind the Locks
 abbrev pub TakesAtLock : Shape → Bool → OpenLane → List (ℕ × List Entry) → LaneSights → LaneSights → ℕ → Type 0

@@ -15,7 +15,7 @@ use Rattle.ledger_laws.proofs.Cuts.{cut, end_trans, seen_grows}
 use Rattle.ledger_laws.proofs.LaneLaws.{local_law}
 use Rattle.run_laws.specs.Laws.{LongerLaw, CountedLaw}
 use Rattle.run_laws.specs.LocksDue.{opened}
-use Rattle.run_laws.specs.Worlds.{counted}
+use Rattle.run_laws.specs.Worlds.{with_flights}
 use Rattle.ledger_laws.proofs.Openings.{Opened, open_all}
 
 pub longer_law : LongerLaw
@@ -68,7 +68,7 @@ same_journal w n = elim (place w n) [ inside e ↦ ap (λ u. u.journal) e | beyo
 same_flight : (w : World) (n : ℕ) → (node_at (all_up w) n).flight ≡ (node_at w n).flight
 same_flight w n = elim (place w n) [ inside e ↦ ap (λ u. u.flight) e | beyond e f ↦ ap (λ u. u.flight) e ∙ sym (ap (λ u. u.flight) f) ]
 
-same_counted : (counts : ℕ → Bool) (w : World) (n : ℕ) → opened counts (all_up w) n ≡ counted counts w n
+same_counted : (counts : ℕ → Bool) (w : World) (n : ℕ) → opened counts (all_up w) n ≡ with_flights counts w n
 same_counted counts w n = elim (place w n) [
   | inside e ↦ ap (λ u. if u.up && counts n then flushed u.flight u.journal else u.journal) e
   | beyond e f ↦ ap (λ u. if u.up && counts n then flushed u.flight u.journal else u.journal) e ∙ nothing (counts n) ∙ sym (ap (λ u. if counts n then flushed u.flight u.journal else u.journal) f)
@@ -93,10 +93,10 @@ module _ (K : Shape) (mint : List Output) (subs : List FullTx) (w : World) (shar
         (subst (λ L. Next K n L r) (sym (same_journal w n)) h.0, subst (λ J. IsCaused K J n r) (λ i m. sym (same_journal w m) i) h.1, h.2, h.3);
   }
 
-  pub all_counted : (counts : ℕ → Bool) → KeptWorld K mint subs w → KeptJournals K mint subs (counted counts w)
+  pub all_counted : (counts : ℕ → Bool) → KeptWorld K mint subs w → KeptJournals K mint subs (with_flights counts w)
   all_counted counts kept = by_opened (open_all K (minted mint) P shards counts (all_up w) (steady_up (to_steady K mint subs w kept)) (up_length w ∙ kept.size))
     where
-      by_opened : (v : World) × Opened K (minted mint) P shards counts (all_up w) v → KeptJournals K mint subs (counted counts w)
+      by_opened : (v : World) × Opened K (minted mint) P shards counts (all_up w) v → KeptJournals K mint subs (with_flights counts w)
       by_opened (v, o) = subst (λ J. KeptJournals K mint subs J) (λ i n. (o.journals_are n ∙ same_counted counts w n) i) (to_kept K mint subs v o.is_quiet.size o.is_quiet.kept).journals_kept
 
 pub counted_law : CountedLaw

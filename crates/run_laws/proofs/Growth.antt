@@ -17,7 +17,7 @@ use Rattle.ledger_laws.proofs.Lookups.{true_false}
 use Rattle.ledger_laws.proofs.Moves.{not_empty, all_structure, all_more}
 use Rattle.ledger_laws.proofs.Recovered.{all_dones, done_forgot}
 use Rattle.ledger_laws.proofs.Cuts.{end_self}
-use Rattle.run_laws.specs.Ample.{records_of, at_coordinator, at_shard, unwritten}
+use Rattle.run_laws.specs.Ample.{records_of, at_coordinator, coming_at_shard, unwritten}
 use Rattle.run_laws.proofs.Sums.{sum_below, sum_le}
 use Rattle.run_laws.proofs.Scales.{Scale, Fair, entries_long, commit_at, discard_at, done_at, finish_at, forget_at}
 use Rattle.run_laws.proofs.Numbers.{IsCoordSlot, IsShardSlot, lists, coord_slot, shard_slot}
@@ -170,7 +170,7 @@ module _ (K : Shape) (m : Minted) (P : Compact → Type 0) (some : 0 < K.shards)
       there_is h = not_empty (lock_of (E (shard_node K j)) shard_batch) shard_part (shard_facts.lock_part j shard_batch h) ((all_more K m P some before old (shard_node K j)).lock_some shard_batch h)
 
       behind_shard : has_lock (E (shard_node K j)) shard_batch ≡ true → has_forget (E (shard_node K j)) shard_batch ≡ false
-          → weight s (shard_node K j) (filter (not_yet E shard_batch) (at_shard (shard_node K j) shard_part)) ≤ budget K E batches s (shard_node K j) lane (slot (E (shard_node K j)) lane).number
+          → weight s (shard_node K j) (filter (not_yet E shard_batch) (coming_at_shard (shard_node K j) shard_part)) ≤ budget K E batches s (shard_node K j) lane (slot (E (shard_node K j)) lane).number
       behind_shard h none =
           let opened : IsOpenBatch shard_batch = open_there j shard_batch lt h none in
           let is : unwritten K E lane ≡ filter (not_yet E shard_batch) (records_of K lane (txs_of (E (home_of K lane)) shard_batch)) = unwritten_is K E shard_batch opened.number opened.busy in
@@ -192,7 +192,7 @@ module _ (K : Shape) (m : Minted) (P : Compact → Type 0) (some : 0 < K.shards)
             let le : s.kept InLock (length (lock_of (E (shard_node K j)) shard_batch)) (length (txs_of (E (shard_node K j)) shard_batch)) ≤ s.coming (finish_at (shard_node K j) (length (lock_of (E (shard_node K j)) shard_batch))) + s.coming (forget_at (shard_node K j))
             = fair.locked (shard_node K j) (length (lock_of (E (shard_node K j)) shard_batch)) (length (txs_of (E (shard_node K j)) shard_batch)) in
             let long : length (lock_of (E (shard_node K j)) shard_batch) ≡ length shard_part = sym (entries_long (lock_of (E (shard_node K j)) shard_batch)) ∙ ap length (shard_facts.lock_part j shard_batch locked.0) in
-            let there : s.coming (finish_at (shard_node K j) (length shard_part)) + s.coming (forget_at (shard_node K j)) ≤ weight s (shard_node K j) (filter (not_yet E shard_batch) (at_shard (shard_node K j) shard_part))
+            let there : s.coming (finish_at (shard_node K j) (length shard_part)) + s.coming (forget_at (shard_node K j)) ≤ weight s (shard_node K j) (filter (not_yet E shard_batch) (coming_at_shard (shard_node K j) shard_part))
             = from_finish s (shard_node K j) (not_yet E shard_batch) shard_part (there_is locked.0) (not_there E shard_batch (finish_at (shard_node K j) (length shard_part)) locked.1) (not_there E shard_batch (forget_at (shard_node K j)) none) in
             let size : s.coming (finish_at (shard_node K j) (length (lock_of (E (shard_node K j)) shard_batch))) ≡ s.coming (finish_at (shard_node K j) (length shard_part)) = ap (λ k. s.coming (finish_at (shard_node K j) k)) long in
             omega (arith, room, le, size, there, behind_shard locked.0 none)
@@ -202,7 +202,7 @@ module _ (K : Shape) (m : Minted) (P : Compact → Type 0) (some : 0 < K.shards)
             = kept_in s (E (shard_node K j)) shard_batch InFinish (slot_parts s (E (shard_node K j)) shard_batch InFinish e refl) in
             let le : s.kept InFinish (length (lock_of (E (shard_node K j)) shard_batch)) (length (txs_of (E (shard_node K j)) shard_batch)) ≤ s.coming (forget_at (shard_node K j))
             = fair.finished (shard_node K j) (length (lock_of (E (shard_node K j)) shard_batch)) (length (txs_of (E (shard_node K j)) shard_batch)) in
-            let there : s.coming (forget_at (shard_node K j)) ≤ weight s (shard_node K j) (filter (not_yet E shard_batch) (at_shard (shard_node K j) shard_part))
+            let there : s.coming (forget_at (shard_node K j)) ≤ weight s (shard_node K j) (filter (not_yet E shard_batch) (coming_at_shard (shard_node K j) shard_part))
             = from_forget s (shard_node K j) (not_yet E shard_batch) shard_part (there_is locked.0) (not_there E shard_batch (forget_at (shard_node K j)) locked.1) in
             omega (arith, room, le, there, behind_shard locked.0 locked.1)
       ] refl (shard_slot K m P some before old (shard_node K j) lane (omega arith) (E (shard_node K j)) (begins (shard_node K j)) (end_self (E (shard_node K j))))

@@ -18,7 +18,7 @@ use Rattle.ledger_laws.proofs.Standing.{standing}
 use Rattle.ledger_laws.proofs.Recovered.{all_dones, all_phases}
 use Rattle.ledger_laws.proofs.Ledger.{steady}
 use Rattle.run_laws.proofs.LastRecords.{commit_stands}
-use Rattle.run_laws.specs.Placing.{sent_of_all, tx_at, IsPlaced, PlaceLaw}
+use Rattle.run_laws.specs.Placing.{sent_of_all, tx_at, IsTxPlaced, PlaceLaw}
 use Rattle.run_laws.proofs.Sharing.{joined, cut_joined, Told, told_in, txs_all, size_told, prepared_told, sized_told, LiesIn, lies_in, place_found}
 use Rattle.run_laws.proofs.Told.{AllTold, told_middle, told_reversed, all_told, txs_reversed}
 use Rattle.run_laws.proofs.FreeReplies.{outcome_of_place}
@@ -118,7 +118,7 @@ module _ (K : Shape) (minting : Minted) (P : Compact → Type 0) (some : 0 < K.s
         = found_at K minting P some old new kept kept' (home_of K lane) 6 c newer (back ++ I (home_of K lane)) (Prepare stamp c txs) is (back, refl) (test_itself 6 c) in
         (number_is c.lane lane l, ap txs_in found, ap is_some found)
 
-    pub placed : (q : ℕ) (t : Compact) → tx_at (sent_of_all K sound files lane) q ≡ Some t → IsPlaced lane q t more (J (home_of K lane))
+    pub placed : (q : ℕ) (t : Compact) → tx_at (sent_of_all K sound files lane) q ≡ Some t → IsTxPlaced lane q t more (J (home_of K lane))
     placed q t e =
         let a = around (sent_of_all K sound files lane) q t e in
         let l : LiesIn told a.first t a.last = lies_in told a.first t a.last (joined_told ∙ a.parts) in
@@ -147,17 +147,17 @@ module _ (K : Shape) (minting : Minted) (P : Compact → Type 0) (some : 0 < K.s
     none_past q le = ap (λ ss. place_of ss q) sizes ∙ past_all told q (subst (λ ts. length ts ≤ q) (sym joined_told) le)
 
   pub places : AreIdle K I → AreFilesRun K sound files I J → J (home_of K lane) ≡ more ++ I (home_of K lane)
-      → ((q : ℕ) (t : Compact) → tx_at (sent_of_all K sound files lane) q ≡ Some t → IsPlaced lane q t more (J (home_of K lane)))
+      → ((q : ℕ) (t : Compact) → tx_at (sent_of_all K sound files lane) q ≡ Some t → IsTxPlaced lane q t more (J (home_of K lane)))
       × ((q : ℕ) → length (sent_of_all K sound files lane) ≤ q → place_of (sized_onto lane more []) q ≡ None)
   places idle run grown = (placed idle run grown, none_past idle run grown)
 
 pub place_law : PlaceLaw
 place_law K mint submissions sound files lane I J more some lt kept kept' idle run grown =
     subst (λ Y. AreFilesRun K sound files I Y → Y (home_of K lane) ≡ more ++ I (home_of K lane)
-    → ((q : ℕ) (t : Compact) → tx_at (sent_of_all K sound files lane) q ≡ Some t → IsPlaced lane q t more (Y (home_of K lane)))
+    → ((q : ℕ) (t : Compact) → tx_at (sent_of_all K sound files lane) q ≡ Some t → IsTxPlaced lane q t more (Y (home_of K lane)))
     × ((q : ℕ) → length (sent_of_all K sound files lane) ≤ q → place_of (sized_onto lane more []) q ≡ None)) (λ i n. kept'.history.journals_are n i)
     (subst (λ X. AreIdle K X → AreFilesRun K sound files X (journals_of kept'.later) → journals_of kept'.later (home_of K lane) ≡ more ++ X (home_of K lane)
-    → ((q : ℕ) (t : Compact) → tx_at (sent_of_all K sound files lane) q ≡ Some t → IsPlaced lane q t more (journals_of kept'.later (home_of K lane)))
+    → ((q : ℕ) (t : Compact) → tx_at (sent_of_all K sound files lane) q ≡ Some t → IsTxPlaced lane q t more (journals_of kept'.later (home_of K lane)))
     × ((q : ℕ) → length (sent_of_all K sound files lane) ≤ q → place_of (sized_onto lane more []) q ≡ None)) (λ i n. kept.history.journals_are n i)
     (places K (minted mint) (IsProperCompact submissions) some kept.later kept'.later
     (steady K (minted mint) (IsProperCompact submissions) kept.later kept.kept) (steady K (minted mint) (IsProperCompact submissions) kept'.later kept'.kept) sound files lane lt more) idle)

@@ -19,7 +19,7 @@ use Rattle.ledger_laws.proofs.Finds.{stands, replaced_away}
 use Rattle.ledger_laws.proofs.Cuts.{end_trans, cut}
 use Rattle.run_laws.proofs.LastRecords.{prepare_stands}
 use Rattle.run_laws.proofs.NewRecords.{in_journal, still_found}
-use Rattle.run_laws.specs.Ample.{Coming, records_of, at_shard, unwritten}
+use Rattle.run_laws.specs.Ample.{Coming, records_of, coming_at_shard, unwritten}
 use Rattle.run_laws.proofs.Sums.{total, sum_below, sum_moves}
 use Rattle.run_laws.proofs.Scales.{Scale, Fair, lock_at, finish_at, forget_at}
 use Rattle.run_laws.proofs.Numbers.{Fine, Piece, lists, further, fine, found_in, piece_there}
@@ -109,9 +109,9 @@ module _ (K : Shape) (m : Minted) (P : Compact → Type 0) (some : 0 < K.shards)
           let opened : IsOpenBatch K m P some lanes before old b = open_where K m P some lanes before old j b prep c no_forget in
           let is = unwritten_is K E b opened.number opened.busy in
           let still : weight s lock_node (unwritten K E b.lane) ≡ weight s lock_node (filter_of (records_of K b.lane txs)) = ap (weight s lock_node) (is ∙ ap (λ ts. filter_of (records_of K b.lane ts)) held) in
-          let own : s.coming (lock_at lock_node entries_here) + (s.coming (finish_at lock_node (length entries_here)) + s.coming (forget_at lock_node)) ≤ weight s lock_node (filter_of (at_shard lock_node entries_here))
+          let own : s.coming (lock_at lock_node entries_here) + (s.coming (finish_at lock_node (length entries_here)) + s.coming (forget_at lock_node)) ≤ weight s lock_node (filter_of (coming_at_shard lock_node entries_here))
           = from_lock s lock_node (not_yet E b) entries_here concerned (not_there E b (lock_at lock_node entries_here) (not_true _ no_lock)) (not_there E b (finish_at lock_node (length entries_here)) (not_true _ no_finish)) (not_there E b (forget_at lock_node) (not_true _ no_forget)) in
-          let inside : weight s lock_node (filter_of (at_shard lock_node entries_here)) ≤ weight s lock_node (filter_of (records_of K b.lane txs)) = kept_shard s lock_node K b.lane txs (not_yet E b) j lt in
+          let inside : weight s lock_node (filter_of (coming_at_shard lock_node entries_here)) ≤ weight s lock_node (filter_of (records_of K b.lane txs)) = kept_shard s lock_node K b.lane txs (not_yet E b) j lt in
           let opens : B lock_node b.lane (slot V b.lane).number + weight s lock_node (unwritten K E b.lane) ≤ B lock_node b.lane b.number
           = budget_open K E batches s lock_node b.lane (slot V b.lane).number b.number (omega (arith, low, opened.number)) (omega (arith, opened.number)) in
           omega (arith, still, own, inside, opens)

@@ -21,7 +21,7 @@ use Rattle.ledger_laws.proofs.Phases.{in_order}
 use Rattle.ledger_laws.proofs.Found.{found_grammar}
 use Rattle.ledger_laws.proofs.Writing.{AllLocked, Open, begin-append}
 use Rattle.ledger_laws.proofs.LanePhases.{Rests, lanes_rest}
-use Rattle.run_laws.specs.Laws.{late_records, RecoveryLaw, StuckLaw}
+use Rattle.run_laws.specs.Laws.{late_records, WorldRecoveryLaw, StuckLaw}
 use Rattle.run_laws.specs.LocksDue.{opened, lacks_lock, LocksFit, IsStuck, IsLock, BeginsLock, BeginLocks, Sticks}
 use Rattle.run_laws.proofs.Few.{low, few_enough}
 use Rattle.ledger_laws.proofs.Openings.{IsQuiet, Opened, open_all}
@@ -182,7 +182,7 @@ module _ (K : Shape) (mint : List Output) (txs : List FullTx) (limits : IsWithin
     recovers_or_sticks : Recovers K mint txs kept_at w ⊎ Sticks K mint txs kept_at w
     recovers_or_sticks = either (locks_written (λ u. Unit {0}) (λ v u s lane ls ll l step i. tt) v o tt)
 
-pub recovery_law : RecoveryLaw
+pub recovery_law : WorldRecoveryLaw
 recovery_law K mint txs w kept_at limits kept fit =
     let o = opening K mint txs limits kept_at w kept in
     recovers_fitting K mint txs limits kept_at w kept o.0 o.1 fit

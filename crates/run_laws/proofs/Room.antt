@@ -21,7 +21,7 @@ use Rattle.ledger_laws.proofs.Moves.{greatest_bound}
 use Rattle.ledger_laws.proofs.Cuts.{end_self, end_trans}
 use Rattle.run_laws.proofs.Checked.{Any, rows_of}
 use Rattle.run_laws.specs.Ample.{Coming, Ample, AreCut, records_of, unwritten, still_to_come, bytes_at}
-use Rattle.run_laws.specs.Enough.{HasLeft, HasRoom, PrepareRoomLaw, LockRoomLaw, KeptRoomLaw, IdleRoomLaw}
+use Rattle.run_laws.specs.Enough.{HasBatchesLeft, HasRoom, PrepareRoomLaw, LockRoomLaw, KeptRoomLaw, IdleRoomLaw}
 use Rattle.run_laws.proofs.Sums.{total, total_is, sum_below, sum_le, sum_more, sum_add, one_at, once_below}
 use Rattle.run_laws.proofs.Scales.{Scale, Fair, bytes, bytes_fair, ones, ones_fair, lock_at, finish_at, forget_at}
 use Rattle.run_laws.proofs.Numbers.{lists, number_is, number_grows}
@@ -127,11 +127,11 @@ module _ (K : Shape) (m : Minted) (sound : FullTx → Bool) (capacity : ℕ → 
         omega (arith, kept, cover, top, all_still bytes n, bytes_still n, a.room n inside)
 
     module _ (after : List Row) (new : Steady K m Any after) (grows : (n : ℕ) → IsEnd (E n) (journal n (after ++ first_rows K m)))
-        (underway : (lane : ℕ) → lane < K.coordinators * K.lanes → (left : List (List Compact)) × HasLeft K sound files E (λ n. journal n (after ++ first_rows K m)) lane left) where
+        (underway : (lane : ℕ) → lane < K.coordinators * K.lanes → (left : List (List Compact)) × HasBatchesLeft K sound files E (λ n. journal n (after ++ first_rows K m)) lane left) where
       abbrev X : ℕ → List Record
       X n = journal n (after ++ first_rows K m)
 
-      batches_are : (lane : ℕ) → lane < K.coordinators * K.lanes → (left : List (List Compact)) → (h : HasLeft K sound files E X lane left) → a.batches lane ≡ h.done ++ left
+      batches_are : (lane : ℕ) → lane < K.coordinators * K.lanes → (left : List (List Compact)) → (h : HasBatchesLeft K sound files E X lane left) → a.batches lane ≡ h.done ++ left
       batches_are lane lt left h = are_cut_once K sound files lane (a.batches lane) (h.done ++ left) (a.cut lane lt) h.cut
 
       plan : (lane : ℕ) → lane < K.coordinators * K.lanes → IsPlan K m Any some lanes before after old new grows a.batches lane
@@ -173,7 +173,7 @@ module _ (K : Shape) (m : Minted) (sound : FullTx → Bool) (capacity : ℕ → 
 
       -- ---- a Prepare
 
-      module _ (lane : ℕ) (txs : List Compact) (left : List (List Compact)) (front : List Record) (lt : lane < K.coordinators * K.lanes) (has : HasLeft K sound files E X lane (txs ∷ left))
+      module _ (lane : ℕ) (txs : List Compact) (left : List (List Compact)) (front : List Record) (lt : lane < K.coordinators * K.lanes) (has : HasBatchesLeft K sound files E X lane (txs ∷ left))
           (h : IsEnd (E (home_of K lane)) front) (v : IsEnd front (X (home_of K lane))) where
         abbrev prepare_node : ℕ
         prepare_node = home_of K lane
@@ -305,12 +305,12 @@ kept_room_law K m sound capacity files E n limits a c inside =
 
 pub prepare_room_law : PrepareRoomLaw
 prepare_room_law K m sound capacity files E X lane txs left front limits a way lt has h v =
-    subst (λ e. Ample K sound capacity files e → ((n : ℕ) → IsEnd (e n) (X n)) → ((lane : ℕ) → lane < K.coordinators * K.lanes → (left : List (List Compact)) × HasLeft K sound files e X lane left)
-    → HasLeft K sound files e X lane (txs ∷ left) → IsEnd (e (home_of K lane)) front → IsEnd front (X (home_of K lane)) → HasRoom K capacity (home_of K lane) front (prepare_record front lane txs))
+    subst (λ e. Ample K sound capacity files e → ((n : ℕ) → IsEnd (e n) (X n)) → ((lane : ℕ) → lane < K.coordinators * K.lanes → (left : List (List Compact)) × HasBatchesLeft K sound files e X lane left)
+    → HasBatchesLeft K sound files e X lane (txs ∷ left) → IsEnd (e (home_of K lane)) front → IsEnd front (X (home_of K lane)) → HasRoom K capacity (home_of K lane) front (prepare_record front lane txs))
     (λ i k. way.old.history.journals_are k i)
     (subst (λ x. Ample K sound capacity files (λ k. journal k (way.old.later ++ first_rows K m)) → ((n : ℕ) → IsEnd (journal n (way.old.later ++ first_rows K m)) (x n))
-    → ((lane : ℕ) → lane < K.coordinators * K.lanes → (left : List (List Compact)) × HasLeft K sound files (λ k. journal k (way.old.later ++ first_rows K m)) x lane left)
-    → HasLeft K sound files (λ k. journal k (way.old.later ++ first_rows K m)) x lane (txs ∷ left)
+    → ((lane : ℕ) → lane < K.coordinators * K.lanes → (left : List (List Compact)) × HasBatchesLeft K sound files (λ k. journal k (way.old.later ++ first_rows K m)) x lane left)
+    → HasBatchesLeft K sound files (λ k. journal k (way.old.later ++ first_rows K m)) x lane (txs ∷ left)
     → IsEnd (journal (home_of K lane) (way.old.later ++ first_rows K m)) front → IsEnd front (x (home_of K lane)) → HasRoom K capacity (home_of K lane) front (prepare_record front lane txs))
     (λ i k. way.new.history.journals_are k i)
     (λ a grows under has h v. prepare_core K m sound capacity files limits way.old.later (rows_of K m E way.old) a way.new.later (rows_of K m X way.new) grows under lane txs left front lt has h v))
@@ -318,12 +318,12 @@ prepare_room_law K m sound capacity files E X lane txs left front limits a way l
 
 pub lock_room_law : LockRoomLaw
 lock_room_law K m sound capacity files E X b t txs s front limits a way lt found concerned low h v =
-    subst (λ e. Ample K sound capacity files e → ((n : ℕ) → IsEnd (e n) (X n)) → ((lane : ℕ) → lane < K.coordinators * K.lanes → (left : List (List Compact)) × HasLeft K sound files e X lane left)
+    subst (λ e. Ample K sound capacity files e → ((n : ℕ) → IsEnd (e n) (X n)) → ((lane : ℕ) → lane < K.coordinators * K.lanes → (left : List (List Compact)) × HasBatchesLeft K sound files e X lane left)
     → record_of 6 (X (home_of K b.lane)) b ≡ Some (Prepare t b txs) → (slot (X (shard_node K s)) b.lane).number < b.number → IsEnd (e (shard_node K s)) front → IsEnd front (X (shard_node K s))
     → HasRoom K capacity (shard_node K s) front (lock_record front (record { batch = b; part = part K.shards s 0 txs; cause = t })))
     (λ i k. way.old.history.journals_are k i)
     (subst (λ x. Ample K sound capacity files (λ k. journal k (way.old.later ++ first_rows K m)) → ((n : ℕ) → IsEnd (journal n (way.old.later ++ first_rows K m)) (x n))
-    → ((lane : ℕ) → lane < K.coordinators * K.lanes → (left : List (List Compact)) × HasLeft K sound files (λ k. journal k (way.old.later ++ first_rows K m)) x lane left)
+    → ((lane : ℕ) → lane < K.coordinators * K.lanes → (left : List (List Compact)) × HasBatchesLeft K sound files (λ k. journal k (way.old.later ++ first_rows K m)) x lane left)
     → record_of 6 (x (home_of K b.lane)) b ≡ Some (Prepare t b txs) → (slot (x (shard_node K s)) b.lane).number < b.number → IsEnd (journal (shard_node K s) (way.old.later ++ first_rows K m)) front → IsEnd front (x (shard_node K s))
     → HasRoom K capacity (shard_node K s) front (lock_record front (record { batch = b; part = part K.shards s 0 txs; cause = t })))
     (λ i k. way.new.history.journals_are k i)

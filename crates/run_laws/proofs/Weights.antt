@@ -4,7 +4,7 @@ use Rattle.std.specs.List.{filter, flat_map, range_with_len}
 use Rattle.std.proofs.lemmas.List.Elements.{filter-append}
 use Rattle.cbdc_model.specs.Records.{Shape, Compact, Entry}
 use Rattle.cbdc_model.specs.Ranges.{home_of, shard_node, part, is_no_part}
-use Rattle.run_laws.specs.Ample.{Coming, at_coordinator, at_shard, records_of}
+use Rattle.run_laws.specs.Ample.{Coming, at_coordinator, coming_at_shard, records_of}
 use Rattle.run_laws.proofs.Sums.{total, total-append, total_flat, total_range, filter_flat, sum_below, sum_one}
 use Rattle.run_laws.proofs.Scales.{Scale, prepare_at, commit_at, discard_at, done_at, lock_at, finish_at, forget_at}
 use Rattle.run_laws.proofs.Numbers.{same_number}
@@ -67,63 +67,63 @@ module _ (s : Scale) (n : ℕ) where
 
     pub home_in_records : weight (at_coordinator K lane txs) ≤ weight (records_of K lane txs)
     home_in_records =
-        let both : weight (records_of K lane txs) ≡ weight (at_coordinator K lane txs) + weight (flat_map (λ j. at_shard (shard_node K j) (part K.shards j 0 txs)) (range_with_len 0 K.shards))
-        = weight-append (at_coordinator K lane txs) (flat_map (λ j. at_shard (shard_node K j) (part K.shards j 0 txs)) (range_with_len 0 K.shards)) in
+        let both : weight (records_of K lane txs) ≡ weight (at_coordinator K lane txs) + weight (flat_map (λ j. coming_at_shard (shard_node K j) (part K.shards j 0 txs)) (range_with_len 0 K.shards))
+        = weight-append (at_coordinator K lane txs) (flat_map (λ j. coming_at_shard (shard_node K j) (part K.shards j 0 txs)) (range_with_len 0 K.shards)) in
         omega (arith, both)
 
     pub kept_home : (p : Coming → Bool) → weight (filter p (at_coordinator K lane txs)) ≤ weight (filter p (records_of K lane txs))
     kept_home p =
-        let parts : filter p (records_of K lane txs) ≡ filter p (at_coordinator K lane txs) ++ filter p (flat_map (λ j. at_shard (shard_node K j) (part K.shards j 0 txs)) (range_with_len 0 K.shards))
-        = filter-append p (at_coordinator K lane txs) (flat_map (λ j. at_shard (shard_node K j) (part K.shards j 0 txs)) (range_with_len 0 K.shards)) in
-        let both : weight (filter p (records_of K lane txs)) ≡ weight (filter p (at_coordinator K lane txs)) + weight (filter p (flat_map (λ j. at_shard (shard_node K j) (part K.shards j 0 txs)) (range_with_len 0 K.shards)))
-        = ap weight parts ∙ weight-append (filter p (at_coordinator K lane txs)) (filter p (flat_map (λ j. at_shard (shard_node K j) (part K.shards j 0 txs)) (range_with_len 0 K.shards))) in
+        let parts : filter p (records_of K lane txs) ≡ filter p (at_coordinator K lane txs) ++ filter p (flat_map (λ j. coming_at_shard (shard_node K j) (part K.shards j 0 txs)) (range_with_len 0 K.shards))
+        = filter-append p (at_coordinator K lane txs) (flat_map (λ j. coming_at_shard (shard_node K j) (part K.shards j 0 txs)) (range_with_len 0 K.shards)) in
+        let both : weight (filter p (records_of K lane txs)) ≡ weight (filter p (at_coordinator K lane txs)) + weight (filter p (flat_map (λ j. coming_at_shard (shard_node K j) (part K.shards j 0 txs)) (range_with_len 0 K.shards)))
+        = ap weight parts ∙ weight-append (filter p (at_coordinator K lane txs)) (filter p (flat_map (λ j. coming_at_shard (shard_node K j) (part K.shards j 0 txs)) (range_with_len 0 K.shards))) in
         omega (arith, both)
 
-    pub kept_shard : (p : Coming → Bool) (j : ℕ) → j < K.shards → weight (filter p (at_shard (shard_node K j) (part K.shards j 0 txs))) ≤ weight (filter p (records_of K lane txs))
+    pub kept_shard : (p : Coming → Bool) (j : ℕ) → j < K.shards → weight (filter p (coming_at_shard (shard_node K j) (part K.shards j 0 txs))) ≤ weight (filter p (records_of K lane txs))
     kept_shard p j lt =
-        let parts : filter p (records_of K lane txs) ≡ filter p (at_coordinator K lane txs) ++ filter p (flat_map (λ j. at_shard (shard_node K j) (part K.shards j 0 txs)) (range_with_len 0 K.shards))
-        = filter-append p (at_coordinator K lane txs) (flat_map (λ j. at_shard (shard_node K j) (part K.shards j 0 txs)) (range_with_len 0 K.shards)) in
-        let both : weight (filter p (records_of K lane txs)) ≡ weight (filter p (at_coordinator K lane txs)) + weight (filter p (flat_map (λ j. at_shard (shard_node K j) (part K.shards j 0 txs)) (range_with_len 0 K.shards)))
-        = ap weight parts ∙ weight-append (filter p (at_coordinator K lane txs)) (filter p (flat_map (λ j. at_shard (shard_node K j) (part K.shards j 0 txs)) (range_with_len 0 K.shards))) in
-        omega (arith, both, kept_range p (λ j. at_shard (shard_node K j) (part K.shards j 0 txs)) j K.shards lt)
+        let parts : filter p (records_of K lane txs) ≡ filter p (at_coordinator K lane txs) ++ filter p (flat_map (λ j. coming_at_shard (shard_node K j) (part K.shards j 0 txs)) (range_with_len 0 K.shards))
+        = filter-append p (at_coordinator K lane txs) (flat_map (λ j. coming_at_shard (shard_node K j) (part K.shards j 0 txs)) (range_with_len 0 K.shards)) in
+        let both : weight (filter p (records_of K lane txs)) ≡ weight (filter p (at_coordinator K lane txs)) + weight (filter p (flat_map (λ j. coming_at_shard (shard_node K j) (part K.shards j 0 txs)) (range_with_len 0 K.shards)))
+        = ap weight parts ∙ weight-append (filter p (at_coordinator K lane txs)) (filter p (flat_map (λ j. coming_at_shard (shard_node K j) (part K.shards j 0 txs)) (range_with_len 0 K.shards))) in
+        omega (arith, both, kept_range p (λ j. coming_at_shard (shard_node K j) (part K.shards j 0 txs)) j K.shards lt)
 
   -- what passes at a shard with a part, and at a coordinator, behind those that have come
   module _ (p : Coming → Bool) where
     shard_from : (es : List Entry) → is_no_part es ≡ false → (p (lock_at n es) ≡ true) → (p (finish_at n (length es)) ≡ true) → p (forget_at n) ≡ true
-        → s.coming (lock_at n es) + (s.coming (finish_at n (length es)) + s.coming (forget_at n)) ≤ weight (filter p (at_shard n es))
+        → s.coming (lock_at n es) + (s.coming (finish_at n (length es)) + s.coming (forget_at n)) ≤ weight (filter p (coming_at_shard n es))
     shard_from [] some l f g = absurd (let z : true ≡ false = some in cc)
     shard_from (e ∷ es) some l f g =
         let here : (n == n) ≡ true = same_number n in
         let third : weight (filter p (forget_at n ∷ [])) ≡ s.coming (forget_at n) + weight (filter p []) = kept_here p (forget_at n) [] g here in
         let second : weight (filter p (finish_at n (length (e ∷ es)) ∷ (forget_at n ∷ []))) ≡ s.coming (finish_at n (length (e ∷ es))) + weight (filter p (forget_at n ∷ []))
         = kept_here p (finish_at n (length (e ∷ es))) (forget_at n ∷ []) f here in
-        let first : weight (filter p (at_shard n (e ∷ es))) ≡ s.coming (lock_at n (e ∷ es)) + weight (filter p (finish_at n (length (e ∷ es)) ∷ (forget_at n ∷ [])))
+        let first : weight (filter p (coming_at_shard n (e ∷ es))) ≡ s.coming (lock_at n (e ∷ es)) + weight (filter p (finish_at n (length (e ∷ es)) ∷ (forget_at n ∷ [])))
         = kept_here p (lock_at n (e ∷ es)) (finish_at n (length (e ∷ es)) ∷ (forget_at n ∷ [])) l here in
         omega (arith, first, second, third)
 
     pub from_lock : (es : List Entry) → is_no_part es ≡ false → (p (lock_at n es) ≡ true) → (p (finish_at n (length es)) ≡ true) → p (forget_at n) ≡ true
-        → s.coming (lock_at n es) + (s.coming (finish_at n (length es)) + s.coming (forget_at n)) ≤ weight (filter p (at_shard n es))
+        → s.coming (lock_at n es) + (s.coming (finish_at n (length es)) + s.coming (forget_at n)) ≤ weight (filter p (coming_at_shard n es))
     from_lock es some l f g = shard_from es some l f g
 
     pub from_finish : (es : List Entry) → is_no_part es ≡ false → p (finish_at n (length es)) ≡ true → p (forget_at n) ≡ true
-        → s.coming (finish_at n (length es)) + s.coming (forget_at n) ≤ weight (filter p (at_shard n es))
+        → s.coming (finish_at n (length es)) + s.coming (forget_at n) ≤ weight (filter p (coming_at_shard n es))
     from_finish [] some f g = absurd (let z : true ≡ false = some in cc)
     from_finish (e ∷ es) some f g =
         let here : (n == n) ≡ true = same_number n in
         let third : weight (filter p (forget_at n ∷ [])) ≡ s.coming (forget_at n) + weight (filter p []) = kept_here p (forget_at n) [] g here in
         let second : weight (filter p (finish_at n (length (e ∷ es)) ∷ (forget_at n ∷ []))) ≡ s.coming (finish_at n (length (e ∷ es))) + weight (filter p (forget_at n ∷ []))
         = kept_here p (finish_at n (length (e ∷ es))) (forget_at n ∷ []) f here in
-        let first : weight (filter p (finish_at n (length (e ∷ es)) ∷ (forget_at n ∷ []))) ≤ weight (filter p (at_shard n (e ∷ es)))
+        let first : weight (filter p (finish_at n (length (e ∷ es)) ∷ (forget_at n ∷ []))) ≤ weight (filter p (coming_at_shard n (e ∷ es)))
         = kept_on p (lock_at n (e ∷ es)) (finish_at n (length (e ∷ es)) ∷ (forget_at n ∷ [])) in
         omega (arith, first, second, third)
 
-    pub from_forget : (es : List Entry) → is_no_part es ≡ false → p (forget_at n) ≡ true → s.coming (forget_at n) ≤ weight (filter p (at_shard n es))
+    pub from_forget : (es : List Entry) → is_no_part es ≡ false → p (forget_at n) ≡ true → s.coming (forget_at n) ≤ weight (filter p (coming_at_shard n es))
     from_forget [] some g = absurd (let z : true ≡ false = some in cc)
     from_forget (e ∷ es) some g =
         let here : (n == n) ≡ true = same_number n in
         let third : weight (filter p (forget_at n ∷ [])) ≡ s.coming (forget_at n) + weight (filter p []) = kept_here p (forget_at n) [] g here in
         let second : weight (filter p (forget_at n ∷ [])) ≤ weight (filter p (finish_at n (length (e ∷ es)) ∷ (forget_at n ∷ []))) = kept_on p (finish_at n (length (e ∷ es))) (forget_at n ∷ []) in
-        let first : weight (filter p (finish_at n (length (e ∷ es)) ∷ (forget_at n ∷ []))) ≤ weight (filter p (at_shard n (e ∷ es)))
+        let first : weight (filter p (finish_at n (length (e ∷ es)) ∷ (forget_at n ∷ []))) ≤ weight (filter p (coming_at_shard n (e ∷ es)))
         = kept_on p (lock_at n (e ∷ es)) (finish_at n (length (e ∷ es)) ∷ (forget_at n ∷ [])) in
         omega (arith, first, second, third)
 
@@ -175,10 +175,10 @@ module _ (s : Scale) (n : ℕ) where
       → s.coming (lock_at n (part K.shards j 0 txs)) + (s.coming (finish_at n (length (part K.shards j 0 txs))) + s.coming (forget_at n)) ≤ weight (records_of K lane txs)
   shard_in_records K lane txs j lt e some =
       let all : (cs : List Coming) → filter (λ (c : Coming). true) cs ≡ cs = keeps_all in
-      let own : s.coming (lock_at n (part K.shards j 0 txs)) + (s.coming (finish_at n (length (part K.shards j 0 txs))) + s.coming (forget_at n)) ≤ weight (filter (λ (c : Coming). true) (at_shard n (part K.shards j 0 txs)))
+      let own : s.coming (lock_at n (part K.shards j 0 txs)) + (s.coming (finish_at n (length (part K.shards j 0 txs))) + s.coming (forget_at n)) ≤ weight (filter (λ (c : Coming). true) (coming_at_shard n (part K.shards j 0 txs)))
       = from_lock (λ (c : Coming). true) (part K.shards j 0 txs) some refl refl refl in
-      let shard : weight (filter (λ (c : Coming). true) (at_shard n (part K.shards j 0 txs))) ≤ weight (filter (λ (c : Coming). true) (records_of K lane txs))
-      = subst (λ k. weight (filter (λ (c : Coming). true) (at_shard k (part K.shards j 0 txs))) ≤ weight (filter (λ (c : Coming). true) (records_of K lane txs))) (sym e) (kept_shard K lane txs (λ (c : Coming). true) j lt) in
+      let shard : weight (filter (λ (c : Coming). true) (coming_at_shard n (part K.shards j 0 txs))) ≤ weight (filter (λ (c : Coming). true) (records_of K lane txs))
+      = subst (λ k. weight (filter (λ (c : Coming). true) (coming_at_shard k (part K.shards j 0 txs))) ≤ weight (filter (λ (c : Coming). true) (records_of K lane txs))) (sym e) (kept_shard K lane txs (λ (c : Coming). true) j lt) in
       omega (arith, own, shard, ap weight (all (records_of K lane txs)))
     where
       keeps_all : (cs : List Coming) → filter (λ (c : Coming). true) cs ≡ cs

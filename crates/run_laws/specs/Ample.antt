@@ -1,7 +1,7 @@
 -- Room on the disks, and stamps, for every record that is still to come.
 use Rattle.std.specs.Prelude.{◌≡◌, ℕ, ◌+◌, ◌*◌, ◌^◌, ◌<◌, ◌≤◌, Bool, not, ◌==◌, List, [], ◌∷◌, ◌++◌, length, sum_by, is_some, if◌then◌else◌}
 use Rattle.std.specs.List.{filter, flat_map, range_with_len}
-use Rattle.cbdc_model.specs.Records.{Shape, Compact, Entry, Record, record_of, txs_of, last_stamp}
+use Rattle.cbdc_model.specs.Records.{Shape, Compact, Entry, Record, record_of, txs_of, last_stamp, lock_kind, finish_kind, forget_kind, prepare_kind, commit_kind, discard_kind, done_kind}
 use Rattle.cbdc_model.specs.Slots.{slot}
 use Rattle.cbdc_model.specs.Ranges.{home_of, shard_node, part}
 use Rattle.cbdc_model.specs.Causes.{greatest}
@@ -24,22 +24,22 @@ largest_answered e = 105 + 32 * (length e.inputs + length e.outputs)
 -- what a batch of these transactions writes at its coordinator: Prepare, Commit with the longest outcomes, Discard and Done
 abbrev pub at_coordinator : Shape → ℕ → List Compact → List Coming
 at_coordinator K lane txs =
-    record { node = home_of K lane; kind = 6; size = 42 + sum_by compact_size txs }
-    ∷ (record { node = home_of K lane; kind = 7; size = 42 + 57 * length txs }
-    ∷ (record { node = home_of K lane; kind = 8; size = 34 }
-    ∷ (record { node = home_of K lane; kind = 9; size = 34 } ∷ [])))
+    record { node = home_of K lane; kind = prepare_kind; size = 42 + sum_by compact_size txs }
+    ∷ (record { node = home_of K lane; kind = commit_kind; size = 42 + 57 * length txs }
+    ∷ (record { node = home_of K lane; kind = discard_kind; size = 34 }
+    ∷ (record { node = home_of K lane; kind = done_kind; size = 34 } ∷ [])))
 
 -- and at a node with this part: Lock, Finish and Forget, and nothing where there is no part
-abbrev pub at_shard : ℕ → List Entry → List Coming
-at_shard node [] = []
-at_shard node (e ∷ es) =
-    record { node = node; kind = 2; size = 42 + sum_by largest_answered (e ∷ es) }
-    ∷ (record { node = node; kind = 3; size = 42 + length (e ∷ es) }
-    ∷ (record { node = node; kind = 4; size = 34 } ∷ []))
+abbrev pub coming_at_shard : ℕ → List Entry → List Coming
+coming_at_shard node [] = []
+coming_at_shard node (e ∷ es) =
+    record { node = node; kind = lock_kind; size = 42 + sum_by largest_answered (e ∷ es) }
+    ∷ (record { node = node; kind = finish_kind; size = 42 + length (e ∷ es) }
+    ∷ (record { node = node; kind = forget_kind; size = 34 } ∷ []))
 
 -- all records of a lane's batch of these transactions
 abbrev pub records_of : Shape → ℕ → List Compact → List Coming
-records_of K lane txs = at_coordinator K lane txs ++ flat_map (λ s. at_shard (shard_node K s) (part K.shards s 0 txs)) (range_with_len 0 K.shards)
+records_of K lane txs = at_coordinator K lane txs ++ flat_map (λ s. coming_at_shard (shard_node K s) (part K.shards s 0 txs)) (range_with_len 0 K.shards)
 
 -- those that the lane's open batch has not written yet, none where the lane is idle
 abbrev pub unwritten : Shape → (ℕ → List Record) → ℕ → List Coming

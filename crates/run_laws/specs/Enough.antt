@@ -15,7 +15,7 @@ use Rattle.run_laws.specs.Checked.{CheckedJournals}
 use Rattle.run_laws.specs.Ample.{Ample, AreCut}
 
 -- from journals E to journals X a lane has prepared the first of the batches that it makes of the files, in order; these are left
-pub record HasLeft (K : Shape) (sound : FullTx → Bool) (files : List (List FullTx)) (E X : ℕ → List Record) (lane : ℕ) (left : List (List Compact)) : Type 0 where
+pub record HasBatchesLeft (K : Shape) (sound : FullTx → Bool) (files : List (List FullTx)) (E X : ℕ → List Record) (lane : ℕ) (left : List (List Compact)) : Type 0 where
   pub done : List (List Compact)
   pub cut : AreCut K sound files lane (done ++ left)
   pub prepares : prepared lane (X (home_of K lane)) ≡ reverse done ++ prepared lane (E (home_of K lane))
@@ -25,7 +25,7 @@ pub record IsUnderway (K : Shape) (m : Minted) (sound : FullTx → Bool) (files 
   pub old : CheckedJournals K m E
   pub new : CheckedJournals K m X
   pub grows : (n : ℕ) → IsEnd (E n) (X n)
-  pub lanes : (lane : ℕ) → lane < K.coordinators * K.lanes → (left : List (List Compact)) × HasLeft K sound files E X lane left
+  pub lanes : (lane : ℕ) → lane < K.coordinators * K.lanes → (left : List (List Compact)) × HasBatchesLeft K sound files E X lane left
 
 -- the node's disk has room for this record behind this journal, and the record's stamp is early
 abbrev pub HasRoom : Shape → (ℕ → ℕ) → ℕ → List Record → Record → Type 0
@@ -34,7 +34,7 @@ HasRoom K capacity node front r = (used_of front + need_of K front r ≤ capacit
 -- behind a beginning of its coordinator's journal, since E, there is room for a lane's next Prepare
 abbrev pub PrepareRoomLaw : Type 0
 PrepareRoomLaw = (K : Shape) (m : Minted) (sound : FullTx → Bool) (capacity : ℕ → ℕ) (files : List (List FullTx)) (E X : ℕ → List Record) (lane : ℕ) (txs : List Compact) (left : List (List Compact)) (front : List Record)
-    → IsWithinLimits K → Ample K sound capacity files E → IsUnderway K m sound files E X → lane < K.coordinators * K.lanes → HasLeft K sound files E X lane (txs ∷ left)
+    → IsWithinLimits K → Ample K sound capacity files E → IsUnderway K m sound files E X → lane < K.coordinators * K.lanes → HasBatchesLeft K sound files E X lane (txs ∷ left)
     → IsEnd (E (home_of K lane)) front → IsEnd front (X (home_of K lane)) → HasRoom K capacity (home_of K lane) front (prepare_record front lane txs)
 
 -- behind a beginning of a concerned shard's journal, since E, there is room for the Lock of a prepared batch to which the shard has not come

@@ -3,7 +3,7 @@ use Rattle.std.specs.Prelude.{◌≡◌, ℕ, ◌+◌, ◌-◌, ◌^◌, ◌<◌
 use Rattle.cbdc_types.specs.declared.calls.Refused.{Refused}
 use Rattle.cbdc_types.specs.declared.calls.NodeFault.{NodeFault}
 use Rattle.cbdc_types.specs.declared.calls.NodeFault.TheVariants.{Broken, Refused as Refuses, ClockEnd, Full, DiskFault, Memory}
-use Rattle.cbdc_model.specs.Records.{Shape, Batch, Compact, Record, record_of, stamp_of, Prepare, lock_kind, prepare_kind}
+use Rattle.cbdc_model.specs.Records.{Shape, Batch, Compact, Record, record_of, stamp_of, Prepare, lock_kind, finish_kind, forget_kind, prepare_kind}
 use Rattle.cbdc_model.specs.Slots.{Phase, slot, Idle, InPrepare, InCommit}
 use Rattle.cbdc_model.specs.Ranges.{home_of, shard_node, part}
 use Rattle.cbdc_model.specs.Room.{need_of}
@@ -49,9 +49,9 @@ pub record HasNoStamp (K : Shape) (lane : ℕ) (next : List Compact → Type 0) 
 
 -- the kind of record that a lane waits for at the shards behind a batch's Prepare, Commit or Discard: the Lock, the Finish or the Forget
 abbrev pub awaited : Phase → ℕ
-awaited InPrepare = 2
-awaited InCommit = 3
-awaited other = 4
+awaited InPrepare = lock_kind
+awaited InCommit = finish_kind
+awaited other = forget_kind
 
 -- the batch is the lane's last one and is open still, its Prepare stands, and each concerned shard below n has the record that the lane waits for
 pub record HasHeard (K : Shape) (lane : ℕ) (J : ℕ → List Record) (b : Batch) (txs : List Compact) (n : ℕ) : Type 0 where

@@ -17,7 +17,7 @@ use Rattle.ledger_laws.specs.Reach.{events_of}
 use Rattle.ledger_laws.specs.Resumed.{Recovers}
 use Rattle.ledger_laws.specs.Sets.{IsPlaced, IsWaiting, IsComing}
 use Rattle.run_laws.specs.LocksDue.{opened, LocksFit, Sticks}
-use Rattle.run_laws.specs.Worlds.{counted}
+use Rattle.run_laws.specs.Worlds.{with_flights}
 
 -- of what is committed in a kept history no two inputs name one outpoint, in one transaction or in two, and no id stands twice
 abbrev pub OnceLaw : Type 0
@@ -46,7 +46,7 @@ LongerLaw = (K : Shape) (mint : List Output) (submissions : List FullTx) (J X : 
 -- the journals of a kept world are kept, whichever of the records in flight are counted
 abbrev pub CountedLaw : Type 0
 CountedLaw = (K : Shape) (mint : List Output) (submissions : List FullTx) (w : World) (counts : ℕ → Bool) → 0 < K.shards
-    → KeptWorld K mint submissions w → KeptJournals K mint submissions (counted counts w)
+    → KeptWorld K mint submissions w → KeptJournals K mint submissions (with_flights counts w)
 
 -- the events that write a kept history begin no Prepare but with compact forms of proper submissions: so what is kept is what runs of such events reach
 abbrev pub PassLaw : Type 0
@@ -69,8 +69,8 @@ NoneRefusedLaw = (K : Shape) (mint : List Output) (submissions : List FullTx) (J
 
 -- from any kept world where no Lock that is still to come needs a stamp above 2^62, bringing the nodes up, whatever they keep of what was in
 -- flight, and writing what is still to come leads to a kept and recovered world, with no new Prepare; whatever stamps the world has
-abbrev pub RecoveryLaw : Type 0
-RecoveryLaw = (K : Shape) (mint : List Output) (submissions : List FullTx) (w : World) (kept_at : ℕ → Bool) → IsWithinLimits K
+abbrev pub WorldRecoveryLaw : Type 0
+WorldRecoveryLaw = (K : Shape) (mint : List Output) (submissions : List FullTx) (w : World) (kept_at : ℕ → Bool) → IsWithinLimits K
     → KeptWorld K mint submissions w → LocksFit K (opened kept_at w) → Recovers K mint submissions kept_at w
 
 -- from any kept world at all the same leads to a recovered world, or to one in which a Lock that is still to come needs such a stamp, behind

@@ -19,7 +19,7 @@ tx_at (t ∷ ts) zero = Some t
 tx_at (t ∷ ts) (suc k) = tx_at ts k
 
 -- the lane's new Prepares have this transaction at place q, counted over all of them, and an outcome is written down for it
-pub record IsPlaced (lane q : ℕ) (t : Compact) (more J : List Record) : Type 0 where
+pub record IsTxPlaced (lane q : ℕ) (t : Compact) (more J : List Record) : Type 0 where
   pub place : PlaceIn
   pub stands : place_of (sized_onto lane more []) q ≡ Some place
   pub lane_is : place.batch.lane ≡ lane
@@ -32,5 +32,5 @@ abbrev pub PlaceLaw : Type 0
 PlaceLaw = (K : Shape) (mint : List Output) (submissions : List FullTx) (sound : FullTx → Bool) (files : List (List FullTx)) (lane : ℕ) (I J : ℕ → List Record) (more : List Record)
     → 0 < K.shards → lane < K.coordinators * K.lanes → KeptJournals K mint submissions I → KeptJournals K mint submissions J → AreIdle K I
     → AreFilesRun K sound files I J → J (home_of K lane) ≡ more ++ I (home_of K lane)
-    → ((q : ℕ) (t : Compact) → tx_at (sent_of_all K sound files lane) q ≡ Some t → IsPlaced lane q t more (J (home_of K lane)))
+    → ((q : ℕ) (t : Compact) → tx_at (sent_of_all K sound files lane) q ≡ Some t → IsTxPlaced lane q t more (J (home_of K lane)))
     × ((q : ℕ) → length (sent_of_all K sound files lane) ≤ q → place_of (sized_onto lane more []) q ≡ None)

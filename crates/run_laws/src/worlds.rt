@@ -1,5 +1,5 @@
 // Further laws of every kept world: what is committed, what is in flight, that stamps above 2^62 are few, and recovery. Nothing of them runs.
-ghost use Rattle.run_laws.specs.Laws.{CheckedLaw, CountedLaw, FewLateLaw, LongerLaw, NoneOpenLaw, NoneRefusedLaw, OnceLaw, PassLaw, RecoveryLaw, ShardKindsLaw, StuckLaw, SpentLaw};
+ghost use Rattle.run_laws.specs.Laws.{CheckedLaw, CountedLaw, FewLateLaw, LongerLaw, NoneOpenLaw, NoneRefusedLaw, OnceLaw, PassLaw, WorldRecoveryLaw, ShardKindsLaw, StuckLaw, SpentLaw};
 
 /// Of what is committed in a kept history no two inputs name one outpoint, in one transaction or in two, and no id is committed twice.
 /// This holds at every moment, and not in recovered worlds alone.
@@ -56,7 +56,7 @@ pub fn none_refused_law()
 /// again, each keeping what was in flight or not, then what is still to come of the open batches is written, with no new Prepare.
 /// The world that this leads to is kept and recovered.
 pub fn recovery_law()
-    ensures { RecoveryLaw }
+    ensures { WorldRecoveryLaw }
 {}
 
 /// From any kept world at all: the same leads to a recovered world, or, by Locks alone, to a world in which a Lock that is still to

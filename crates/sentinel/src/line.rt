@@ -16,7 +16,8 @@ pub(crate) struct Key {
 
 // The id that 64 lower case digits spell.
 fn id_of(digits: &[u8]) -> Option<Hash>
-    ensures id { MatchOption result ((tx : List ℕ) → length tx ≡ 32 → IsBytes tx → digits.now ≢ encode_lower tx) (λ h. digits.now ≡ encode_lower h) }
+    ensures id { MatchOption result ((tx : List ℕ) → length tx ≡ 32 → IsBytes tx
+        → digits.now ≢ encode_lower tx) (λ h. digits.now ≡ encode_lower h) }
     ensures size { IfSome result (λ h. length h ≡ 32) }
     ensures bytes { IfSome result (λ h. IsBytes h) }
 {
@@ -34,7 +35,8 @@ fn id_of(digits: &[u8]) -> Option<Hash>
 
 // The place that a decimal number without leading zeros spells, up to 254.
 fn place_of(digits: &[u8]) -> Option<u64>
-    ensures { MatchOption result ((n : ℕ) → n ≤ 254 → digits.now ≢ decimal n) (λ n. (n ≤ 254) × (digits.now ≡ decimal n)) }
+    ensures { MatchOption result ((n : ℕ) → n ≤ 254
+        → digits.now ≢ decimal n) (λ n. (n ≤ 254) × (digits.now ≡ decimal n)) }
 {
     let Ok(text) = std::str::from_utf8(digits) else {
         return None;
@@ -54,7 +56,8 @@ fn place_of(digits: &[u8]) -> Option<u64>
 
 // What stands before the word at the end, and whether that is `good`.
 fn word_of(line: &[u8]) -> Option<(&[u8], bool)>
-    ensures { MatchOption result ((front : List ℕ) (good : Bool) → line.now ≢ front ++ 32 ∷ word good) (λ r. line.now ≡ r.0.now ++ 32 ∷ word r.1) }
+    ensures { MatchOption result ((front : List ℕ) (good : Bool)
+        → line.now ≢ front ++ 32 ∷ word good) (λ r. line.now ≡ r.0.now ++ 32 ∷ word r.1) }
 {
     if let Some(front) = line.strip_suffix(b" good") {
         return Some((front, true));
@@ -67,8 +70,10 @@ fn word_of(line: &[u8]) -> Option<(&[u8], bool)>
 
 // The input that an id and a place with a space between them name.
 fn key_of(front: &[u8]) -> Option<Key>
-    ensures key { MatchOption result ((l : Line) → IsLine l → front.now ≢ encode_lower l.tx ++ 32 ∷ decimal l.index) (λ k. front.now ≡ encode_lower k.tx ++ 32 ∷ decimal k.index) }
-    ensures form { IfSome result (λ k. (good : Bool) → IsLine (record { tx = k.tx; index = k.index; good = good })) }
+    ensures key { MatchOption result ((l : Line) → IsLine l → front.now ≢ encode_lower l.tx
+        ++ 32 ∷ decimal l.index) (λ k. front.now ≡ encode_lower k.tx ++ 32 ∷ decimal k.index) }
+    ensures form { IfSome result (λ k. (good : Bool)
+        → IsLine (record { tx = k.tx; index = k.index; good = good })) }
 {
     let Some((digits, behind)) = front.split_at_checked(64) else {
         return None;
@@ -85,8 +90,9 @@ fn key_of(front: &[u8]) -> Option<Key>
 /// The input that a line speaks of, and whether its witness is good; None exactly where the line is not in form.
 /// Its line feed is not in these bytes.
 pub(crate) fn read_line(line: &[u8]) -> Option<(Key, bool)>
-    ensures { MatchOption result ((l : Line) → IsLine l → line.now ≢ spelled l)
-        (λ r. IsLine (record { tx = r.0.tx; index = r.0.index; good = r.1 }) × (line.now ≡ spelled (record { tx = r.0.tx; index = r.0.index; good = r.1 }))) }
+    ensures { MatchOption result ((l : Line) → IsLine l
+        → line.now ≢ spelled l) (λ r. IsLine (record { tx = r.0.tx; index = r.0.index; good = r.1 })
+        × (line.now ≡ spelled (record { tx = r.0.tx; index = r.0.index; good = r.1 }))) }
 {
     let Some((front, good)) = word_of(line) else {
         return None;
@@ -99,7 +105,8 @@ pub(crate) fn read_line(line: &[u8]) -> Option<(Key, bool)>
 
 /// The bytes before the first line feed, and those behind it.
 pub(crate) fn next_line(bytes: &[u8]) -> Option<(&[u8], &[u8])>
-    ensures { MatchOption result (HasNoLineEnd bytes.now) (λ r. HasNoLineEnd r.0.now × (bytes.now ≡ r.0.now ++ 10 ∷ r.1.now)) }
+    ensures { MatchOption result (HasNoLineEnd bytes.now) (λ r. HasNoLineEnd r.0.now
+        × (bytes.now ≡ r.0.now ++ 10 ∷ r.1.now)) }
 {
     let end = memchr(b'\n', bytes)?;
     let (line, behind) = bytes.split_at(end);

@@ -7,7 +7,8 @@ use cbdc_types::{Hash, Input, Output};
 
 /// The first input of value 0.
 pub(crate) fn zero_input(inputs: &[Input]) -> Option<u64>
-    ensures { MatchOption result ((i : ℕ) → ¬ (HasAt (λ x. x.output.value ≡ 0) inputs.now i)) (λ i. IsLeast (HasAt (λ x. x.output.value ≡ 0) inputs.now) i) }
+    ensures { MatchOption result ((i : ℕ) → ¬ (HasAt (λ x. x.output.value ≡ 0) inputs.now i))
+        (λ i. IsLeast (HasAt (λ x. x.output.value ≡ 0) inputs.now) i) }
 {
     'inputs: for (index, input) in inputs.iter().enumerate() {
         if input.output.value == 0 {
@@ -19,7 +20,8 @@ pub(crate) fn zero_input(inputs: &[Input]) -> Option<u64>
 
 /// The first output of value 0.
 pub(crate) fn zero_output(outputs: &[Output]) -> Option<u64>
-    ensures { MatchOption result ((i : ℕ) → ¬ (HasAt (λ o. o.value ≡ 0) outputs.now i)) (λ i. IsLeast (HasAt (λ o. o.value ≡ 0) outputs.now) i) }
+    ensures { MatchOption result ((i : ℕ) → ¬ (HasAt (λ o. o.value ≡ 0) outputs.now i))
+        (λ i. IsLeast (HasAt (λ o. o.value ≡ 0) outputs.now) i) }
 {
     'outputs: for (index, output) in outputs.iter().enumerate() {
         if output.value == 0 {
@@ -62,7 +64,9 @@ pub(crate) fn with_verdict<V: Verifier>(
     verifier: &V,
     wanted: Verdict,
 ) -> Option<u64>
-    ensures { MatchOption result ((i : ℕ) → ¬ (HasVerdict wanted inputs.now (V.verdict_of verifier.now id.now) i)) (λ i. IsLeast (HasVerdict wanted inputs.now (V.verdict_of verifier.now id.now)) i) }
+    ensures { MatchOption result ((i : ℕ)
+        → ¬ (HasVerdict wanted inputs.now (V.verdict_of verifier.now id.now) i))
+        (λ i. IsLeast (HasVerdict wanted inputs.now (V.verdict_of verifier.now id.now)) i) }
 {
     'inputs: for index in 0..inputs.len() {
         if verifier.verdict(id, index as u64) == wanted {

@@ -12,7 +12,8 @@ const LIMIT: u128 = 0x1_0000_0000_0000_0000;
 
 /// The reason of rank 0.
 pub(crate) fn has_inputs(tx: &FullTx) -> Result<(), Refusal>
-    ensures { (verdicts : Verdicts) → MatchResult result (λ _. NoneAt 0 tx.now verdicts) (λ r. AppliesAt 0 tx.now verdicts r) }
+    ensures { (verdicts : Verdicts)
+        → MatchResult result (λ _. NoneAt 0 tx.now verdicts) (λ r. AppliesAt 0 tx.now verdicts r) }
 {
     if tx.inputs.is_empty() {
         return Err(Refusal::NoInputs);
@@ -22,7 +23,8 @@ pub(crate) fn has_inputs(tx: &FullTx) -> Result<(), Refusal>
 
 /// The reason of rank 1.
 pub(crate) fn has_outputs(tx: &FullTx) -> Result<(), Refusal>
-    ensures { (verdicts : Verdicts) → MatchResult result (λ _. NoneAt 1 tx.now verdicts) (λ r. AppliesAt 1 tx.now verdicts r) }
+    ensures { (verdicts : Verdicts)
+        → MatchResult result (λ _. NoneAt 1 tx.now verdicts) (λ r. AppliesAt 1 tx.now verdicts r) }
 {
     if tx.outputs.is_empty() {
         return Err(Refusal::NoOutputs);
@@ -32,7 +34,8 @@ pub(crate) fn has_outputs(tx: &FullTx) -> Result<(), Refusal>
 
 /// The reason of rank 2.
 pub(crate) fn has_witnesses(tx: &FullTx) -> Result<(), Refusal>
-    ensures { (verdicts : Verdicts) → MatchResult result (λ _. NoneAt 2 tx.now verdicts) (λ r. AppliesAt 2 tx.now verdicts r) }
+    ensures { (verdicts : Verdicts)
+        → MatchResult result (λ _. NoneAt 2 tx.now verdicts) (λ r. AppliesAt 2 tx.now verdicts r) }
 {
     if tx.witnesses.len() != tx.inputs.len() {
         return Err(Refusal::WitnessCount);
@@ -42,7 +45,8 @@ pub(crate) fn has_witnesses(tx: &FullTx) -> Result<(), Refusal>
 
 /// The reason of rank 3.
 pub(crate) fn repeats(tx: &FullTx) -> Result<(), Refusal>
-    ensures { (verdicts : Verdicts) → MatchResult result (λ _. NoneAt 3 tx.now verdicts) (λ r. AppliesAt 3 tx.now verdicts r) }
+    ensures { (verdicts : Verdicts)
+        → MatchResult result (λ _. NoneAt 3 tx.now verdicts) (λ r. AppliesAt 3 tx.now verdicts r) }
 {
     match repeated(tx.inputs.as_slice()) {
         Some(place) => Err(Refusal::RepeatedInput(place)),
@@ -52,7 +56,8 @@ pub(crate) fn repeats(tx: &FullTx) -> Result<(), Refusal>
 
 /// The reason of rank 4.
 pub(crate) fn has_zero_input(tx: &FullTx) -> Result<(), Refusal>
-    ensures { (verdicts : Verdicts) → MatchResult result (λ _. NoneAt 4 tx.now verdicts) (λ r. AppliesAt 4 tx.now verdicts r) }
+    ensures { (verdicts : Verdicts)
+        → MatchResult result (λ _. NoneAt 4 tx.now verdicts) (λ r. AppliesAt 4 tx.now verdicts r) }
 {
     match zero_input(tx.inputs.as_slice()) {
         Some(place) => Err(Refusal::ZeroInput(place)),
@@ -62,7 +67,8 @@ pub(crate) fn has_zero_input(tx: &FullTx) -> Result<(), Refusal>
 
 /// The reason of rank 5.
 pub(crate) fn has_zero_output(tx: &FullTx) -> Result<(), Refusal>
-    ensures { (verdicts : Verdicts) → MatchResult result (λ _. NoneAt 5 tx.now verdicts) (λ r. AppliesAt 5 tx.now verdicts r) }
+    ensures { (verdicts : Verdicts)
+        → MatchResult result (λ _. NoneAt 5 tx.now verdicts) (λ r. AppliesAt 5 tx.now verdicts r) }
 {
     match zero_output(tx.outputs.as_slice()) {
         Some(place) => Err(Refusal::ZeroOutput(place)),
@@ -72,7 +78,8 @@ pub(crate) fn has_zero_output(tx: &FullTx) -> Result<(), Refusal>
 
 /// The reason of rank 6.
 pub(crate) fn fits_inputs(tx: &FullTx) -> Result<(), Refusal>
-    ensures { (verdicts : Verdicts) → MatchResult result (λ _. NoneAt 6 tx.now verdicts) (λ r. AppliesAt 6 tx.now verdicts r) }
+    ensures { (verdicts : Verdicts)
+        → MatchResult result (λ _. NoneAt 6 tx.now verdicts) (λ r. AppliesAt 6 tx.now verdicts r) }
 {
     if sum_of_inputs(tx.inputs.as_slice()) >= LIMIT {
         return Err(Refusal::InputOverflow);
@@ -82,7 +89,8 @@ pub(crate) fn fits_inputs(tx: &FullTx) -> Result<(), Refusal>
 
 /// The reason of rank 7.
 pub(crate) fn fits_outputs(tx: &FullTx) -> Result<(), Refusal>
-    ensures { (verdicts : Verdicts) → MatchResult result (λ _. NoneAt 7 tx.now verdicts) (λ r. AppliesAt 7 tx.now verdicts r) }
+    ensures { (verdicts : Verdicts)
+        → MatchResult result (λ _. NoneAt 7 tx.now verdicts) (λ r. AppliesAt 7 tx.now verdicts r) }
 {
     if sum_of_outputs(tx.outputs.as_slice()) >= LIMIT {
         return Err(Refusal::OutputOverflow);
@@ -94,7 +102,8 @@ pub(crate) fn fits_outputs(tx: &FullTx) -> Result<(), Refusal>
 pub(crate) fn balances(tx: &FullTx) -> Result<(), Refusal>
     requires ins { input_sum tx.now < 2 ^ 64 }
     requires outs { output_sum tx.now < 2 ^ 64 }
-    ensures { (verdicts : Verdicts) → MatchResult result (λ _. NoneAt 8 tx.now verdicts) (λ r. AppliesAt 8 tx.now verdicts r) }
+    ensures { (verdicts : Verdicts)
+        → MatchResult result (λ _. NoneAt 8 tx.now verdicts) (λ r. AppliesAt 8 tx.now verdicts r) }
 {
     let ins = sum_of_inputs(tx.inputs.as_slice()) as u64;
     let outs = sum_of_outputs(tx.outputs.as_slice()) as u64;
@@ -106,7 +115,8 @@ pub(crate) fn balances(tx: &FullTx) -> Result<(), Refusal>
 
 /// The reason of rank 9.
 pub(crate) fn has_bad<V: Verifier>(tx: &FullTx, id: &Hash, verifier: &V) -> Result<(), Refusal>
-    ensures { MatchResult result (λ _. NoneAt 9 tx.now (V.verdict_of verifier.now id.now)) (λ r. AppliesAt 9 tx.now (V.verdict_of verifier.now id.now) r) }
+    ensures { MatchResult result (λ _. NoneAt 9 tx.now (V.verdict_of verifier.now id.now))
+        (λ r. AppliesAt 9 tx.now (V.verdict_of verifier.now id.now) r) }
 {
     match with_verdict(tx.inputs.as_slice(), id, verifier, Verdict::Bad) {
         Some(place) => Err(Refusal::BadWitness(place)),
@@ -120,7 +130,8 @@ pub(crate) fn has_unverified<V: Verifier>(
     id: &Hash,
     verifier: &V,
 ) -> Result<(), Refusal>
-    ensures { MatchResult result (λ _. NoneAt 10 tx.now (V.verdict_of verifier.now id.now)) (λ r. AppliesAt 10 tx.now (V.verdict_of verifier.now id.now) r) }
+    ensures { MatchResult result (λ _. NoneAt 10 tx.now (V.verdict_of verifier.now id.now))
+        (λ r. AppliesAt 10 tx.now (V.verdict_of verifier.now id.now) r) }
 {
     match with_verdict(tx.inputs.as_slice(), id, verifier, Verdict::Absent) {
         Some(place) => Err(Refusal::Unverified(place)),

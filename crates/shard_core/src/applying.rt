@@ -25,8 +25,10 @@ pub fn hash_count(entries: &[Entry]) -> u64
 // Locks hashes for an entry of a batch. One that stands twice is locked once.
 fn lock_all(unspent: &mut Table, locks: &mut Locks, xs: &[Hash], batch: &BatchId, place: u32)
     requires { length xs.now ≤ locks.old.spare }
-    ensures unspent { (y : Digest) → has unspent.new.hashes y ≡ (not (has xs.now y) && has unspent.old.hashes y) }
-    ensures locks { (y : Digest) → holder_in locks.new.held y ≡ (if has xs.now y then Some batch.now else holder_in locks.old.held y) }
+    ensures unspent { (y : Digest)
+        → has unspent.new.hashes y ≡ (not (has xs.now y) && has unspent.old.hashes y) }
+    ensures locks { (y : Digest)
+        → holder_in locks.new.held y ≡ (if has xs.now y then Some batch.now else holder_in locks.old.held y) }
     ensures spare { unspent.old.spare ≤ unspent.new.spare }
     ensures room { locks.old.spare ≤ locks.new.spare + length xs.now }
 {
@@ -40,8 +42,10 @@ fn lock_all(unspent: &mut Table, locks: &mut Locks, xs: &[Hash], batch: &BatchId
 /// Locks the inputs of the Held entries.
 pub fn lock_held(unspent: &mut Table, locks: &mut Locks, entries: &[Answered], batch: &BatchId)
     requires { length (held_inputs entries.now) ≤ locks.old.spare }
-    ensures unspent { (y : Digest) → has unspent.new.hashes y ≡ (not (has (held_inputs entries.now) y) && has unspent.old.hashes y) }
-    ensures locks { (y : Digest) → holder_in locks.new.held y ≡ (if has (held_inputs entries.now) y then Some batch.now else holder_in locks.old.held y) }
+    ensures unspent { (y : Digest)
+        → has unspent.new.hashes y ≡ (not (has (held_inputs entries.now) y) && has unspent.old.hashes y) }
+    ensures locks { (y : Digest) → holder_in locks.new.held y
+        ≡ (if has (held_inputs entries.now) y then Some batch.now else holder_in locks.old.held y) }
     ensures spare { unspent.old.spare ≤ unspent.new.spare }
 {
     for answered in entries {
@@ -54,8 +58,10 @@ pub fn lock_held(unspent: &mut Table, locks: &mut Locks, entries: &[Answered], b
 
 // Takes spent hashes out.
 fn take_all(unspent: &mut Table, locks: &mut Locks, xs: &[Hash])
-    ensures unspent { (y : Digest) → has unspent.new.hashes y ≡ (not (has xs.now y) && has unspent.old.hashes y) }
-    ensures locks { (y : Digest) → lookup locks.new.held y ≡ (if has xs.now y then None else lookup locks.old.held y) }
+    ensures unspent { (y : Digest)
+        → has unspent.new.hashes y ≡ (not (has xs.now y) && has unspent.old.hashes y) }
+    ensures locks { (y : Digest)
+        → lookup locks.new.held y ≡ (if has xs.now y then None else lookup locks.old.held y) }
     ensures spare { unspent.old.spare ≤ unspent.new.spare }
 {
     for x in xs {
@@ -68,7 +74,8 @@ fn take_all(unspent: &mut Table, locks: &mut Locks, xs: &[Hash])
 fn put_all(unspent: &mut Table, locks: &mut Locks, xs: &[Hash])
     requires { length xs.now ≤ unspent.old.spare }
     ensures unspent { (y : Digest) → has unspent.new.hashes y ≡ (has xs.now y || has unspent.old.hashes y) }
-    ensures locks { (y : Digest) → lookup locks.new.held y ≡ (if has xs.now y then None else lookup locks.old.held y) }
+    ensures locks { (y : Digest)
+        → lookup locks.new.held y ≡ (if has xs.now y then None else lookup locks.old.held y) }
     ensures spare { unspent.old.spare ≤ unspent.new.spare + length xs.now }
 {
     for x in xs {
@@ -80,8 +87,10 @@ fn put_all(unspent: &mut Table, locks: &mut Locks, xs: &[Hash])
 /// Takes the inputs of the committed entries out.
 pub fn take_committed(unspent: &mut Table, locks: &mut Locks, entries: &[Entry], decisions: &[bool])
     requires { length decisions.now ≡ length entries.now }
-    ensures unspent { (y : Digest) → has unspent.new.hashes y ≡ (not (has (inputs_where entries.now decisions.now) y) && has unspent.old.hashes y) }
-    ensures locks { (y : Digest) → lookup locks.new.held y ≡ (if has (inputs_where entries.now decisions.now) y then None else lookup locks.old.held y) }
+    ensures unspent { (y : Digest) → has unspent.new.hashes y
+        ≡ (not (has (inputs_where entries.now decisions.now) y) && has unspent.old.hashes y) }
+    ensures locks { (y : Digest) → lookup locks.new.held y
+        ≡ (if has (inputs_where entries.now decisions.now) y then None else lookup locks.old.held y) }
     ensures spare { unspent.old.spare ≤ unspent.new.spare }
 {
     for at in 0..entries.len() {
@@ -110,8 +119,10 @@ pub fn return_others(
     requires replies { length replies.now ≡ length entries.now }
     requires decisions { length decisions.now ≡ length entries.now }
     requires room { inputs_in entries.now ≤ unspent.old.spare }
-    ensures unspent { (y : Digest) → has unspent.new.hashes y ≡ (has (returned_where entries.now replies.now decisions.now) y || has unspent.old.hashes y) }
-    ensures locks { (y : Digest) → lookup locks.new.held y ≡ (if has (returned_where entries.now replies.now decisions.now) y then None else lookup locks.old.held y) }
+    ensures unspent { (y : Digest) → has unspent.new.hashes y
+        ≡ (has (returned_where entries.now replies.now decisions.now) y || has unspent.old.hashes y) }
+    ensures locks { (y : Digest) → lookup locks.new.held y ≡ (if has
+        (returned_where entries.now replies.now decisions.now) y then None else lookup locks.old.held y) }
     ensures spare { unspent.old.spare ≤ unspent.new.spare + inputs_in entries.now }
 {
     for at in 0..entries.len() {
@@ -127,8 +138,10 @@ pub fn return_others(
 pub fn make_committed(unspent: &mut Table, locks: &mut Locks, entries: &[Entry], decisions: &[bool])
     requires decisions { length decisions.now ≡ length entries.now }
     requires room { outputs_in entries.now ≤ unspent.old.spare }
-    ensures unspent { (y : Digest) → has unspent.new.hashes y ≡ (has (outputs_where entries.now decisions.now) y || has unspent.old.hashes y) }
-    ensures locks { (y : Digest) → lookup locks.new.held y ≡ (if has (outputs_where entries.now decisions.now) y then None else lookup locks.old.held y) }
+    ensures unspent { (y : Digest) → has unspent.new.hashes y
+        ≡ (has (outputs_where entries.now decisions.now) y || has unspent.old.hashes y) }
+    ensures locks { (y : Digest) → lookup locks.new.held y
+        ≡ (if has (outputs_where entries.now decisions.now) y then None else lookup locks.old.held y) }
     ensures spare { unspent.old.spare ≤ unspent.new.spare + outputs_in entries.now }
 {
     for at in 0..entries.len() {

@@ -43,7 +43,8 @@ fn is_listed(hashes: &[Hash], x: &Hash) -> bool
 
 // Puts hashes into a table.
 fn put_all(table: &mut Table, hashes: &[Hash]) -> Result<(), AllocError>
-    ensures { OnOk result ((y : Digest) → has table.new.hashes y ≡ (has hashes.now y || has table.old.hashes y)) }
+    ensures { OnOk result ((y : Digest)
+        → has table.new.hashes y ≡ (has hashes.now y || has table.old.hashes y)) }
 {
     table.reserve(hashes.len() as u64)?;
     for x in hashes {

@@ -65,7 +65,8 @@ pub struct ShardCore {
 
 // The bytes that are kept free for the later records of a slot's batch.
 fn room_of(slot: &LaneSlot) -> u64
-    ensures { (J : Items Record) (lane : ℕ) → SlotStands slot.now J lane → result ≡ min (lane_room J lane) (2 ^ 64 - 1) }
+    ensures { (J : Items Record) (lane : ℕ) → SlotStands slot.now J lane
+        → result ≡ min (lane_room J lane) (2 ^ 64 - 1) }
 {
     match slot {
         LaneSlot::Idle(_, _) => 0,
@@ -152,7 +153,8 @@ fn table_of(alloc: Global, hashes: &[Hash]) -> Result<Table, AllocError>
 
 // What a slot remembers of a transaction.
 fn remembered_in(slot: &LaneSlot, id: &Hash) -> Option<Remembered>
-    ensures { (J : Items Record) (lane : ℕ) → SlotStands slot.now J lane → told_fate result ≡ lane_fate J id.now lane }
+    ensures { (J : Items Record) (lane : ℕ) → SlotStands slot.now J lane
+        → told_fate result ≡ lane_fate J id.now lane }
 {
     match slot {
         LaneSlot::Idle(_, _) => None,
@@ -262,11 +264,13 @@ impl ShardCore {
     /// What a Lock is answered. Where it is to be appended, the memory of its apply is there. Where memory runs out
     /// the shard is as before.
     pub fn plan_lock(&mut self, call: &LockCall) -> Result<LockPlan, AllocError>
-        requires lane { call.now.batch.lane < self.old.header.shape.coordinators * self.old.header.shape.lanes }
+        requires lane { call.now.batch.lane
+            < self.old.header.shape.coordinators * self.old.header.shape.lanes }
         requires cause { call.now.cause < 2 ^ 63 }
         ensures same { IsSameState self.old self.new }
         ensures ready { IfOk result (IsPlanReady self.new call.now.batch call.now.part) }
-        ensures plan { IfOk result (λ p. (J : Items Record) → ShardStands self.old J → core_lock_plan p ≡ next_lock J call.now.batch call.now.part call.now.cause) }
+        ensures plan { IfOk result (λ p. (J : Items Record) → ShardStands self.old J
+            → core_lock_plan p ≡ next_lock J call.now.batch call.now.part call.now.cause) }
     {
         let slot = self.slots.slot(call.batch.lane);
         match judge_lock(slot, call) {
@@ -315,9 +319,11 @@ impl ShardCore {
 
     /// What a Finish is answered. Takes no memory.
     pub fn plan_finish(&self, call: &FinishCall) -> StampPlan
-        requires lane { call.now.batch.lane < self.now.header.shape.coordinators * self.now.header.shape.lanes }
+        requires lane { call.now.batch.lane
+            < self.now.header.shape.coordinators * self.now.header.shape.lanes }
         requires cause { call.now.cause < 2 ^ 63 }
-        ensures plan { (J : Items Record) → ShardStands self.now J → core_plan result ≡ next_finish J call.now.batch call.now.decisions call.now.cause }
+        ensures plan { (J : Items Record) → ShardStands self.now J
+            → core_plan result ≡ next_finish J call.now.batch call.now.decisions call.now.cause }
         ensures ready { IsFinishPlan result self.now call.now.batch call.now.decisions }
     {
         let next = self.next_stamp(call.cause);
@@ -326,9 +332,11 @@ impl ShardCore {
 
     /// What a Forget is answered. Takes no memory.
     pub fn plan_forget(&self, call: &ForgetCall) -> StampPlan
-        requires lane { call.now.batch.lane < self.now.header.shape.coordinators * self.now.header.shape.lanes }
+        requires lane { call.now.batch.lane
+            < self.now.header.shape.coordinators * self.now.header.shape.lanes }
         requires cause { call.now.cause < 2 ^ 63 }
-        ensures plan { (J : Items Record) → ShardStands self.now J → core_plan result ≡ next_forget J call.now.batch call.now.cause }
+        ensures plan { (J : Items Record) → ShardStands self.now J
+            → core_plan result ≡ next_forget J call.now.batch call.now.cause }
         ensures ready { IsForgetPlan result self.now call.now.batch }
     {
         let next = self.next_stamp(call.cause);
@@ -343,7 +351,8 @@ impl ShardCore {
     pub fn admit(&mut self, r: &Record) -> Result<bool, AllocError>
         ensures same { IsSameState self.old self.new }
         ensures admitted { IfOk result (λ yes. OnTrue yes (ShardAdmits self.new r.now)) }
-        ensures next { IfOk result (λ yes. (J : Items Record) → IsShardCoreOf self.old J → (IsTrue yes ↔ After self.old.header J r.now)) }
+        ensures next { IfOk result (λ yes. (J : Items Record) → IsShardCoreOf self.old J
+            → (IsTrue yes ↔ After self.old.header J r.now)) }
     {
         if !is_in_grammar(&self.header, r) {
             return Ok(false);
@@ -356,7 +365,8 @@ impl ShardCore {
         requires { IsInGrammar self.old.header r.now }
         ensures same { IsSameState self.old self.new }
         ensures admitted { IfOk result (λ yes. OnTrue yes (ShardAdmits self.new r.now)) }
-        ensures next { IfOk result (λ yes. (J : Items Record) → IsShardCoreOf self.old J → (IsTrue yes ↔ After self.old.header J r.now)) }
+        ensures next { IfOk result (λ yes. (J : Items Record) → IsShardCoreOf self.old J
+            → (IsTrue yes ↔ After self.old.header J r.now)) }
     {
         match r {
             Record::Lock {
@@ -382,7 +392,8 @@ impl ShardCore {
     ) -> Result<bool, AllocError>
         requires { IsOfShardLane self.old batch.now stamp }
         ensures same { IsSameState self.old self.new }
-        ensures admitted { IfOk result (λ yes. OnTrue yes (IsLockAdmitted self.new (Record.Lock stamp batch.now answered.now))) }
+        ensures admitted { IfOk result
+            (λ yes. OnTrue yes (IsLockAdmitted self.new (Record.Lock stamp batch.now answered.now))) }
         ensures next { IfOk result (λ yes. (J : Items Record) → ShardStands self.old J
             → (IsTrue yes ↔ Follows self.old.header J (Record.Lock stamp batch.now answered.now))) }
     {
@@ -409,7 +420,8 @@ impl ShardCore {
     fn is_open_to(&self, stamp: Stamp, batch: &BatchId) -> bool
         requires { IsOfShardLane self.now batch.now stamp }
         ensures free { OnTrue result (IsLaneFree self.now batch.now.lane) }
-        ensures lane { (J : Items Record) → ShardStands self.now J → (IsTrue result ↔ IsOpenTo J batch.now stamp) }
+        ensures lane { (J : Items Record) → ShardStands self.now J
+            → (IsTrue result ↔ IsOpenTo J batch.now stamp) }
     {
         if stamp.0 <= self.last_stamp().0 {
             return false;
@@ -557,7 +569,8 @@ impl ShardCore {
     /// What is remembered of a transaction: of the batches that are locked or finished here and have this id, that of
     /// the least lane decides. Takes no memory.
     pub fn check_tx(&self, id: &Hash) -> Option<Remembered>
-        ensures { (J : Items Record) → ShardStands self.now J → told_fate result ≡ fate self.now.header.shape J id.now }
+        ensures { (J : Items Record) → ShardStands self.now J
+            → told_fate result ≡ fate self.now.header.shape J id.now }
     {
         for lane in 0..self.header.shape.lane_count() {
             let found = remembered_in(self.slots.slot(LaneId(lane)), id);
@@ -571,7 +584,8 @@ impl ShardCore {
     /// The bytes that are kept free in the journal for the later records of unfinished batches, or the greatest number
     /// where they are more. Takes no memory.
     pub fn kept_room(&self) -> u64
-        ensures { (J : Items Record) → ShardStands self.now J → result ≡ min (room_kept self.now.header.shape J) (2 ^ 64 - 1) }
+        ensures { (J : Items Record) → ShardStands self.now J
+            → result ≡ min (room_kept self.now.header.shape J) (2 ^ 64 - 1) }
     {
         let mut room = 0u64;
         for lane in 0..self.header.shape.lane_count() {

@@ -39,7 +39,8 @@ pub fn number_of(slot: &LaneSlot) -> u64
 // What a Lock is answered where no batch of the lane is remembered.
 fn lock_idle(number: u64, stamp: Stamp, call: &LockCall) -> LockAnswer
     ensures again { RemembersAgain result (LaneSlot.Idle number stamp) call.now.batch.number }
-    ensures judged { (J : Items Record) → SlotStands (LaneSlot.Idle number stamp) J call.now.batch.lane → IsLockJudged result J call.now.batch call.now.part call.now.cause }
+    ensures judged { (J : Items Record) → SlotStands (LaneSlot.Idle number stamp) J call.now.batch.lane
+        → IsLockJudged result J call.now.batch call.now.part call.now.cause }
 {
     let given = call.batch.number;
     if given <= number {
@@ -54,8 +55,10 @@ fn lock_idle(number: u64, stamp: Stamp, call: &LockCall) -> LockAnswer
 // What a Lock is answered where the lane's last batch is remembered with this part.
 fn lock_open(number: u64, part: &[Entry], call: &LockCall) -> LockAnswer
     ensures not_next { result ≢ LockAnswer.Next }
-    ensures judged { (J : Items Record) (p : Phase) → slot_of J call.now.batch.lane ≡ record { number = number; phase = p } → is_idle p ≡ false
-        → entries (lock_of J (batch_numbered call.now.batch.lane number)) ≡ part.now → IsLockJudged result J call.now.batch call.now.part call.now.cause }
+    ensures judged { (J : Items Record) (p : Phase)
+        → slot_of J call.now.batch.lane ≡ record { number = number; phase = p }
+        → is_idle p ≡ false → entries (lock_of J (batch_numbered call.now.batch.lane number)) ≡ part.now
+        → IsLockJudged result J call.now.batch call.now.part call.now.cause }
     ensures again { result ≡ LockAnswer.Again → call.now.batch.number ≡ number }
 {
     let given = call.batch.number;
@@ -75,7 +78,8 @@ fn lock_open(number: u64, part: &[Entry], call: &LockCall) -> LockAnswer
 pub fn judge_lock(slot: &LaneSlot, call: &LockCall) -> LockAnswer
     ensures next { FitsLock result slot.now }
     ensures again { RemembersAgain result slot.now call.now.batch.number }
-    ensures judged { (J : Items Record) → SlotStands slot.now J call.now.batch.lane → IsLockJudged result J call.now.batch call.now.part call.now.cause }
+    ensures judged { (J : Items Record) → SlotStands slot.now J call.now.batch.lane
+        → IsLockJudged result J call.now.batch call.now.part call.now.cause }
 {
     match slot {
         LaneSlot::Idle(number, stamp) => lock_idle(*number, *stamp, call),
@@ -86,7 +90,8 @@ pub fn judge_lock(slot: &LaneSlot, call: &LockCall) -> LockAnswer
 
 // The replies that a slot keeps, and the stamp of its Lock.
 pub fn kept_replies(alloc: Global, slot: &LaneSlot) -> Result<Replied, AllocError>
-    ensures { IfOk result (λ r. (J : Items Record) (b : Batch) → SlotStands slot.now J b.lane → SlotRemembers slot.now b.number → core_replies r ≡ kept_at J b) }
+    ensures { IfOk result (λ r. (J : Items Record) (b : Batch)
+        → SlotStands slot.now J b.lane → SlotRemembers slot.now b.number → core_replies r ≡ kept_at J b) }
 {
     match slot {
         LaneSlot::Idle(_, stamp) => Ok(Replied {
@@ -110,7 +115,8 @@ fn replied(alloc: Global, replies: &List<Reply>, stamp: Stamp) -> Result<Replied
 // What a Finish is answered where no batch of the lane is remembered.
 #[tactic(auto, using(crate::proofs::Finishes::finishes))]
 fn finish_idle(number: u64, call: &FinishCall) -> StampPlan
-    ensures next { (t : ℕ) → FitsFinish result (LaneSlot.Idle number t) call.now.batch.number call.now.decisions }
+    ensures next { (t : ℕ)
+        → FitsFinish result (LaneSlot.Idle number t) call.now.batch.number call.now.decisions }
     ensures plan { (J : Items Record) (t : ℕ) → SlotStands (LaneSlot.Idle number t) J call.now.batch.lane
         → core_plan result ≡ next_finish J call.now.batch call.now.decisions call.now.cause }
 {
@@ -130,8 +136,10 @@ fn finish_locked(
     call: &FinishCall,
     next: Stamp,
 ) -> StampPlan
-    ensures next { (part : Items Entry) → FitsFinish result (LaneSlot.Locked number part replies.now stamp) call.now.batch.number call.now.decisions }
-    ensures plan { (J : Items Record) (part : Items Entry) → SlotStands (LaneSlot.Locked number part replies.now stamp) J call.now.batch.lane
+    ensures next { (part : Items Entry) → FitsFinish result
+        (LaneSlot.Locked number part replies.now stamp) call.now.batch.number call.now.decisions }
+    ensures plan { (J : Items Record) (part : Items Entry)
+        → SlotStands (LaneSlot.Locked number part replies.now stamp) J call.now.batch.lane
         → next ≡ next_stamp J call.now.cause
         → core_plan result ≡ next_finish J call.now.batch call.now.decisions call.now.cause }
 {
@@ -154,8 +162,10 @@ fn finish_locked(
 // What a Finish is answered where the lane's last batch is finished with these decisions, under this stamp.
 #[tactic(auto, using(crate::proofs::Finishes::finishes))]
 fn finish_again(number: u64, decisions: &[bool], stamp: Stamp, call: &FinishCall) -> StampPlan
-    ensures next { (part : Items Entry) (rs : Items Reply) (t : ℕ) → FitsFinish result (LaneSlot.Finished number part rs decisions.now t stamp) call.now.batch.number call.now.decisions }
-    ensures plan { (J : Items Record) (part : Items Entry) (rs : Items Reply) (t : ℕ) → SlotStands (LaneSlot.Finished number part rs decisions.now t stamp) J call.now.batch.lane
+    ensures next { (part : Items Entry) (rs : Items Reply) (t : ℕ) → FitsFinish result
+        (LaneSlot.Finished number part rs decisions.now t stamp) call.now.batch.number call.now.decisions }
+    ensures plan { (J : Items Record) (part : Items Entry) (rs : Items Reply) (t : ℕ)
+        → SlotStands (LaneSlot.Finished number part rs decisions.now t stamp) J call.now.batch.lane
         → core_plan result ≡ next_finish J call.now.batch call.now.decisions call.now.cause }
 {
     let given = call.batch.number;
@@ -174,7 +184,8 @@ fn finish_again(number: u64, decisions: &[bool], stamp: Stamp, call: &FinishCall
 // What a Finish of the lane of this slot is answered, where `next` is the stamp of a new record.
 pub fn judge_finish(slot: &LaneSlot, call: &FinishCall, next: Stamp) -> StampPlan
     ensures next { FitsFinish result slot.now call.now.batch.number call.now.decisions }
-    ensures plan { (J : Items Record) → SlotStands slot.now J call.now.batch.lane → next ≡ next_stamp J call.now.cause
+    ensures plan { (J : Items Record)
+        → SlotStands slot.now J call.now.batch.lane → next ≡ next_stamp J call.now.cause
         → core_plan result ≡ next_finish J call.now.batch call.now.decisions call.now.cause }
 {
     match slot {
@@ -210,8 +221,8 @@ fn late_enough(stamp: Stamp, cause: Stamp, next: Stamp) -> StampPlan
 #[tactic(auto, using(crate::proofs::Forgets::forgets))]
 pub fn judge_forget(slot: &LaneSlot, call: &ForgetCall, next: Stamp) -> StampPlan
     ensures next { FitsForget result slot.now }
-    ensures plan { (J : Items Record) → SlotStands slot.now J call.now.batch.lane → next ≡ next_stamp J call.now.cause
-        → core_plan result ≡ next_forget J call.now.batch call.now.cause }
+    ensures plan { (J : Items Record) → SlotStands slot.now J call.now.batch.lane → next
+        ≡ next_stamp J call.now.cause → core_plan result ≡ next_forget J call.now.batch call.now.cause }
 {
     let given = call.batch.number;
     let number = number_of(slot);

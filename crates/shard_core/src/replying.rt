@@ -50,7 +50,8 @@ fn reply_to(
     inputs: &[Hash],
     batch: &BatchId,
 ) -> Reply
-    ensures { (J : Items Record) (before : Items Digest) → HashesAgree unspent.now.hashes locks.now.held J → ((y : Digest) → has claimed.now y ≡ has before y)
+    ensures { (J : Items Record) (before : Items Digest)
+        → HashesAgree unspent.now.hashes locks.now.held J → ((y : Digest) → has claimed.now y ≡ has before y)
         → result ≡ the_reply J batch.now before inputs.now }
 {
     for x in inputs {
@@ -71,7 +72,8 @@ pub fn replies_to(
     batch: &BatchId,
 ) -> Result<Vec<Reply>, AllocError>
     ensures len { IfOk result (λ v. length v.items ≡ length entries.now) }
-    ensures replies { IfOk result (λ v. (J : Items Record) → HashesAgree unspent.now.hashes locks.now.held J → v.items ≡ replies_in (answered J batch.now [] entries.now)) }
+    ensures replies { IfOk result (λ v. (J : Items Record) → HashesAgree unspent.now.hashes locks.now.held J
+        → v.items ≡ replies_in (answered J batch.now [] entries.now)) }
 {
     let mut claimed = Claims::of_part(alloc, hash_count(entries))?;
     let mut replies = Vec::with_capacity(alloc, entries.len())?;

@@ -27,7 +27,7 @@ const LAST_LOCK: u64 = 4611686018427387904;
 const BEHIND_LOCK: u64 = 76;
 
 /// The fewest bytes of a record that is still to come.
-const LEAST: u64 = 34;
+pub(crate) const LEAST: u64 = 34;
 
 /// The most bytes of a Finish's body.
 pub(crate) const LARGEST_FINISH: u64 = 1057;
@@ -56,10 +56,12 @@ fn take_memory<D: Disk>(
 ) -> Result<(), AllocError>
     requires lane { lane < length memory.old.items }
     requires bytes { bytes < 2 ^ 62 }
-    ensures decisions { OnOk result ((m : GhostVec Bool) → slice_get memory.new.items lane ≡ Some m → entries ≤ vec_capacity m) }
+    ensures decisions { OnOk result ((m : GhostVec Bool) → slice_get memory.new.items lane ≡ Some m
+        → entries ≤ vec_capacity m) }
     ensures room { OnOk result (HasLogRoom log.new count bytes) }
     ensures lanes { length memory.new.items ≡ length memory.old.items }
-    ensures others { (l : ℕ) (m : GhostVec Bool) → l ≢ lane → slice_get memory.new.items l ≡ Some m → slice_get memory.old.items l ≡ Some m }
+    ensures others { (l : ℕ) (m : GhostVec Bool) → l ≢ lane → slice_get memory.new.items l ≡ Some m
+        → slice_get memory.old.items l ≡ Some m }
     ensures keeps { KeepsRoom log.old log.new }
     ensures untouched { IsUntouched log.old log.new }
     ensures records { log.new.records.items ≡ log.old.records.items }
@@ -81,13 +83,16 @@ fn append_lock<D: Disk>(
     requires shard { IsShardOf parts.old }
     requires call { IsLockCall parts.old.log.header call.now }
     requires whole { broken_of parts.old.log.journal ≡ None }
-    requires next { next_lock (journal_of_parts parts.old) call.now.batch call.now.part call.now.cause ≡ Append (core_replies replied) }
+    requires next { next_lock (journal_of_parts parts.old) call.now.batch call.now.part call.now.cause
+        ≡ Append (core_replies replied) }
     requires ready { IsLockReady parts.old.core call.now.part replied.replies }
     requires free { IsLaneFree parts.old.core call.now.batch.lane }
     ensures shard { IsShardOf parts.new }
-    ensures meets { Meets true (lock_due parts.old.log.header.shape (D.limit (disk_of parts.old.log.journal)) call.now None (journal_of_parts parts.old))
+    ensures meets { Meets true (lock_due parts.old.log.header.shape
+        (D.limit (disk_of parts.old.log.journal)) call.now None (journal_of_parts parts.old))
         (sight (view_of parts.old)) (sight (view_of parts.new)) (journal_of_parts parts.old) result }
-    ensures broken { broken_of parts.new.log.journal ≡ broken_behind result (D.count (disk_of parts.new.log.journal)) None }
+    ensures broken { broken_of parts.new.log.journal
+        ≡ broken_behind result (D.count (disk_of parts.new.log.journal)) None }
     ensures holds { HoldsJournal D.Disk (view_of parts.old) → HoldsJournal D.Disk (view_of parts.new) }
     ensures leaves { HoldsJournal D.Disk (view_of parts.old)
         → LeavesBetween D.Disk (view_of parts.old) (view_of parts.new) }
@@ -138,9 +143,11 @@ pub(crate) fn lock_parts<D: Disk>(
     requires shard { IsShardOf parts.old }
     requires call { IsLockCall parts.old.log.header call.now }
     ensures shard { IsShardOf parts.new }
-    ensures meets { Meets true (lock_due parts.old.log.header.shape (D.limit (disk_of parts.old.log.journal)) call.now (broken_of parts.old.log.journal) (journal_of_parts parts.old))
+    ensures meets { Meets true (lock_due parts.old.log.header.shape (D.limit (disk_of parts.old.log.journal))
+        call.now (broken_of parts.old.log.journal) (journal_of_parts parts.old))
         (sight (view_of parts.old)) (sight (view_of parts.new)) (journal_of_parts parts.old) result }
-    ensures broken { broken_of parts.new.log.journal ≡ broken_behind result (D.count (disk_of parts.new.log.journal)) (broken_of parts.old.log.journal) }
+    ensures broken { broken_of parts.new.log.journal
+        ≡ broken_behind result (D.count (disk_of parts.new.log.journal)) (broken_of parts.old.log.journal) }
     ensures holds { HoldsJournal D.Disk (view_of parts.old) → HoldsJournal D.Disk (view_of parts.new) }
     ensures leaves { HoldsJournal D.Disk (view_of parts.old)
         → LeavesBetween D.Disk (view_of parts.old) (view_of parts.new) }

@@ -58,8 +58,8 @@ impl<D: Disk> ShardNode<D> {
     /// Out of memory: before its first write; the shard's journal is as before.
     pub fn lock(&mut self, call: &LockCall) -> Result<Replied, NodeFault>
         requires { IsLockCall self.old.header call.now }
-        ensures meets { Meets true (lock_due self.old.header.shape self.old.capacity call.now self.old.broken self.old.journal)
-            (sight self.old) (sight self.new) self.old.journal result }
+        ensures meets { Meets true (lock_due self.old.header.shape self.old.capacity call.now
+            self.old.broken self.old.journal) (sight self.old) (sight self.new) self.old.journal result }
         ensures broken { self.new.broken ≡ broken_behind result self.new.faults self.old.broken }
         ensures later { self.old.faults ≤ self.new.faults }
         ensures header { self.new.header ≡ self.old.header }
@@ -144,10 +144,12 @@ impl<D: Disk> ShardNode<D> {
         // A record is in flight exactly where an append has failed since, and it had room.
         ensures landed { self.now.broken ≡ None → self.now.flight ≡ None }
         ensures unbroken { self.now.flight ≡ None → self.now.broken ≡ None }
-        ensures fits { IfSome self.now.flight (λ r. used_of self.now.journal + need_of self.now.header.shape self.now.journal r ≤ self.now.capacity) }
+        ensures fits { IfSome self.now.flight (λ r.
+            used_of self.now.journal + need_of self.now.header.shape self.now.journal r ≤ self.now.capacity) }
 
         // What its journal takes, with what is kept for its unfinished batches, lies within the capacity.
-        ensures room { used_of self.now.journal + kept_room self.now.header.shape self.now.journal ≤ self.now.capacity }
+        ensures room { used_of self.now.journal + kept_room self.now.header.shape self.now.journal
+            ≤ self.now.capacity }
     {
         &self.parts.log.header
     }

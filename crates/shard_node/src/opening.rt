@@ -13,16 +13,13 @@ ghost use Rattle.shard_node.specs.Opening.{IsShardJournal, IsNoShard};
 ghost use Rattle.shard_node.specs.Parts.{IsShardOf, IsShardOpened};
 
 use crate::ShardNode;
-use crate::locking::LARGEST_FINISH;
+use crate::locking::{LARGEST_FINISH, LEAST};
 use crate::parts::Parts;
 use cbdc_types::NodeOpenFault;
 use node_journal::{Opened, open_node};
 use outside::Disk;
 use shard_core::ShardCore;
 use std::alloc::{AllocError, Global};
-
-/// The fewest bytes of a record that is still to come.
-const LEAST: u64 = 34;
 
 // Memory for as many decisions in each of so many lanes.
 fn memory_of(alloc: Global, lanes: u32, batch: u32) -> Result<Vec<Vec<bool>>, AllocError>
@@ -43,7 +40,8 @@ fn memory_ahead<D: Disk>(
 ) -> Result<Vec<Vec<bool>>, AllocError>
     requires { IsShardOpened opened.old }
     ensures shard { IfOk result (λ decisions. (count : ℕ) → count ≤ D.count (disk_of opened.new.log.journal)
-        → IsShardOf (record { log = opened.new.log; core = opened.new.core; decisions = decisions; flight = None; opened = count })) }
+        → IsShardOf (record { log = opened.new.log;
+        core = opened.new.core; decisions = decisions; flight = None; opened = count })) }
     ensures untouched { IsUntouched opened.old.log opened.new.log }
     ensures records { opened.new.log.records.items ≡ opened.old.log.records.items }
     ensures header { opened.new.log.header ≡ opened.old.log.header }
@@ -63,7 +61,8 @@ impl<D: Disk> ShardNode<D> {
     /// Out of memory: the disk comes back as it was read.
     pub fn open(alloc: Global, disk: D) -> Result<ShardNode<D>, (D, NodeOpenFault)>
         // The content opens to just this journal, and a crash leaves nothing else.
-        ensures opens { IfOk result (λ n. Tells (D.content disk) (λ c. IsShardJournal n.header n.journal c × HoldsJournal D.Disk n)) }
+        ensures opens { IfOk result
+            (λ n. Tells (D.content disk) (λ c. IsShardJournal n.header n.journal c × HoldsJournal D.Disk n)) }
 
         // It is a shard's journal, whatever the content tells.
         ensures journal { IfOk result (λ n. IsJournal n.header n.journal) }
@@ -73,13 +72,16 @@ impl<D: Disk> ShardNode<D> {
         ensures refusal { IfErr result (λ e. Tells (D.content disk) (λ c. IsNoShard (D.limit disk) c e.1)) }
         ensures fresh { IfOk result (λ n. (n.flight ≡ None) × (n.broken ≡ None) × (n.opened ≡ n.faults)) }
         ensures later { MatchResult result (λ n. D.count disk ≤ n.faults) (λ e. D.count disk ≤ D.count e.0) }
-        ensures fault { IfErr result (λ e. e.1 ≡ NodeOpenFault.DiskFault → Rose (D.count disk) (D.count e.0)) }
-        ensures limit { MatchResult result (λ n. n.capacity ≡ D.limit disk) (λ e. D.limit e.0 ≡ D.limit disk) }
+        ensures fault { IfErr result (λ e. e.1 ≡ NodeOpenFault.DiskFault
+            → Rose (D.count disk) (D.count e.0)) }
+        ensures limit { MatchResult result
+            (λ n. n.capacity ≡ D.limit disk) (λ e. D.limit e.0 ≡ D.limit disk) }
 
         ensures shows { IfOk result (λ n. (n.faults ≡ D.count n.disk) × (n.capacity ≡ D.limit n.disk)) }
 
         // It fits on the disk with all that its batches still need.
-        ensures room { IfOk result (λ n. used_of n.journal + kept_room n.header.shape n.journal ≤ n.capacity) }
+        ensures room { IfOk result
+            (λ n. used_of n.journal + kept_room n.header.shape n.journal ≤ n.capacity) }
 
         // Unless it failed, the disk reads as before, and a crash may leave nothing more than before.
         ensures same { MatchResult result (λ n. D.content n.disk ≡ D.content disk)

@@ -30,10 +30,12 @@ fn take_decisions(
     decisions: &[bool],
 ) -> Decisions
     requires lane { lane < length memory.old.items }
-    requires room { (m : GhostVec Bool) → slice_get memory.old.items lane ≡ Some m → length decisions.now ≤ vec_capacity m }
+    requires room { (m : GhostVec Bool) → slice_get memory.old.items lane ≡ Some m
+        → length decisions.now ≤ vec_capacity m }
     ensures value { result ≡ decisions.now }
     ensures lanes { length memory.new.items ≡ length memory.old.items }
-    ensures others { (l : ℕ) (m : GhostVec Bool) → l ≢ lane → slice_get memory.new.items l ≡ Some m → slice_get memory.old.items l ≡ Some m }
+    ensures others { (l : ℕ) (m : GhostVec Bool) → l ≢ lane → slice_get memory.new.items l ≡ Some m
+        → slice_get memory.old.items l ≡ Some m }
 {
     let mut kept = mem::replace(&mut memory[lane.0 as usize], Vec::new(alloc));
     kept.clear();
@@ -51,12 +53,14 @@ fn append_finish<D: Disk>(
     requires shard { IsShardOf parts.old }
     requires call { IsFinishCall parts.old.log.header call.now }
     requires whole { broken_of parts.old.log.journal ≡ None }
-    requires next { next_finish (journal_of_parts parts.old) call.now.batch call.now.decisions call.now.cause ≡ Append stamp }
+    requires next { next_finish (journal_of_parts parts.old) call.now.batch call.now.decisions call.now.cause
+        ≡ Append stamp }
     requires locked { IsFinishable parts.old.core call.now.batch call.now.decisions }
     ensures shard { IsShardOf parts.new }
     ensures meets { Meets false (finish_due call.now None (journal_of_parts parts.old))
         (sight (view_of parts.old)) (sight (view_of parts.new)) (journal_of_parts parts.old) result }
-    ensures broken { broken_of parts.new.log.journal ≡ broken_behind result (D.count (disk_of parts.new.log.journal)) None }
+    ensures broken { broken_of parts.new.log.journal
+        ≡ broken_behind result (D.count (disk_of parts.new.log.journal)) None }
     ensures holds { HoldsJournal D.Disk (view_of parts.old) → HoldsJournal D.Disk (view_of parts.new) }
     ensures leaves { HoldsJournal D.Disk (view_of parts.old)
         → LeavesBetween D.Disk (view_of parts.old) (view_of parts.new) }
@@ -95,7 +99,8 @@ fn append_forget<D: Disk>(
     ensures shard { IsShardOf parts.new }
     ensures meets { Meets false (forget_due call.now None (journal_of_parts parts.old))
         (sight (view_of parts.old)) (sight (view_of parts.new)) (journal_of_parts parts.old) result }
-    ensures broken { broken_of parts.new.log.journal ≡ broken_behind result (D.count (disk_of parts.new.log.journal)) None }
+    ensures broken { broken_of parts.new.log.journal
+        ≡ broken_behind result (D.count (disk_of parts.new.log.journal)) None }
     ensures holds { HoldsJournal D.Disk (view_of parts.old) → HoldsJournal D.Disk (view_of parts.new) }
     ensures leaves { HoldsJournal D.Disk (view_of parts.old)
         → LeavesBetween D.Disk (view_of parts.old) (view_of parts.new) }
@@ -122,9 +127,11 @@ pub(crate) fn finish_parts<D: Disk>(
     requires shard { IsShardOf parts.old }
     requires call { IsFinishCall parts.old.log.header call.now }
     ensures shard { IsShardOf parts.new }
-    ensures meets { Meets false (finish_due call.now (broken_of parts.old.log.journal) (journal_of_parts parts.old))
+    ensures meets { Meets false
+        (finish_due call.now (broken_of parts.old.log.journal) (journal_of_parts parts.old))
         (sight (view_of parts.old)) (sight (view_of parts.new)) (journal_of_parts parts.old) result }
-    ensures broken { broken_of parts.new.log.journal ≡ broken_behind result (D.count (disk_of parts.new.log.journal)) (broken_of parts.old.log.journal) }
+    ensures broken { broken_of parts.new.log.journal
+        ≡ broken_behind result (D.count (disk_of parts.new.log.journal)) (broken_of parts.old.log.journal) }
     ensures holds { HoldsJournal D.Disk (view_of parts.old) → HoldsJournal D.Disk (view_of parts.new) }
     ensures leaves { HoldsJournal D.Disk (view_of parts.old)
         → LeavesBetween D.Disk (view_of parts.old) (view_of parts.new) }
@@ -147,9 +154,11 @@ pub(crate) fn forget_parts<D: Disk>(
     requires shard { IsShardOf parts.old }
     requires call { IsForgetCall parts.old.log.header call.now }
     ensures shard { IsShardOf parts.new }
-    ensures meets { Meets false (forget_due call.now (broken_of parts.old.log.journal) (journal_of_parts parts.old))
+    ensures meets { Meets false
+        (forget_due call.now (broken_of parts.old.log.journal) (journal_of_parts parts.old))
         (sight (view_of parts.old)) (sight (view_of parts.new)) (journal_of_parts parts.old) result }
-    ensures broken { broken_of parts.new.log.journal ≡ broken_behind result (D.count (disk_of parts.new.log.journal)) (broken_of parts.old.log.journal) }
+    ensures broken { broken_of parts.new.log.journal
+        ≡ broken_behind result (D.count (disk_of parts.new.log.journal)) (broken_of parts.old.log.journal) }
     ensures holds { HoldsJournal D.Disk (view_of parts.old) → HoldsJournal D.Disk (view_of parts.new) }
     ensures leaves { HoldsJournal D.Disk (view_of parts.old)
         → LeavesBetween D.Disk (view_of parts.old) (view_of parts.new) }

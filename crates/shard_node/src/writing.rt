@@ -18,7 +18,8 @@ pub(crate) fn write<D: Disk>(parts: &mut Parts<D>, next: Record) -> Result<(), N
     requires memory { HasLogRoom parts.old.log 1 (length (body_of next)) }
     requires whole { broken_of parts.old.log.journal ≡ None }
     requires landed { parts.old.flight ≡ None }
-    requires room { gate_of parts.old.log.journal + 1 + (9 + length (body_of next)) ≤ D.limit (disk_of parts.old.log.journal) }
+    requires room { gate_of parts.old.log.journal + 1 + (9 + length (body_of next))
+        ≤ D.limit (disk_of parts.old.log.journal) }
     ensures written { OnOk result (HasWritten parts.old parts.new next) }
     ensures failed { OnErr result (HasFailedAt parts.old parts.new next) }
     ensures fault { IfErr result (λ e. e ≡ NodeFault.DiskFault) }

@@ -16,8 +16,8 @@ fn open_entry(
 ) -> Result<(), AllocError>
     ensures some { OnOk result (0 < vec_len entries.new) }
     ensures opened { OnOk result ((before : Items Entry) (ins outs : Items Digest) → AreBefore place before
-        → entries.old.items ≡ before ++ entry_if place id.now ins outs
-        → entries.new.items ≡ before ++ record { place = place; id = id.now; inputs = ins; outputs = outs } ∷ []) }
+        → entries.old.items ≡ before ++ entry_if place id.now ins outs → entries.new.items
+        ≡ before ++ record { place = place; id = id.now; inputs = ins; outputs = outs } ∷ []) }
 {
     if let Some(last) = entries.last() {
         if last.place == place {
@@ -81,7 +81,8 @@ fn add_inputs(
     requires some { 0 < shards }
     requires few { shards ≤ 64 }
     ensures count { vec_len parts.new ≡ shards }
-    ensures grown { OnOk result ((txs : Items Compact) → length txs ≡ place → AreSplit shards txs parts.old.items
+    ensures grown { OnOk result ((txs : Items Compact)
+        → length txs ≡ place → AreSplit shards txs parts.old.items
         → AreGrown shards txs place tx.now.id tx.now.inputs [] parts.new.items) }
 {
     for x in tx.inputs.as_slice() {
@@ -103,7 +104,8 @@ fn add_outputs(
     requires some { 0 < shards }
     requires few { shards ≤ 64 }
     ensures count { vec_len parts.new ≡ shards }
-    ensures grown { OnOk result ((txs : Items Compact) → length txs ≡ place → AreGrown shards txs place tx.now.id tx.now.inputs [] parts.old.items
+    ensures grown { OnOk result ((txs : Items Compact)
+        → length txs ≡ place → AreGrown shards txs place tx.now.id tx.now.inputs [] parts.old.items
         → AreGrown shards txs place tx.now.id tx.now.inputs tx.now.outputs parts.new.items) }
 {
     for x in tx.outputs.as_slice() {
@@ -125,8 +127,8 @@ fn add_tx(
     requires some { 0 < shards }
     requires few { shards ≤ 64 }
     ensures count { vec_len parts.new ≡ shards }
-    ensures added { OnOk result ((txs : Items Compact) → length txs ≡ place → AreSplit shards txs parts.old.items
-        → AreSplit shards (txs ++ tx.now ∷ []) parts.new.items) }
+    ensures added { OnOk result ((txs : Items Compact) → length txs ≡ place
+        → AreSplit shards txs parts.old.items → AreSplit shards (txs ++ tx.now ∷ []) parts.new.items) }
 {
     add_inputs(alloc, parts, shards, place, tx)?;
     add_outputs(alloc, parts, shards, place, tx)

@@ -5,7 +5,7 @@ use Rattle.std.proofs.lemmas.List.{get_or-set_same, get_or-set_other, length-set
 use Rattle.cbdc_model.specs.Records.{Digest, same_digest}
 use Rattle.shard_table.specs.declared.slots.Kept.{Kept}
 use Rattle.shard_table.specs.Entries.{lookup}
-use Rattle.shard_table.specs.Slots.{gather, slot_at, is_taken, home_of, Passed, IsPlaced, IsSound, IsAhead, IsPlace, IsOther, IsFor, IsOpen, IsShifted}
+use Rattle.shard_table.specs.Slots.{gather, slot_at, is_taken, home_slot, Passed, ArePlacedSlots, IsSound, IsAhead, IsPlace, IsOther, IsFor, IsOpen, IsShifted}
 use Rattle.shard_table.proofs.Gathers.{same_is, same_of, gathered_none, gathered_at, filled_other, freed_other, filled_count, freed_count, full_count}
 use Rattle.shard_table.proofs.Circle.{Yes, No, same_nat, Ahead, Both, Behind, first_of, passed_before, passed_not, passed_on, passed_more, passed_one, passed_wrap}
 
@@ -68,7 +68,7 @@ in_range (s ∷ slots) zero f h = omega arith
 in_range (s ∷ slots) (suc i) f h = let rest = in_range slots i f h in omega (arith, rest)
 
 -- freeing a slot makes it the gap
-pub free_placed : {V : Type 0} (slots : List (Option (Kept V))) (homes at : ℕ) → IsSound slots homes → at < length slots → IsPlaced (set slots at None) homes at
+pub free_placed : {V : Type 0} (slots : List (Option (Kept V))) (homes at : ℕ) → IsSound slots homes → at < length slots → ArePlacedSlots (set slots at None) homes at
 free_placed slots homes at s l =
     record {
       filled = λ i m f h b c n. elim (freed_at slots at i f l h) [ Still k g ↦ freed_taken slots at m n (s.filled i m f g b c (omega arith)) ];
@@ -76,16 +76,16 @@ free_placed slots homes at s l =
     }
 
 -- a hash with the gap between its home and it is moved into the gap
-pub move_placed : {V : Type 0} (slots : List (Option (Kept V))) (homes gap at : ℕ) (e : Kept V) → IsPlaced slots homes gap → gap ≢ at → gap < length slots → at < length slots
-    → slot_at slots at ≡ Some e → Passed (home_of homes e.hash) at gap → IsPlaced (set (set slots at None) gap (Some e)) homes at
+pub move_placed : {V : Type 0} (slots : List (Option (Kept V))) (homes gap at : ℕ) (e : Kept V) → ArePlacedSlots slots homes gap → gap ≢ at → gap < length slots → at < length slots
+    → slot_at slots at ≡ Some e → Passed (home_slot homes e.hash) at gap → ArePlacedSlots (set (set slots at None) gap (Some e)) homes at
 move_placed slots homes gap at e p g w l is home =
     let fits : gap < length (set slots at None) = let same = length-set slots at None in omega (arith, same) in
     record {
       filled = λ i m f h b c n. elim (filled_at (set slots at None) gap e i f fits h) [
         | Here q same ↦
-            let before : Passed (home_of homes e.hash) gap m = subst (λ (v : Kept _). Passed (home_of homes v.hash) gap m) same (subst (λ (k : ℕ). Passed (home_of homes f.hash) k m) q c) in
+            let before : Passed (home_slot homes e.hash) gap m = subst (λ (v : Kept _). Passed (home_slot homes v.hash) gap m) same (subst (λ (k : ℕ). Passed (home_slot homes f.hash) k m) q c) in
             filled_taken (set slots at None) gap m e fits
-            (freed_taken slots at m n (p.filled at m e is b (passed_before (home_of homes e.hash) at gap m home before) (passed_not (home_of homes e.hash) gap m before)))
+            (freed_taken slots at m n (p.filled at m e is b (passed_before (home_slot homes e.hash) at gap m home before) (passed_not (home_slot homes e.hash) gap m before)))
         | There o k ↦ elim (freed_at slots at i f l k) [
           | Still r d ↦
               elim (same_nat m gap) [
@@ -115,8 +115,8 @@ move_placed slots homes gap at e p g w l is home =
 
 -- ---- closing a gap
 
-not_ahead : {V : Type 0} (homes at gap : ℕ) (s : Option (Kept V)) (f : Kept V) → s ≡ Some f → Passed (home_of homes f.hash) at gap → IsAhead s homes at gap → ⊥
-not_ahead homes at gap s f h b a = let no : Passed (home_of homes f.hash) at gap → ⊥ = rw h at a in no b
+not_ahead : {V : Type 0} (homes at gap : ℕ) (s : Option (Kept V)) (f : Kept V) → s ≡ Some f → Passed (home_slot homes f.hash) at gap → IsAhead s homes at gap → ⊥
+not_ahead homes at gap s f h b a = let no : Passed (home_slot homes f.hash) at gap → ⊥ = rw h at a in no b
 
 none_taken : {V : Type 0} (s : Option (Kept V)) (f : Kept V) → s ≡ None → s ≡ Some f → ⊥
 none_taken s f h k = none_is f (sym h ∙ k)
@@ -131,7 +131,7 @@ open_start slots homes at s same l = record {
 }
 
 pub open_move : {V : Type 0} (slots : List (Option (Kept V))) (homes gap at : ℕ) (e : Kept V) → IsOpen slots homes gap at → homes ≡ length slots → at < homes → gap ≢ at
-    → slot_at slots at ≡ Some e → Passed (home_of homes e.hash) at gap → IsOpen (set (set slots at None) gap (Some e)) homes at (at + 1)
+    → slot_at slots at ≡ Some e → Passed (home_slot homes e.hash) at gap → IsOpen (set (set slots at None) gap (Some e)) homes at (at + 1)
 open_move slots homes gap at e o same l n is home =
     let fits : at < length slots = omega arith in
     record {
@@ -142,7 +142,7 @@ open_move slots homes gap at e o same l n is home =
     }
 
 pub open_keep : {V : Type 0} (slots : List (Option (Kept V))) (homes gap at : ℕ) (e : Kept V) → IsOpen slots homes gap at → gap ≢ at
-    → slot_at slots at ≡ Some e → (Passed (home_of homes e.hash) at gap → ⊥) → IsOpen slots homes gap (at + 1)
+    → slot_at slots at ≡ Some e → (Passed (home_slot homes e.hash) at gap → ⊥) → IsOpen slots homes gap (at + 1)
 open_keep slots homes gap at e o n is not = record {
   within = o.within;
   empty = o.empty;
@@ -153,7 +153,7 @@ open_keep slots homes gap at e o n is not = record {
   ];
 }
   where
-    here : {V : Type 0} (homes gap at : ℕ) (e : Kept V) (s : Option (Kept V)) → s ≡ Some e → (Passed (home_of homes e.hash) at gap → ⊥) → IsAhead s homes at gap
+    here : {V : Type 0} (homes gap at : ℕ) (e : Kept V) (s : Option (Kept V)) → s ≡ Some e → (Passed (home_slot homes e.hash) at gap → ⊥) → IsAhead s homes at gap
     here homes gap at e s is not = rw is not
 
 pub open_wrap : {V : Type 0} (slots : List (Option (Kept V))) (homes gap : ℕ) → IsOpen slots homes gap homes → IsOpen slots homes gap 0
@@ -166,7 +166,7 @@ open_wrap slots homes gap o = record {
 
 -- no hash behind an open gap has it between its home and itself, once a free slot is come to
 no_gap : {V : Type 0} (slots : List (Option (Kept V))) (homes gap at : ℕ) → IsOpen slots homes gap at → homes ≡ length slots → at < homes → gap ≢ at → slot_at slots at ≡ None
-    → (i : ℕ) (f : Kept V) → slot_at slots i ≡ Some f → Passed (home_of homes f.hash) i gap → ⊥
+    → (i : ℕ) (f : Kept V) → slot_at slots i ≡ Some f → Passed (home_slot homes f.hash) i gap → ⊥
 no_gap slots homes gap at o same l n free i f h p =
     let r : i < length slots = in_range slots i f h in
     elim (same_nat i gap) [
@@ -174,7 +174,7 @@ no_gap slots homes gap at o same l n free i f h p =
       | No q ↦ elim (first_of gap i at) [
         | Ahead a ↦ not_ahead homes i gap (slot_at slots i) f h p (o.ahead i (omega arith) a q)
         | Both e ↦ none_taken (slot_at slots at) f free (subst (λ (k : ℕ). slot_at slots k ≡ Some f) e h)
-        | Behind b ↦ not_taken (slot_at slots at) free (o.placed.filled i at f h l (passed_on (home_of homes f.hash) i gap at p b) (omega arith))
+        | Behind b ↦ not_taken (slot_at slots at) free (o.placed.filled i at f h l (passed_on (home_slot homes f.hash) i gap at p b) (omega arith))
       ]
     ]
 
@@ -182,7 +182,7 @@ pub open_end : {V : Type 0} (slots : List (Option (Kept V))) (homes gap at : ℕ
 open_end slots homes gap at o same l n free = record {
   filled = λ i m f h b c k. elim (same_nat m gap) [
     | No y ↦ o.placed.filled i m f h b c y
-    | Yes y ↦ absurd (no_gap slots homes gap at o same l n free i f h (subst (λ (j : ℕ). Passed (home_of homes f.hash) i j) y c))
+    | Yes y ↦ absurd (no_gap slots homes gap at o same l n free i f h (subst (λ (j : ℕ). Passed (home_slot homes f.hash) i j) y c))
   ];
   once = o.placed.once;
 }
@@ -210,7 +210,7 @@ all_taken a b c gap n g k p q m l o =
     ]
 
 -- no other slot has the hash of this one
-other_by : {V : Type 0} (slots : List (Option (Kept V))) (homes gap at : ℕ) (e : Kept V) → IsPlaced slots homes gap → slot_at slots at ≡ Some e → (x : Digest)
+other_by : {V : Type 0} (slots : List (Option (Kept V))) (homes gap at : ℕ) (e : Kept V) → ArePlacedSlots slots homes gap → slot_at slots at ≡ Some e → (x : Digest)
     → same_digest e.hash x ≡ true → (j : ℕ) (f : Kept V) → j ≢ at → slot_at slots j ≡ Some f → same_digest f.hash x ≡ false
 other_by slots homes gap at e p is x s j f n h =
     elim (same_digest f.hash x) as (λ c. same_digest f.hash x ≡ c → c ≡ false) [
@@ -219,7 +219,7 @@ other_by slots homes gap at e p is x s j f n h =
     ] refl
 
 -- what is kept under each hash stays the same by the move
-pub moved_kept : {V : Type 0} (slots : List (Option (Kept V))) (homes gap at : ℕ) (e : Kept V) → IsPlaced slots homes gap → gap ≢ at → gap < length slots → at < length slots
+pub moved_kept : {V : Type 0} (slots : List (Option (Kept V))) (homes gap at : ℕ) (e : Kept V) → ArePlacedSlots slots homes gap → gap ≢ at → gap < length slots → at < length slots
     → slot_at slots gap ≡ None → slot_at slots at ≡ Some e → (x : Digest)
     → lookup (gather (set (set slots at None) gap (Some e))) x ≡ lookup (gather slots) x
 moved_kept slots homes gap at e p g w l free is x =
@@ -244,7 +244,7 @@ moved_count slots gap at e g w l free is =
     filled_count (set slots at None) gap e fits apart ∙ freed_count slots at e is
 
 -- where a slot has the hash, what stands there is what is kept under it
-pub here_lookup : {V : Type 0} (slots : List (Option (Kept V))) (homes gap i : ℕ) (e : Kept V) → IsPlaced slots homes gap → slot_at slots i ≡ Some e → (x : Digest)
+pub here_lookup : {V : Type 0} (slots : List (Option (Kept V))) (homes gap i : ℕ) (e : Kept V) → ArePlacedSlots slots homes gap → slot_at slots i ≡ Some e → (x : Digest)
     → same_digest e.hash x ≡ true → lookup (gather slots) x ≡ Some e.value
 here_lookup slots homes gap i e p is x s = gathered_at slots i e x is s (λ j f b h. other_by slots homes gap i e p is x s j f (omega arith) h)
 
@@ -259,7 +259,7 @@ other_taken None x o = absurd o
 other_taken (Some e) x o = refl
 
 -- where the search ends at a free slot, or has gone round, the hash isn't there
-pub absent_lookup : {V : Type 0} (slots : List (Option (Kept V))) (homes : ℕ) (x : Digest) (place : ℕ) → IsSound slots homes → homes ≡ length slots → IsPlace slots (home_of homes x) x place
+pub absent_lookup : {V : Type 0} (slots : List (Option (Kept V))) (homes : ℕ) (x : Digest) (place : ℕ) → IsSound slots homes → homes ≡ length slots → IsPlace slots (home_slot homes x) x place
     → (place < length slots → slot_at slots place ≡ None) → lookup (gather slots) x ≡ None
 absent_lookup slots homes x place s same p free =
     gathered_none slots x (λ i e h.
@@ -270,11 +270,11 @@ absent_lookup slots homes x place s same p free =
           let r : i < length slots = in_range slots i e h in
           absurd (elim (cases_lt place (length slots)) [
             | inr over ↦ not_other (slot_at slots i) e x h t (p.none i r over)
-            | inl l ↦ elim (first_of (home_of homes x) i place) [
+            | inl l ↦ elim (first_of (home_slot homes x) i place) [
               | Ahead a ↦ not_other (slot_at slots i) e x h t (p.passed i r l a)
               | Both q ↦ none_taken (slot_at slots place) e (free l) (subst (λ (k : ℕ). slot_at slots k ≡ Some e) q h)
               | Behind b ↦ not_taken (slot_at slots place) (free l)
-                  (s.filled i place e h (omega arith) (subst (λ (y : Digest). Passed (home_of homes y) i place) (sym is) b) (omega arith))
+                  (s.filled i place e h (omega arith) (subst (λ (y : Digest). Passed (home_slot homes y) i place) (sym is) b) (omega arith))
             ]
           ])
     ] refl)
@@ -290,13 +290,13 @@ place_within slots home x place p room =
     ]
 
 free_or_not : {V : Type 0} (slots : List (Option (Kept V))) (homes : ℕ) (x : Digest) (place : ℕ) (t : Option (Kept V)) → IsSound slots homes
-    → IsPlace slots (home_of homes x) x place → place < length slots → lookup (gather slots) x ≡ None → slot_at slots place ≡ t → slot_at slots place ≡ None
+    → IsPlace slots (home_slot homes x) x place → place < length slots → lookup (gather slots) x ≡ None → slot_at slots place ≡ t → slot_at slots place ≡ None
 free_or_not slots homes x place None s p l absent h = h
 free_or_not slots homes x place (Some e) s p l absent h =
     absurd (none_is e.value (sym absent ∙ here_lookup slots homes homes place e s h x (for_this (slot_at slots place) e x h (p.found l))))
 
 -- a slot where the search for an absent hash ends is free
-pub place_free : {V : Type 0} (slots : List (Option (Kept V))) (homes : ℕ) (x : Digest) (place : ℕ) → IsSound slots homes → IsPlace slots (home_of homes x) x place → place < length slots
+pub place_free : {V : Type 0} (slots : List (Option (Kept V))) (homes : ℕ) (x : Digest) (place : ℕ) → IsSound slots homes → IsPlace slots (home_slot homes x) x place → place < length slots
     → lookup (gather slots) x ≡ None → slot_at slots place ≡ None
 place_free slots homes x place s p l absent = free_or_not slots homes x place (slot_at slots place) s p l absent refl
 
@@ -304,13 +304,13 @@ in_free : {V : Type 0} (slots : List (Option (Kept V))) (homes : ℕ) (x : Diges
     → slot_at slots i ≡ Some e → e.hash ≡ x → ⊥
 in_free slots homes x i e s absent h is = none_is e.value (sym absent ∙ here_lookup slots homes homes i e s h x (same_of e.hash x is))
 
-pub fill_sound : {V : Type 0} (slots : List (Option (Kept V))) (homes : ℕ) (e : Kept V) (place : ℕ) → IsSound slots homes → homes ≡ length slots → IsPlace slots (home_of homes e.hash) e.hash place
+pub fill_sound : {V : Type 0} (slots : List (Option (Kept V))) (homes : ℕ) (e : Kept V) (place : ℕ) → IsSound slots homes → homes ≡ length slots → IsPlace slots (home_slot homes e.hash) e.hash place
     → place < length slots → lookup (gather slots) e.hash ≡ None → IsSound (set slots place (Some e)) homes
 fill_sound slots homes e place s size p l absent =
     record {
       filled = λ i m f h b c n. elim (filled_at slots place e i f l h) [
         | Here q same ↦
-            let before : Passed (home_of homes e.hash) place m = subst (λ (v : Kept _). Passed (home_of homes v.hash) place m) same (subst (λ (k : ℕ). Passed (home_of homes f.hash) k m) q c) in
+            let before : Passed (home_slot homes e.hash) place m = subst (λ (v : Kept _). Passed (home_slot homes v.hash) place m) same (subst (λ (k : ℕ). Passed (home_slot homes f.hash) k m) q c) in
             filled_taken slots place m e l (other_taken (slot_at slots m) e.hash (p.passed m (omega arith) l before))
         | There o k ↦ filled_taken slots place m e l (s.filled i m f k b c n)
       ];
@@ -326,7 +326,7 @@ fill_sound slots homes e place s size p l absent =
       ];
     }
 
-pub fill_kept : {V : Type 0} (slots : List (Option (Kept V))) (homes : ℕ) (e : Kept V) (place : ℕ) → IsSound slots homes → homes ≡ length slots → IsPlace slots (home_of homes e.hash) e.hash place
+pub fill_kept : {V : Type 0} (slots : List (Option (Kept V))) (homes : ℕ) (e : Kept V) (place : ℕ) → IsSound slots homes → homes ≡ length slots → IsPlace slots (home_slot homes e.hash) e.hash place
     → place < length slots → lookup (gather slots) e.hash ≡ None → (x : Digest)
     → lookup (gather (set slots place (Some e))) x ≡ (if same_digest e.hash x then Some e.value else lookup (gather slots) x)
 fill_kept slots homes e place s size p l absent x =
@@ -337,7 +337,7 @@ fill_kept slots homes e place s size p l absent x =
       | false ↦ λ t. filled_other slots place e x free t
     ] refl
 
-pub fill_count : {V : Type 0} (slots : List (Option (Kept V))) (homes : ℕ) (e : Kept V) (place : ℕ) → IsSound slots homes → homes ≡ length slots → IsPlace slots (home_of homes e.hash) e.hash place
+pub fill_count : {V : Type 0} (slots : List (Option (Kept V))) (homes : ℕ) (e : Kept V) (place : ℕ) → IsSound slots homes → homes ≡ length slots → IsPlace slots (home_slot homes e.hash) e.hash place
     → place < length slots → lookup (gather slots) e.hash ≡ None → length (gather (set slots place (Some e))) ≡ length (gather slots) + 1
 fill_count slots homes e place s size p l absent =
     let free : slot_at slots place ≡ None = place_free slots homes e.hash place s p l absent in

@@ -5,8 +5,8 @@ use Rattle.cbdc_model.specs.Records.{Digest, same_digest}
 use Rattle.shard_table.specs.declared.slots.Kept.{Kept}
 
 -- where the search for a hash begins: its bytes 8 to 15 as a number, little endian, modulo the homes
-unfoldable pub home_of : ℕ → Digest → ℕ
-home_of homes x = if homes == 0 then 0 else from_le_bytes w64 (take 8 (drop 8 x)) % homes
+unfoldable pub home_slot : ℕ → Digest → ℕ
+home_slot homes x = if homes == 0 then 0 else from_le_bytes w64 (take 8 (drop 8 x)) % homes
 
 -- how many hashes there is room for: three for each four slots
 abbrev pub limit_of : ℕ → ℕ
@@ -48,7 +48,7 @@ pub data Passed (home at m : ℕ) : Type 0 where
   Below : at < home → m < at → Passed home at m
 
 -- the first slot from `from` on and below `to` that is free or has the hash, or `to`
-pub record IsFirst {V : Type 0} (slots : List (Option (Kept V))) (from to : ℕ) (x : Digest) (place : ℕ) : Type 0 where
+pub record IsFirstSlot {V : Type 0} (slots : List (Option (Kept V))) (from to : ℕ) (x : Digest) (place : ℕ) : Type 0 where
   pub low : from ≤ place
   pub high : place ≤ to
   pub passed : (m : ℕ) → from ≤ m → m < place → IsOther (slot_at slots m) x
@@ -66,24 +66,24 @@ abbrev pub AreOnce : {V : Type 0} → List (Option (Kept V)) → Type 0
 AreOnce slots = (i j : ℕ) (e f : Kept _) → slot_at slots i ≡ Some e → slot_at slots j ≡ Some f → e.hash ≡ f.hash → i ≡ j
 
 -- from each hash's home up to it all slots but the gap are taken, and no hash stands twice
-pub record IsPlaced {V : Type 0} (slots : List (Option (Kept V))) (homes gap : ℕ) : Type 0 where
-  pub filled : (i m : ℕ) (e : Kept V) → slot_at slots i ≡ Some e → m < homes → Passed (home_of homes e.hash) i m → m ≢ gap → is_taken (slot_at slots m) ≡ true
+pub record ArePlacedSlots {V : Type 0} (slots : List (Option (Kept V))) (homes gap : ℕ) : Type 0 where
+  pub filled : (i m : ℕ) (e : Kept V) → slot_at slots i ≡ Some e → m < homes → Passed (home_slot homes e.hash) i m → m ≢ gap → is_taken (slot_at slots m) ≡ true
   pub once : AreOnce slots
 
 -- the slots with no gap
 abbrev pub IsSound : {V : Type 0} → List (Option (Kept V)) → ℕ → Type 0
-IsSound slots homes = IsPlaced slots homes homes
+IsSound slots homes = ArePlacedSlots slots homes homes
 
 -- the slot is taken, and the gap is not between the entry's home and it
 abbrev pub IsAhead : {V : Type 0} → Option (Kept V) → ℕ → ℕ → ℕ → Type 0
 IsAhead None homes at gap = ⊥
-IsAhead (Some e) homes at gap = Passed (home_of homes e.hash) at gap → ⊥
+IsAhead (Some e) homes at gap = Passed (home_slot homes e.hash) at gap → ⊥
 
 -- there is a gap, and no slot from it up to `at` is free or may be moved into it
 pub record IsOpen {V : Type 0} (slots : List (Option (Kept V))) (homes gap at : ℕ) : Type 0 where
   pub within : gap < homes
   pub empty : slot_at slots gap ≡ None
-  pub placed : IsPlaced slots homes gap
+  pub placed : ArePlacedSlots slots homes gap
   pub ahead : (m : ℕ) → m < homes → Passed gap at m → m ≢ gap → IsAhead (slot_at slots m) homes m gap
 
 -- the gap has moved to g; what was taken, the slots that were gone through and the gap that was are taken but g

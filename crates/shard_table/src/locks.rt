@@ -48,7 +48,8 @@ impl Locks {
     pub fn take(&mut self, x: Hash, by: BatchId, place: u32)
         requires free { lookup self.old.held x ≡ None }
         requires room { 1 ≤ self.old.spare }
-        ensures held { (y : Digest) → lookup self.new.held y ≡ (if same_digest x y then Some (by, place) else lookup self.old.held y) }
+        ensures held { (y : Digest) → lookup self.new.held y
+            ≡ (if same_digest x y then Some (by, place) else lookup self.old.held y) }
         ensures spare { self.new.spare + 1 ≡ self.old.spare }
     {
         self.slots.insert(x, (by, place));
@@ -56,8 +57,10 @@ impl Locks {
 
     /// Frees a hash, if it is locked. Takes no memory.
     pub fn release(&mut self, x: &Hash)
-        ensures held { (y : Digest) → lookup self.new.held y ≡ (if same_digest x.now y then None else lookup self.old.held y) }
-        ensures spare { self.new.spare ≡ self.old.spare + (if is_some (lookup self.old.held x.now) then 1 else 0) }
+        ensures held { (y : Digest)
+            → lookup self.new.held y ≡ (if same_digest x.now y then None else lookup self.old.held y) }
+        ensures spare { self.new.spare
+            ≡ self.old.spare + (if is_some (lookup self.old.held x.now) then 1 else 0) }
     {
         self.slots.remove(x);
     }

@@ -1,6 +1,6 @@
 // Where hashes stand in the slots.
 ghost use Rattle.std.specs.Prelude.{◌≡◌, ◌≢◌, ◌+◌, ◌*◌, ◌/◌, ◌%◌, ◌≤◌, ◌<◌, ◌^◌, ℕ, true, false, if◌then◌else◌, is_some, length, None, Some};
-ghost use Rattle.shard_table.specs.Slots.{home_of, limit_of, slot_at, gather, Passed, IsSize, IsFirst, IsPlace, IsPlaced, IsSound, IsOpen, IsShifted};
+ghost use Rattle.shard_table.specs.Slots.{home_slot, limit_of, slot_at, gather, Passed, IsSize, IsFirstSlot, IsPlace, ArePlacedSlots, IsSound, IsOpen, IsShifted};
 ghost use Rattle.shard_table.specs.Entries.{lookup};
 ghost use Rattle.cbdc_model.specs.Records.{Digest, same_digest};
 
@@ -19,10 +19,10 @@ fn masked(number: u64, homes: usize) -> usize
 }
 
 /// The slot that the search for a hash begins at.
-#[tactic(auto, unfolding(crate::specs::Slots::home_of))]
+#[tactic(auto, unfolding(crate::specs::Slots::home_slot))]
 pub fn home(homes: usize, x: &Hash) -> usize
     requires { IsSize homes }
-    ensures value { result ≡ home_of homes x.now }
+    ensures value { result ≡ home_slot homes x.now }
     ensures below { 0 < homes → result < homes }
     ensures high { result ≤ homes }
 {
@@ -54,7 +54,7 @@ fn is_passed(home: usize, at: usize, m: usize) -> bool
 fn first_in<V: Copy>(slots: &Pages<V>, from: usize, to: usize, x: &Hash) -> usize
     requires from { from ≤ to }
     requires to { to ≤ length slots.now }
-    ensures { IsFirst slots.now from to x.now result }
+    ensures { IsFirstSlot slots.now from to x.now result }
 {
     for at in from..to {
         match slots.at(at) {
@@ -95,7 +95,8 @@ fn close_part<V: Copy>(slots: &mut Pages<V>, gap: usize, from: usize, to: usize)
     ensures kept { (x : Digest) → lookup (gather slots.new) x ≡ lookup (gather slots.old) x }
     ensures count { length (gather slots.new) ≡ length (gather slots.old) }
     ensures closed { result ≡ None → IsSound slots.new (length slots.old) }
-    ensures opened { (g : ℕ) → result ≡ Some g → IsOpen slots.new (length slots.old) g to × IsShifted slots.old slots.new gap from to g }
+    ensures opened { (g : ℕ) → result ≡ Some g
+        → IsOpen slots.new (length slots.old) g to × IsShifted slots.old slots.new gap from to g }
 {
     let homes = slots.len();
     let mut free = gap;
@@ -153,7 +154,8 @@ pub fn fill<V: Copy>(slots: &mut Pages<V>, kept: Kept<V>)
     requires absent { lookup (gather slots.old) kept.hash ≡ None }
     ensures len { length slots.new ≡ length slots.old }
     ensures sound { IsSound slots.new (length slots.old) }
-    ensures kept { (x : Digest) → lookup (gather slots.new) x ≡ (if same_digest kept.hash x then Some kept.value else lookup (gather slots.old) x) }
+    ensures kept { (x : Digest) → lookup (gather slots.new) x
+        ≡ (if same_digest kept.hash x then Some kept.value else lookup (gather slots.old) x) }
     ensures count { length (gather slots.new) ≡ length (gather slots.old) + 1 }
 {
     let place = place_of(slots, home(slots.len(), &kept.hash), &kept.hash);
@@ -168,8 +170,10 @@ pub fn take_out<V: Copy>(slots: &mut Pages<V>, x: &Hash) -> Option<V>
     ensures value { result ≡ lookup (gather slots.old) x.now }
     ensures len { length slots.new ≡ length slots.old }
     ensures sound { IsSound slots.new (length slots.old) }
-    ensures kept { (y : Digest) → lookup (gather slots.new) y ≡ (if same_digest x.now y then None else lookup (gather slots.old) y) }
-    ensures count { length (gather slots.new) + (if is_some result then 1 else 0) ≡ length (gather slots.old) }
+    ensures kept { (y : Digest)
+        → lookup (gather slots.new) y ≡ (if same_digest x.now y then None else lookup (gather slots.old) y) }
+    ensures count { length (gather slots.new) + (if is_some result then 1 else 0)
+        ≡ length (gather slots.old) }
 {
     let end = slots.len();
     let place = place_of(slots, home(end, x), x);

@@ -156,7 +156,8 @@ impl<V: Copy> HashSlots<V> {
     pub fn insert(&mut self, x: Hash, value: V)
         requires absent { lookup self.old.entries x ≡ None }
         requires room { 1 ≤ self.old.spare }
-        ensures kept { (y : Digest) → lookup self.new.entries y ≡ (if same_digest x y then Some value else lookup self.old.entries y) }
+        ensures kept { (y : Digest) → lookup self.new.entries y
+            ≡ (if same_digest x y then Some value else lookup self.old.entries y) }
         ensures len { length self.new.entries ≡ length self.old.entries + 1 }
         ensures spare { self.new.spare + 1 ≡ self.old.spare }
     {
@@ -167,7 +168,8 @@ impl<V: Copy> HashSlots<V> {
     /// Takes out what is kept under a hash, if it is there. Takes no memory.
     pub fn remove(&mut self, x: &Hash) -> Option<V>
         ensures value { result ≡ lookup self.old.entries x.now }
-        ensures kept { (y : Digest) → lookup self.new.entries y ≡ (if same_digest x.now y then None else lookup self.old.entries y) }
+        ensures kept { (y : Digest)
+            → lookup self.new.entries y ≡ (if same_digest x.now y then None else lookup self.old.entries y) }
         ensures len { length self.new.entries + (if is_some result then 1 else 0) ≡ length self.old.entries }
         ensures spare { self.new.spare ≡ self.old.spare + (if is_some result then 1 else 0) }
     {

@@ -51,7 +51,8 @@ impl Table {
     pub fn insert(&mut self, x: Hash)
         requires { has self.old.hashes x ≡ false → 1 ≤ self.old.spare }
         ensures members { (y : Digest) → has self.new.hashes y ≡ (same_digest x y || has self.old.hashes y) }
-        ensures len { length self.new.hashes ≡ length self.old.hashes + (if has self.old.hashes x then 0 else 1) }
+        ensures len { length self.new.hashes
+            ≡ length self.old.hashes + (if has self.old.hashes x then 0 else 1) }
         ensures spare { self.new.spare + (if has self.old.hashes x then 0 else 1) ≡ self.old.spare }
     {
         if self.slots.get(&x).is_none() {
@@ -61,8 +62,10 @@ impl Table {
 
     /// Takes a hash out of the set, if it is there. Takes no memory.
     pub fn remove(&mut self, x: &Hash)
-        ensures members { (y : Digest) → has self.new.hashes y ≡ (not (same_digest x.now y) && has self.old.hashes y) }
-        ensures len { length self.new.hashes + (if has self.old.hashes x.now then 1 else 0) ≡ length self.old.hashes }
+        ensures members { (y : Digest)
+            → has self.new.hashes y ≡ (not (same_digest x.now y) && has self.old.hashes y) }
+        ensures len { length self.new.hashes + (if has self.old.hashes x.now then 1 else 0)
+            ≡ length self.old.hashes }
         ensures spare { self.new.spare ≡ self.old.spare + (if has self.old.hashes x.now then 1 else 0) }
     {
         self.slots.remove(x);

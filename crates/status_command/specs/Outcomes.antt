@@ -9,7 +9,7 @@ use Rattle.cbdc_model.specs.Records.{Digest, Shape, Record}
 use Rattle.cbdc_model.specs.History.{header_of}
 use Rattle.cbdc_model.specs.Room.{kept_room}
 use Rattle.cbdc_model.specs.Due.{used_of}
-use Rattle.ledger_init.specs.Made.{node_count}
+use Rattle.cbdc_model.specs.Ranges.{node_count}
 use Rattle.printed_lines.specs.Reports.{status_lines}
 use Rattle.command_answers.specs.Scene.{AreDisksBack, Disks}
 use Rattle.rack_ledgers.specs.Racked.{OfTold, AreUnchanged, StillHolds}

@@ -27,7 +27,7 @@ use Rattle.printed_lines.specs.declared.report.Report.{Report}
 use Rattle.printed_lines.specs.declared.report.Report.TheVariants.{Refused, Decided}
 use Rattle.printed_lines.specs.Decided.{decided_there, decided_at}
 use Rattle.printed_lines.specs.Runs.{lane_at, turn, IsReport}
-use Rattle.run_laws.specs.Placing.{sent_of_all, tx_at, IsPlaced}
+use Rattle.run_laws.specs.Placing.{sent_of_all, tx_at, IsTxPlaced}
 use Rattle.run_laws.proofs.Between.{files_grow, between_law}
 use Rattle.run_laws.proofs.Placed.{place_law, told_joined}
 use Rattle.run_laws.proofs.Sharing.{Told, told_before, told_in, size_told, sized_told}
@@ -160,11 +160,11 @@ module _ (K : Shape) (mint : List Output) (submissions : List FullTx) (verdicts 
           (subst (λ T. Apart (reverse T)) told_is (all_apart K (minted mint) (IsProperCompact submissions) some old new steady_old steady_new lane (mine ++ opened) whole))
           (sym (place_is q) ∙ e) (sym (place_is r) ∙ f)
 
-      placed : (q : ℕ) (c : Compact) → tx_at (sent_of_all K sound files lane) q ≡ Some c → IsPlaced lane q c mine (X (home_of K lane))
+      placed : (q : ℕ) (c : Compact) → tx_at (sent_of_all K sound files lane) q ≡ Some c → IsTxPlaced lane q c mine (X (home_of K lane))
       placed q c e =
           (place_law K mint submissions sound files lane R X mine some lt kept_mid kept_new waves.1.idle waves.2 (grows (home_of K lane)).1).0 q c e
 
-      stands_at : (q : ℕ) (c : Compact) (it : IsPlaced lane q c mine (X (home_of K lane))) → new_place K E X lane q ≡ Some it.place
+      stands_at : (q : ℕ) (c : Compact) (it : IsTxPlaced lane q c mine (X (home_of K lane))) → new_place K E X lane q ≡ Some it.place
       stands_at q c it =
           let sizes = sized_told lane mine [] ∙ append-nil (map size_told (reverse (told_in lane mine))) in
           place_is q ∙ ap (λ S. place_of S q) (sym sizes) ∙ it.stands
@@ -202,7 +202,7 @@ module _ (K : Shape) (mint : List Output) (submissions : List FullTx) (verdicts 
       sent_there : tx_at (sent_of_all K sound files my_lane) my_turn ≡ Some (compact t)
       sent_there = at_turn K sound files k it.file j t it.file_is it.tx_is passes
 
-      there : IsPlaced my_lane my_turn (compact t) (mine my_lane (lane_low j)) (X (home_of K my_lane))
+      there : IsTxPlaced my_lane my_turn (compact t) (mine my_lane (lane_low j)) (X (home_of K my_lane))
       there = placed my_lane (lane_low j) my_turn (compact t) sent_there
 
       abbrev p : PlaceIn

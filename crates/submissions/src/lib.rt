@@ -164,7 +164,8 @@ fn next_lane(lane: usize, count: usize) -> usize
 
 // Deals what was made of the submissions of a file to lanes.
 fn deal(alloc: Global, ruled: Vec<Ruled>, shape: &Shape) -> Result<Submitted, AllocError>
-    ensures { IfOk result (λ s. (verdicts : VerdictsOf) (txs : List Full) → AllZip (IsRuled verdicts) txs ruled.items → AreSubmitted shape.now verdicts txs s) }
+    ensures { IfOk result (λ s. (verdicts : VerdictsOf) (txs : List Full)
+        → AllZip (IsRuled verdicts) txs ruled.items → AreSubmitted shape.now verdicts txs s) }
 {
     let mut lanes = empty_lanes(alloc, shape.lane_count())?;
     let mut checked = Vec::with_capacity(alloc, ruled.len())?;

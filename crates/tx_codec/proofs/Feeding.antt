@@ -17,14 +17,14 @@ use Rattle.tx_codec.specs.declared.feed.Fed.{Fed}
 use Rattle.tx_codec.specs.declared.feed.Fed.TheVariants as feds
 use Rattle.tx_codec.specs.declared.feed.FeedState.{FeedState}
 use Rattle.tx_codec.specs.Places.{IsSpelledAt, IsFirstFault, IfBad}
-use Rattle.tx_codec.specs.Feeds.{Judges, JudgesRead, IsLater, IsCutAt, IsWithin}
+use Rattle.tx_codec.specs.Feeds.{Judges, JudgesRead, IsFeedBehind, IsCutAt, IsWithin}
 use Rattle.tx_codec.proofs.Stays.{bad_stays}
 use Rattle.byte_fields.proofs.Lists.{transaction_item}
 use Rattle.tx_codec.proofs.Found.{is_read, no_fault, spelled_first}
 
 -- what was read, told of a piece
 pub told : (all : List ℕ) (before : ℕ) (read : Result (FullTx × ℕ) ReadFault) (r : Result Fed ReadFault × FeedState) → JudgesRead read before r
-    → IfOk read (λ x. (before ≤ x.1) × IsSpelledAt all 0 x.1 x.0) → IfErr read (λ e. IfBad e (λ bad. IsFirstFault all 0 bad)) → Judges all before r.0 × IsLater all r.0 r.1
+    → IfOk read (λ x. (before ≤ x.1) × IsSpelledAt all 0 x.1 x.0) → IfErr read (λ e. IfBad e (λ bad. IsFirstFault all 0 bad)) → Judges all before r.0 × IsFeedBehind all r.0 r.1
 told all before (Ok x) r j ok err =
     let n : x.1 ≡ before + (x.1 - before) = omega (arith, ok.0) in
     rw (j.0, j.1) (subst (λ (k : ℕ). IsSpelledAt all 0 k x.0) n ok.1, refl)
@@ -55,13 +55,13 @@ reaches old piece bad (Ok x) cut s = not_before old piece x.1 x.0 bad cut s
 reaches old piece bad (Err e) cut s = tt
 
 pub told_first : (all : List ℕ) (read : Result (FullTx × ℕ) ReadFault) (r : Result Fed ReadFault × FeedState) → JudgesRead read 0 r
-    → IfOk read (λ x. IsSpelledAt all 0 x.1 x.0) → IfErr read (λ e. IfBad e (λ bad. IsFirstFault all 0 bad)) → Judges all 0 r.0 × IsLater all r.0 r.1
+    → IfOk read (λ x. IsSpelledAt all 0 x.1 x.0) → IfErr read (λ e. IfBad e (λ bad. IsFirstFault all 0 bad)) → Judges all 0 r.0 × IsFeedBehind all r.0 r.1
 told_first all (Ok x) r j ok err = told all 0 (Ok x) r j (omega arith, ok) err
 told_first all (Err e) r j ok err = told all 0 (Err e) r j ok err
 
 pub told_more : (old piece : List ℕ) (bad : BadTx) (read : Result (FullTx × ℕ) ReadFault) (r : Result Fed ReadFault × FeedState) → JudgesRead read (length old) r → IsCutAt old bad
     → IfOk read (λ x. IsSpelledAt (old ++ piece) 0 x.1 x.0) → IfErr read (λ e. IfBad e (λ b. IsFirstFault (old ++ piece) 0 b))
-    → Judges (old ++ piece) (length old) r.0 × IsLater (old ++ piece) r.0 r.1
+    → Judges (old ++ piece) (length old) r.0 × IsFeedBehind (old ++ piece) r.0 r.1
 told_more old piece bad (Ok x) r j cut ok err = told (old ++ piece) (length old) (Ok x) r j (not_before old piece x.1 x.0 bad cut ok, ok) err
 told_more old piece bad (Err e) r j cut ok err = told (old ++ piece) (length old) (Err e) r j ok err
 

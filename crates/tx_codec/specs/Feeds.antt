@@ -42,11 +42,11 @@ Judges all before (Err (faults.Bad bad)) = IsBadIn all bad
 Judges all before (Err faults.Memory) = Unit {0}
 
 -- the state behind an answer
-abbrev pub IsLater : List ℕ → Result Fed ReadFault → FeedState → Type 0
-IsLater all (Ok feds.More) state = (bad : BadTx) × (state ≡ states.Cut bad) × IsCutAt all bad
-IsLater all (Ok (feds.Done t taken)) state = state ≡ states.Done
-IsLater all (Err (faults.Bad bad)) state = state ≡ states.Failed bad
-IsLater all (Err faults.Memory) state = state ≡ states.NoMemory
+abbrev pub IsFeedBehind : List ℕ → Result Fed ReadFault → FeedState → Type 0
+IsFeedBehind all (Ok feds.More) state = (bad : BadTx) × (state ≡ states.Cut bad) × IsCutAt all bad
+IsFeedBehind all (Ok (feds.Done t taken)) state = state ≡ states.Done
+IsFeedBehind all (Err (faults.Bad bad)) state = state ≡ states.Failed bad
+IsFeedBehind all (Err faults.Memory) state = state ≡ states.NoMemory
 
 -- a bad field, told
 abbrev pub JudgesBad : BadTx → Result Fed ReadFault × FeedState → Type 0
@@ -68,7 +68,7 @@ IsGoing states.NoMemory = ⊥
 
 -- the state behind a push: no byte came yet, or what the answer says
 abbrev pub IsAfter : List ℕ → Result Fed ReadFault → FeedState → Type 0
-IsAfter all r state = ((all ≡ []) × (r ≡ Ok feds.More) × (state ≡ states.Empty)) ⊎ IsLater all r state
+IsAfter all r state = ((all ≡ []) × (r ≡ Ok feds.More) × (state ≡ states.Empty)) ⊎ IsFeedBehind all r state
 
 -- what is taken of a piece lies in it
 abbrev pub IsWithin : List ℕ → Result Fed ReadFault → Type 0

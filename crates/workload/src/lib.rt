@@ -44,7 +44,8 @@ pub struct Clients {
 /// The mint and the client files of the workload of so many transactions, at most 10,000, from a seed.
 pub fn generate_clients(alloc: Global, seed: u64, count: u64) -> Result<Clients, AllocError>
     requires { count ≤ 10000 }
-    ensures { IfOk result (λ c. c ≡ record { mint = the_mint seed count; splits = the_splits seed count; joins = the_joins seed count }) }
+    ensures { IfOk result (λ c. c ≡ record
+        { mint = the_mint seed count; splits = the_splits seed count; joins = the_joins seed count }) }
 {
     let joined = count / 2;
     let minted = count - joined;

@@ -1,6 +1,6 @@
 use Rattle.std.proofs.Common.{◌≡◌, ◌<◌, ◌≤◌, ◌-◌, ◌∙◌, length, take, ap, arith, length-append}
 use Rattle.byte_fields.specs.Reading.{number_at}
-use Rattle.client_files.specs.Streams.{OfRead, Meets, IsCut}
+use Rattle.client_files.specs.Streams.{OfRead, MeetsBadField, IsFileCut}
 use Rattle.client_files.proofs.Streaming.{stops_on, end_for, head_cut_at, head_took, so_more}
 use Rattle.client_files.proofs.stream.head.Goals as goal
 
@@ -22,7 +22,7 @@ returns-then-branch-eq0-clause-fault g c =
     let same = c.pieces.invariant.same name in
     let so = so_more told now old c.pieces.window new c.in_ok-more.field-0 c.pieces.window.unread new.unread same c.pieces.invariant.so_far m m.unread in
     let few : length new.unread < 8 = omega (arith, ap length m.unread, length-append c.pieces.window.unread m.piece, m.size, ap length c.unread.ensures.value) in
-    stops_on (λ bad. OfRead last c.had.result (IsCut last c.had.result (c.had.result - c.place.result) bad)) (λ bad. OfRead told old.had (Meets told number_at old.unread bad))
+    stops_on (λ bad. OfRead last c.had.result (IsFileCut last c.had.result (c.had.result - c.place.result) bad)) (λ bad. OfRead told old.had (MeetsBadField told number_at old.unread bad))
     (g.I.Inbox.count c.args.inbox.now name) (g.I.Inbox.count c.more.new.inbox name) (g.I.Inbox.count c.cut.new.inbox name) (g.I.Inbox.count c.cut.new.inbox name) c.cut.result
     (λ bad cut. head_cut_at told last old new c.had.result c.place.result bad (c.more.ensures.same name ∙ same) c.had.ensures.value c.place.ensures.value so few cut)
     (omega (arith, c.pieces.invariant.later name, c.more.ensures.later name)) (omega arith) c.cut.ensures.fault

@@ -4,7 +4,7 @@ use Rattle.tx_codec.specs.Places.{IsSpelledAt}
 use Rattle.tx_codec.specs.Feeds.{IsBadIn, IsAfter}
 use Rattle.tx_codec.specs.declared.feed.Fed.TheVariants as feds
 use Rattle.client_files.specs.Files.{bad_at}
-use Rattle.client_files.specs.Streams.{WindowOf, OfRead, Meets}
+use Rattle.client_files.specs.Streams.{WindowOf, OfRead, MeetsBadField}
 use Rattle.client_files.proofs.Streaming.{stops_on, stop_bad, end_for, so_more, so_at, tx_took, tx_cut_later, tx_bad}
 use Rattle.client_files.proofs.stream.next_tx.Goals as goal
 
@@ -36,9 +36,9 @@ returns-then-branch-eq0-clause-fault g c =
     let used : c.take_all.new.self.had ≡ c.pieces.window.had = ap (λ (w : WindowOf). w.had) c.take_all.ensures in
     let had : c.had.result ≡ c.pieces.window.had = omega (arith, c.had.ensures.value, m.come.had, m.size, used) in
     let so = so_at told old c.pieces.window.had c.had.result (c.pieces.feed.bytes ++ c.pieces.window.unread) fed had pushed c.pieces.invariant.so_far in
-    stops_on (λ bad. OfRead last c.had.result (Meets last transaction_at fed bad)) (λ bad. OfRead told old.had (Meets told transaction_at old.unread bad))
+    stops_on (λ bad. OfRead last c.had.result (MeetsBadField last transaction_at fed bad)) (λ bad. OfRead told old.had (MeetsBadField told transaction_at old.unread bad))
     (g.I.Inbox.count c.args.inbox.now name) (g.I.Inbox.count c.more.new.inbox name) (g.I.Inbox.count c.cut_tx.new.inbox name) (g.I.Inbox.count c.cut_tx.new.inbox name) c.cut_tx.result
-    (λ bad meets. tx_cut_later told old c.had.result fed bad so (subst (λ t. OfRead t c.had.result (Meets t transaction_at fed bad)) same meets))
+    (λ bad meets. tx_cut_later told old c.had.result fed bad so (subst (λ t. OfRead t c.had.result (MeetsBadField t transaction_at fed bad)) same meets))
     (omega (arith, c.pieces.invariant.later name, c.more.ensures.later name)) (omega arith) c.cut_tx.ensures.fault
 
 pub pieces-preserved : goal.pieces-preserved
@@ -73,6 +73,6 @@ returns-in-Err-Bad-clause-fault g c =
     let is_bad : IsBadIn (fed ++ c.pieces.window.unread) field = subst (λ (u : List ℕ). IsBadIn (fed ++ u) field) c.unread.ensures.value judged in
     let start = c.place-start.result in
     let bad = bad_at c.had-in-Err-Bad.result false (c.had-in-Err-Bad.result - (start + field.at)) field.kind in
-    stop_bad (λ b. OfRead told old.had (Meets told transaction_at old.unread b)) (g.I.Inbox.count c.args.inbox.now name) (g.I.Inbox.count c.pieces.inbox name) c.bad.result bad c.bad.ensures
+    stop_bad (λ b. OfRead told old.had (MeetsBadField told transaction_at old.unread b)) (g.I.Inbox.count c.args.inbox.now name) (g.I.Inbox.count c.pieces.inbox name) c.bad.result bad c.bad.ensures
     (tx_bad told old (fed ++ c.pieces.window.unread) c.pieces.window.had start field bad c.pieces.invariant.so_far c.pieces.invariant.start is_bad
     (ap (λ (k : ℕ). bad_at k false (k - (start + field.at)) field.kind) c.had-in-Err-Bad.ensures.value))

@@ -2,7 +2,7 @@ use Rattle.std.proofs.Common.{◌≡◌, ◌∙◌, Err, arith, refl}
 use Rattle.std.proofs.lemmas.Result.{err_from_is_err_and}
 use Rattle.byte_fields.specs.Reading.{items_at}
 use Rattle.byte_fields.specs.Transactions.{transaction_at}
-use Rattle.client_files.specs.Streams.{OfRead, Meets, GoesOn, Holds, count_at}
+use Rattle.client_files.specs.Streams.{OfRead, MeetsBadField, GoesOn, FileHolds, count_at}
 use Rattle.client_files.proofs.Streaming.{stops_on, count_bad, whole_took, whole_bad, holds_all, holds_bad, holds_extra}
 use Rattle.client_files.proofs.stream.stream_clients.Goals as goal
 
@@ -14,7 +14,7 @@ returns-in_err-count-clause-fault g c =
     let w = c.new-window.result in
     let p = err_from_is_err_and c.from_residual.result c.from_residual.ensures.1 in
     rw (p.1, p.2)
-    (stops_on (λ bad. OfRead told w.had (Meets told (count_at before) w.unread bad)) (λ bad. Holds told before (Err bad))
+    (stops_on (λ bad. OfRead told w.had (MeetsBadField told (count_at before) w.unread bad)) (λ bad. FileHolds told before (Err bad))
     (g.I.Inbox.count c.args.inbox.now name) (g.I.Inbox.count c.args.inbox.now name) (g.I.Inbox.count c.count_of.new.inbox name) (g.I.Inbox.count c.count_of.new.inbox name) _
     (λ bad meets. holds_bad told before w bad c.new-window.ensures (λ bytes len read. count_bad told before w.unread bytes bad (meets bytes len read)))
     (omega arith) (omega arith) c.in_err-count.ensures.fault)
@@ -30,7 +30,7 @@ returns-in_err-txs-clause-fault g c =
     let n = c.in_ok-count.count in
     let p = err_from_is_err_and c.from_residual-in_err-txs.result c.from_residual-in_err-txs.ensures.1 in
     rw (p.1, p.2)
-    (stops_on (λ bad. OfRead now mid.had (Meets now (items_at transaction_at n) mid.unread bad)) (λ bad. Holds told before (Err bad))
+    (stops_on (λ bad. OfRead now mid.had (MeetsBadField now (items_at transaction_at n) mid.unread bad)) (λ bad. FileHolds told before (Err bad))
     (g.I.Inbox.count c.args.inbox.now name) (g.I.Inbox.count c.count_of.new.inbox name) (g.I.Inbox.count c.txs_of.new.inbox name) (g.I.Inbox.count c.txs_of.new.inbox name) _
     (λ bad meets. holds_bad told before w bad c.new-window.ensures (whole_bad told now before n w mid bad (c.count_of.ensures.same name) c.in_ok-count.ensures.taken meets))
     (c.count_of.ensures.later name) (omega arith) c.in_err-txs.ensures.fault)
@@ -48,7 +48,7 @@ returns-in_err-ended-clause-fault g c =
     let n = c.in_ok-count.count in
     let p = err_from_is_err_and c.from_residual-in_err-ended.result c.from_residual-in_err-ended.ensures.1 in
     rw (p.1, p.2)
-    (stops_on (λ bad. OfRead last end.had (GoesOn last end.unread bad)) (λ bad. Holds told before (Err bad))
+    (stops_on (λ bad. OfRead last end.had (GoesOn last end.unread bad)) (λ bad. FileHolds told before (Err bad))
     (g.I.Inbox.count c.args.inbox.now name) (g.I.Inbox.count c.txs_of.new.inbox name) (g.I.Inbox.count c.ended.new.inbox name) (g.I.Inbox.count c.ended.new.inbox name) _
     (λ bad goes. holds_extra told last before w end c.in_ok-txs.txs bad (c.txs_of.ensures.same name ∙ c.count_of.ensures.same name) c.new-window.ensures
     (whole_took told now before n w mid end c.in_ok-txs.txs (c.count_of.ensures.same name) c.in_ok-count.ensures.taken c.in_ok-txs.ensures.taken) goes)

@@ -2,7 +2,7 @@ use Rattle.std.proofs.Common.{◌≡◌, ◌∙◌, arith, refl}
 use Rattle.std.proofs.lemmas.Result.{err_from_is_err_and}
 use Rattle.byte_fields.specs.Reading.{items_at}
 use Rattle.byte_fields.specs.Transactions.{transaction_at}
-use Rattle.client_files.specs.Streams.{OfRead, Meets}
+use Rattle.client_files.specs.Streams.{OfRead, MeetsBadField}
 use Rattle.client_files.proofs.Streaming.{stops_on, items_first, items_more, items_took, items_bad, of_same}
 use Rattle.client_files.proofs.stream.txs_of.Goals as goal
 
@@ -22,7 +22,7 @@ returns-in_err-tx-clause-fault g c =
     let w = c.txs.window in
     let p = err_from_is_err_and c.from_residual.result c.from_residual.ensures.1 in
     rw (p.1, p.2)
-    (stops_on (λ bad. OfRead now w.had (Meets now transaction_at w.unread bad)) (λ bad. OfRead told old.had (Meets told (items_at transaction_at c.args.count) old.unread bad))
+    (stops_on (λ bad. OfRead now w.had (MeetsBadField now transaction_at w.unread bad)) (λ bad. OfRead told old.had (MeetsBadField told (items_at transaction_at c.args.count) old.unread bad))
     (g.I.Inbox.count c.args.inbox.now name) (g.I.Inbox.count c.txs.inbox name) (g.I.Inbox.count c.next_tx.new.inbox name) (g.I.Inbox.count c.next_tx.new.inbox name) _
     (λ bad meets. items_bad told c.args.count c.txs.i old w c.txs.txs bad c.txs-test.true c.txs.invariant.so_far (of_same told now w bad (c.txs.invariant.same name) meets))
     (c.txs.invariant.later name) (omega arith) c.in_err-tx.ensures.fault)

@@ -6,7 +6,7 @@ use Rattle.command_answers.specs.Scene.{scene}
 use Rattle.gen_command.specs.Generated.{WhyNoWorkload}
 use Rattle.commands.specs.Left.{RequestLeaves}
 use Rattle.run_command.specs.Outcomes.{RunLeaves}
-use Rattle.commands.specs.Outcomes.{Did, Took, Why}
+use Rattle.commands.specs.Outcomes.{Did, OutputTook, Why}
 use Rattle.command_answers.proofs.Answers.{well_told, told_by}
 use Rattle.commands.proofs.top.answer_to.Goals as goal
 
@@ -28,7 +28,7 @@ returns-in-Audit-clause-did g c well =
     let at = scene g.I.Inbox g.R.Rack g.O.Sink in
     let before = at c.args.inbox.now c.args.rack.now c.args.out.now in
     let after = at c.audit.new.inbox c.audit.new.rack c.audit.new.out in
-    let Done = DidAudit g.R.Disk.Disk before.file before.disks after.disks (Took before after c.audit.result) c.in-Audit.mint in
+    let Done = DidAudit g.R.Disk.Disk before.file before.disks after.disks (OutputTook before after c.audit.result) c.in-Audit.mint in
     subst (λ r. Did g.R.Disk.Disk before after r c.audit.result) (sym c.in-Audit.is) (subst (λ files. Done files) c.deref-in-Audit.ensures.value (c.audit.ensures.did well))
 
 pub returns-in-Recover-clause-did : goal.returns-in-Recover-clause-did

@@ -1,7 +1,7 @@
 use Rattle.std.proofs.Common.{rules, arith, ◌≡◌, get_or, subst, sym}
 use Rattle.std.proofs.lemmas.Iterator.Adapters.{YieldsList-from_vec}
 use Rattle.std.proofs.lemmas.Iterator.Consumers.{YieldsList-so_far, YieldsList-turn}
-use Rattle.lane_driver.specs.Gathering.{replied_of}
+use Rattle.lane_driver.specs.Gathering.{gathered_reply}
 use Rattle.lane_driver.proofs.Faulted.{fault_here, all_ok}
 use Rattle.lane_driver.proofs.answer.gather.Goals as goal
 
@@ -14,4 +14,4 @@ returns-in-Err c =
     fault_here c.args.calls.now c.args.answers.items c.loop-answer.place c.in-Some.answer c.in-Err.fault c.index-calls-place.result
     (omega (arith, at.0, inv.place)) c.requires.as_many
     (subst (λ n. c.in-Some.answer ≡ get_or c.args.answers.items n c.in-Some.answer) (sym inv.place) at.1)
-    c.in-Err.is (all_ok replied_of c.loop-answer.replies.items c.loop-answer.yielded c.args.answers.items c.loop-answer.place inv.place inv.replies so)
+    c.in-Err.is (all_ok gathered_reply c.loop-answer.replies.items c.loop-answer.yielded c.args.answers.items c.loop-answer.place inv.place inv.replies so)

@@ -1,5 +1,5 @@
 use Rattle.std.proofs.Common.{◌∙◌, refl, map}
-use Rattle.lane_laws.specs.Calls.{finish_of, forget_of}
+use Rattle.lane_laws.specs.Calls.{finish_call_of, forget_call_of}
 use Rattle.lane_laws.specs.Answers.{LockAnswer, FinishAnswer, ForgetAnswer}
 use Rattle.lane_driver.proofs.Turning.{turn_stamped, turn_times, finish_stops, discard_stops, later_stops}
 use Rattle.cbdc_model.specs.Calls.{IsLockCall, IsFinishCall, IsForgetCall}
@@ -78,9 +78,9 @@ pub returns-clause-outcome : goal.returns-clause-outcome
 returns-clause-outcome g c = record {
   finished = c.in-Ok.stamp;
   after_finish = g.S.PortSet.sights c.finish_phase.new.shards;
-  finishes = turn_stamped FinishAnswer g.S.PortSet.alone g.L.LogPort.alone c.deref.result.now (map (finish_of c.args.batch.now c.args.cause c.args.outcomes.now) c.args.locks.now) (g.S.PortSet.sights c.args.ports.now.shards) (g.S.PortSet.sights c.finish_phase.new.shards) c.in-Ok.stamp c.requires.same (c.deref.ensures.value ∙ c.finish_calls.ensures) c.in-Ok.ensures.told;
+  finishes = turn_stamped FinishAnswer g.S.PortSet.alone g.L.LogPort.alone c.deref.result.now (map (finish_call_of c.args.batch.now c.args.cause c.args.outcomes.now) c.args.locks.now) (g.S.PortSet.sights c.args.ports.now.shards) (g.S.PortSet.sights c.finish_phase.new.shards) c.in-Ok.stamp c.requires.same (c.deref.ensures.value ∙ c.finish_calls.ensures) c.in-Ok.ensures.told;
   before_discard = g.S.PortSet.sights c.finish_again.new.shards;
-  finishes_again = turn_times FinishAnswer g.S.PortSet.alone g.L.LogPort.alone c.deref-2.result.now (map (finish_of c.args.batch.now c.args.cause c.args.outcomes.now) c.args.locks.now) c.args.repeats (g.S.PortSet.sights c.finish_phase.new.shards) (g.S.PortSet.sights c.finish_again.new.shards) c.requires.same (c.deref-2.ensures.value ∙ c.finish_calls.ensures) c.finish_again.ensures.told;
+  finishes_again = turn_times FinishAnswer g.S.PortSet.alone g.L.LogPort.alone c.deref-2.result.now (map (finish_call_of c.args.batch.now c.args.cause c.args.outcomes.now) c.args.locks.now) c.args.repeats (g.S.PortSet.sights c.finish_phase.new.shards) (g.S.PortSet.sights c.finish_again.new.shards) c.requires.same (c.deref-2.ensures.value ∙ c.finish_calls.ensures) c.finish_again.ensures.told;
   log_discarded = g.L.LogPort.sights c.discard.new.self (g.L.LogPort.at c.discard.new.self);
   discarded = c.in-Ok-discard.stamp;
   discard = c.in-Ok-discard.ensures.told;
@@ -89,8 +89,8 @@ returns-clause-outcome g c = record {
   after_locks = g.S.PortSet.sights c.lock_again.new.shards;
   locks_late = turn_times LockAnswer g.S.PortSet.alone g.L.LogPort.alone c.args.locks.now c.args.locks.now c.args.repeats (g.S.PortSet.sights c.from_discarded.new.ports.shards) (g.S.PortSet.sights c.lock_again.new.shards) c.requires.same refl c.lock_again.ensures.told;
   after_finishes = g.S.PortSet.sights c.finish_again-2.new.shards;
-  finishes_late = turn_times FinishAnswer g.S.PortSet.alone g.L.LogPort.alone c.deref-3.result.now (map (finish_of c.args.batch.now c.args.cause c.args.outcomes.now) c.args.locks.now) c.args.repeats (g.S.PortSet.sights c.lock_again.new.shards) (g.S.PortSet.sights c.finish_again-2.new.shards) c.requires.same (c.deref-3.ensures.value ∙ c.finish_calls.ensures) c.finish_again-2.ensures.told;
-  forgets_late = turn_times ForgetAnswer g.S.PortSet.alone g.L.LogPort.alone c.deref-4.result.now (map (forget_of c.args.batch.now c.in-Ok-discard.stamp) c.args.locks.now) c.args.repeats (g.S.PortSet.sights c.finish_again-2.new.shards) (g.S.PortSet.sights c.forget_again.new.shards) c.requires.same
+  finishes_late = turn_times FinishAnswer g.S.PortSet.alone g.L.LogPort.alone c.deref-3.result.now (map (finish_call_of c.args.batch.now c.args.cause c.args.outcomes.now) c.args.locks.now) c.args.repeats (g.S.PortSet.sights c.lock_again.new.shards) (g.S.PortSet.sights c.finish_again-2.new.shards) c.requires.same (c.deref-3.ensures.value ∙ c.finish_calls.ensures) c.finish_again-2.ensures.told;
+  forgets_late = turn_times ForgetAnswer g.S.PortSet.alone g.L.LogPort.alone c.deref-4.result.now (map (forget_call_of c.args.batch.now c.in-Ok-discard.stamp) c.args.locks.now) c.args.repeats (g.S.PortSet.sights c.finish_again-2.new.shards) (g.S.PortSet.sights c.forget_again.new.shards) c.requires.same
       (c.deref-4.ensures.value ∙ c.in-Ok-from_discarded.ensures.calls) c.forget_again.ensures.told;
 }
 

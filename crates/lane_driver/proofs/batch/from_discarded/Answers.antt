@@ -1,5 +1,5 @@
 use Rattle.std.proofs.Common.{◌∙◌, refl, map}
-use Rattle.lane_laws.specs.Calls.{forget_of}
+use Rattle.lane_laws.specs.Calls.{forget_call_of}
 use Rattle.lane_laws.specs.Answers.{ForgetAnswer}
 use Rattle.lane_driver.proofs.Turning.{turn_stamped, turn_times, forget_stops, done_stops}
 use Rattle.lane_driver.proofs.Rooming.{forget_shards}
@@ -38,10 +38,10 @@ forget_again-requires-clause-mine g c =
 pub returns-in-Ok-done-clause-outcome : goal.returns-in-Ok-done-clause-outcome
 returns-in-Ok-done-clause-outcome g c = record {
   forgotten = c.in-Ok.stamp;
-  forgets = turn_stamped ForgetAnswer g.S.PortSet.alone g.L.LogPort.alone c.deref.result.now (map (forget_of c.args.batch.now c.args.cause) c.args.locks.now) (g.S.PortSet.sights c.args.ports.now.shards) (g.S.PortSet.sights c.forget_phase.new.shards) c.in-Ok.stamp
+  forgets = turn_stamped ForgetAnswer g.S.PortSet.alone g.L.LogPort.alone c.deref.result.now (map (forget_call_of c.args.batch.now c.args.cause) c.args.locks.now) (g.S.PortSet.sights c.args.ports.now.shards) (g.S.PortSet.sights c.forget_phase.new.shards) c.in-Ok.stamp
       c.requires.same (c.deref.ensures.value ∙ c.forget_calls.ensures) c.in-Ok.ensures.told;
   after_forget = g.S.PortSet.sights c.forget_phase.new.shards;
-  forgets_again = turn_times ForgetAnswer g.S.PortSet.alone g.L.LogPort.alone c.deref-2.result.now (map (forget_of c.args.batch.now c.args.cause) c.args.locks.now) c.args.repeats (g.S.PortSet.sights c.forget_phase.new.shards) (g.S.PortSet.sights c.forget_again.new.shards)
+  forgets_again = turn_times ForgetAnswer g.S.PortSet.alone g.L.LogPort.alone c.deref-2.result.now (map (forget_call_of c.args.batch.now c.args.cause) c.args.locks.now) c.args.repeats (g.S.PortSet.sights c.forget_phase.new.shards) (g.S.PortSet.sights c.forget_again.new.shards)
       c.requires.same (c.deref-2.ensures.value ∙ c.forget_calls.ensures) c.forget_again.ensures.told;
   ended = c.in-Ok-done.field-0;
   done = c.in-Ok-done.ensures.told;

@@ -1,5 +1,5 @@
 use Rattle.std.proofs.Common.{◌∙◌, refl, sym, ap, length, map}
-use Rattle.lane_laws.specs.Calls.{lock_of}
+use Rattle.lane_laws.specs.Calls.{lock_call_of}
 use Rattle.lane_laws.specs.Answers.{LockAnswer}
 use Rattle.lane_driver.proofs.Turning.{turn_locked, turn_times, turn_committed, lock_stops, decide_stops, commit_stops}
 use Rattle.std.proofs.lemmas.List.{length-map}
@@ -66,14 +66,14 @@ pub returns-in-Ok-from_committed-clause-outcome : goal.returns-in-Ok-from_commit
 returns-in-Ok-from_committed-clause-outcome g c = record {
   replies = c.in-Ok.replies;
   after_lock = g.S.PortSet.sights c.lock_phase.new.shards;
-  locks = turn_locked g.S.PortSet.alone g.L.LogPort.alone c.deref.result.now (map (lock_of c.args.batch.now c.args.cause) c.args.room.parts) (g.S.PortSet.sights c.args.ports.now.shards) (g.S.PortSet.sights c.lock_phase.new.shards) c.in-Ok.replies c.requires.same (c.deref.ensures.value ∙ c.lock_calls.ensures) c.in-Ok.ensures.told;
+  locks = turn_locked g.S.PortSet.alone g.L.LogPort.alone c.deref.result.now (map (lock_call_of c.args.batch.now c.args.cause) c.args.room.parts) (g.S.PortSet.sights c.args.ports.now.shards) (g.S.PortSet.sights c.lock_phase.new.shards) c.in-Ok.replies c.requires.same (c.deref.ensures.value ∙ c.lock_calls.ensures) c.in-Ok.ensures.told;
   before_decide = g.S.PortSet.sights c.lock_again.new.shards;
-  locks_again = turn_times LockAnswer g.S.PortSet.alone g.L.LogPort.alone c.deref-2.result.now (map (lock_of c.args.batch.now c.args.cause) c.args.room.parts) c.args.repeats (g.S.PortSet.sights c.lock_phase.new.shards) (g.S.PortSet.sights c.lock_again.new.shards) c.requires.same (c.deref-2.ensures.value ∙ c.lock_calls.ensures) c.lock_again.ensures.told;
+  locks_again = turn_times LockAnswer g.S.PortSet.alone g.L.LogPort.alone c.deref-2.result.now (map (lock_call_of c.args.batch.now c.args.cause) c.args.room.parts) c.args.repeats (g.S.PortSet.sights c.lock_phase.new.shards) (g.S.PortSet.sights c.lock_again.new.shards) c.requires.same (c.deref-2.ensures.value ∙ c.lock_calls.ensures) c.lock_again.ensures.told;
   log_committed = g.L.LogPort.sights c.decide.new.self (g.L.LogPort.at c.decide.new.self);
   committed = c.in-Ok-decide.stamp;
   decide = c.in-Ok-decide.ensures.told;
   outcomes = c.from_vec.ensures ∙ c.in-Ok-decide.ensures.written;
-  rest = turn_committed g.L.LogPort.alone c.args.batch.now c.in-Ok-decide.stamp c.deref-4.result.now c.from_vec.result c.args.repeats c.deref-3.result.now (map (lock_of c.args.batch.now c.args.cause) c.args.room.parts) (g.L.LogPort.sights c.decide.new.self (g.L.LogPort.at c.decide.new.self)) (g.L.LogPort.sights c.from_committed.new.ports.log (g.L.LogPort.at c.from_committed.new.ports.log)) (g.S.PortSet.sights c.lock_again.new.shards) (g.S.PortSet.sights c.from_committed.new.ports.shards)
+  rest = turn_committed g.L.LogPort.alone c.args.batch.now c.in-Ok-decide.stamp c.deref-4.result.now c.from_vec.result c.args.repeats c.deref-3.result.now (map (lock_call_of c.args.batch.now c.args.cause) c.args.room.parts) (g.L.LogPort.sights c.decide.new.self (g.L.LogPort.at c.decide.new.self)) (g.L.LogPort.sights c.from_committed.new.ports.log (g.L.LogPort.at c.from_committed.new.ports.log)) (g.S.PortSet.sights c.lock_again.new.shards) (g.S.PortSet.sights c.from_committed.new.ports.shards)
       (c.deref-4.ensures.value ∙ sym c.from_vec.ensures) (c.deref-3.ensures.value ∙ c.lock_calls.ensures) c.in-Ok-from_committed.ensures.outcome;
 }
 

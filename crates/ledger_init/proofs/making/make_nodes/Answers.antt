@@ -6,7 +6,7 @@ use Rattle.rack_ledgers.specs.Racked.{OfTold, FailsFirst}
 use Rattle.rack_ledgers.proofs.Each.{each_weaker}
 use Rattle.rack_ledgers.proofs.Closing.{closed_whole}
 use Rattle.rack_ledgers.specs.declared.blank.Blank.{Blank}
-use Rattle.ledger_init.specs.Made.{node_count}
+use Rattle.cbdc_model.specs.Ranges.{node_count}
 use Rattle.ledger_init.specs.Places.{IsFirstWritten, IsStopped, WritingStopsAt}
 use Rattle.ledger_init.proofs.Places.{minted_is, may_be_made, all_hold, all_places, all_rooms, all_left, stopped_left, stopped_lead, stopped_unmade, opening_unmade, back_begun, back_emptied, back_all, stopped_at}
 use Rattle.ledger_init.proofs.making.make_nodes.Goals as goal

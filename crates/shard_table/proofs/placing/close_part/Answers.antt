@@ -1,6 +1,6 @@
 use Rattle.std.proofs.Common.{◌≡◌, ◌≢◌, ℕ, ◌<◌, length, None, Some, set, arith, sym, ap, subst, ◌∙◌}
 use Rattle.std.proofs.lemmas.List.{length-set}
-use Rattle.shard_table.specs.Slots.{home_of, slot_at, Passed}
+use Rattle.shard_table.specs.Slots.{home_slot, slot_at, Passed}
 use Rattle.shard_table.proofs.Places.{open_move, open_keep, open_end, moved_kept, moved_count, shift_move, shift_keep}
 use Rattle.shard_table.proofs.placing.close_part.Goals as goal
 use Rattle.shard_table.proofs.placing.close_part.Goals.{then-is_passed, else-is_passed}
@@ -22,10 +22,10 @@ loop-at-preserved g c =
     let within : free < length s = omega (arith, i.len, i.opened.within) in
     let apart : free ≢ at = λ q. i.apart at (omega arith) (omega arith) (sym q) in
     let is : slot_at s at ≡ Some e = sym c.at.ensures ∙ c.in-Some.is in
-    let home : c.home.result ≡ home_of (length c.args.slots.now) e.hash = c.home.ensures.value ∙ ap (λ (n : ℕ). home_of n e.hash) c.len-homes.ensures in
+    let home : c.home.result ≡ home_slot (length c.args.slots.now) e.hash = c.home.ensures.value ∙ ap (λ (n : ℕ). home_slot n e.hash) c.len-homes.ensures in
     elim c.if-is_passed.branch [
       | then-is_passed w ↦
-          let passed : Passed (home_of (length c.args.slots.now) e.hash) at free = subst (λ (h : ℕ). Passed h at free) home (c.is_passed.ensures.yes w.if-is_passed.true) in
+          let passed : Passed (home_slot (length c.args.slots.now) e.hash) at free = subst (λ (h : ℕ). Passed h at free) home (c.is_passed.ensures.yes w.if-is_passed.true) in
           rw (w.slots-is, w.free-is, w.put-then-is_passed.ensures, w.put.ensures)
           (record {
             len = length-set (set s at None) free (Some e) ∙ length-set s at None ∙ i.len;
