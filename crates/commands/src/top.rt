@@ -140,7 +140,7 @@ where
     ensures untouched { IsBeforeDisks result → rack.new ≡ rack.old }
     ensures spared { IsOfNoRack request.now → rack.new ≡ rack.old }
     ensures unread { IsOfNoFile request.now → inbox.new ≡ inbox.old }
-    ensures files { (name : Text) → I.file inbox.new name ≡ I.file inbox.old name }
+    ensures inbox { (name : Text) → I.file inbox.new name ≡ I.file inbox.old name }
     ensures left { let before = scene I.Inbox R.Rack O.Sink inbox.old rack.old out.old in
         let after = scene I.Inbox R.Rack O.Sink inbox.new rack.new out.new in
         (IsWell result → ⊥)
@@ -183,7 +183,7 @@ where
     ensures back { (n : ℕ) → R.can_take rack.new n }
     ensures cause { IsAnswerToWords (texts words.entry.now) (I.count inbox.old) (I.count inbox.new)
         (Rose (O.count out.old) (O.count out.new)) result.status }
-    ensures told { AreWordsRefused (texts words.entry.now) WordsFault.Bad
+    ensures refused_words { AreWordsRefused (texts words.entry.now) WordsFault.Bad
         → (result.status ≡ Answer.BadWords) ⊎ (result.status ≡ Answer.Memory) }
     ensures did { let before = scene I.Inbox R.Rack O.Sink inbox.old rack.old out.old in
         let after = scene I.Inbox R.Rack O.Sink inbox.new rack.new out.new in
@@ -194,7 +194,7 @@ where
     ensures untouched { IsBeforeDisks result.status → rack.new ≡ rack.old }
     ensures spared { AreBadOr IsOfNoRack (texts words.entry.now) → rack.new ≡ rack.old }
     ensures unread { AreBadOr IsOfNoFile (texts words.entry.now) → inbox.new ≡ inbox.old }
-    ensures files { (name : Text) → I.file inbox.new name ≡ I.file inbox.old name }
+    ensures inbox { (name : Text) → I.file inbox.new name ≡ I.file inbox.old name }
     ensures left { let before = scene I.Inbox R.Rack O.Sink inbox.old rack.old out.old in
         let after = scene I.Inbox R.Rack O.Sink inbox.new rack.new out.new in
         (IsWell result.status → ⊥)
@@ -297,7 +297,7 @@ where
     ensures unread { AreBadOr IsOfNoFile (texts words.now) → inbox.new ≡ inbox.old }
 
     // The inbox tells of each file what it told before.
-    ensures files { (name : Text) → I.file inbox.new name ≡ I.file inbox.old name }
+    ensures inbox { (name : Text) → I.file inbox.new name ≡ I.file inbox.old name }
 
     // Where it was not done the rack is as it was, or: behind `status` and `audit` all disks are as they were read (`AreDisksBack`); where a run or a
     // recovery did not come through, also where memory ran out, they are as they were read, or all is as a lane's fault leaves it (`TurnsLeave`); where a
@@ -326,7 +326,7 @@ where
         → IsWell result.status ⊎ IsEndedLater R.Disk.Disk before after r result.status
         → IsExact R.Disk.Disk before r }
 
-    // Where nothing hinders what is asked (`IsUnhindered`) it ends with Ok or Memory, or with WriteFault, where the sink's count rose (`written`). Nothing
+    // Where nothing hinders what is asked (`IsUnhindered`) it ends with Ok or Memory, or with WriteFault, where the sink's count rose (`write_fault`). Nothing
     // does where all that it is about is told, no count of it rises, and it is as `CanInit`, `CanRun` and `CanAudit` say, or, of `recover` and `status`,
     // `AreReadyFor` (of these and of `run`: with room for every record that is still to come, `Ample`); of `gen`, where no hashes of its workload clash;
     // of help, always.
@@ -339,15 +339,15 @@ where
     ensures bad_words { result.status ≡ Answer.BadWords → AreWordsRefused (texts words.now) WordsFault.Bad }
 
     // Words that have a mistake, or a value out of form, end as BadWords, or as Memory where memory ran out.
-    ensures told { AreWordsRefused (texts words.now) WordsFault.Bad
+    ensures refused_words { AreWordsRefused (texts words.now) WordsFault.Bad
         → (result.status ≡ Answer.BadWords) ⊎ (result.status ≡ Answer.Memory) }
 
     // ReadFault only where the words ask for a file with that place, and the inbox's count of its name rose.
-    ensures read { (file : ℕ) → result.status ≡ Answer.ReadFault file
+    ensures read_fault { (file : ℕ) → result.status ≡ Answer.ReadFault file
         → NamedRose (texts words.now) (I.count inbox.old) (I.count inbox.new) file }
 
     // WriteFault only where the sink's count rose.
-    ensures written { result.status ≡ Answer.WriteFault → Rose (O.count out.old) (O.count out.new) }
+    ensures write_fault { result.status ≡ Answer.WriteFault → Rose (O.count out.old) (O.count out.new) }
 {
     see_images::<R::Disk>();
     let mut rack = rack;

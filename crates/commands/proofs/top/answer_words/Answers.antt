@@ -23,8 +23,8 @@ returns-in-Ok-clause-why g c =
     let after = at c.answer_to-status.new.inbox c.answer_to-status.new.rack c.answer_to-status.new.out in
     told_by (Why g.R.Disk.Disk before after c.in-Ok.request) (AskedWhy g.R.Disk.Disk before after (texts c.args.words.now)) c.answer_to-status.result (λ a so. (c.in-Ok.request, c.in-Ok.ensures.asked, so)) c.answer_to-status.ensures.why
 
-pub returns-in-Ok-clause-told : goal.returns-in-Ok-clause-told
-returns-in-Ok-clause-told g c refused = absurd (asked_law (texts c.args.words.now) c.in-Ok.request c.see_request.ensures c.in-Ok.ensures.asked refused)
+pub returns-in-Ok-clause-refused_words : goal.returns-in-Ok-clause-refused_words
+returns-in-Ok-clause-refused_words g c refused = absurd (asked_law (texts c.args.words.now) c.in-Ok.request c.see_request.ensures c.in-Ok.ensures.asked refused)
 
 pub returns-in-Ok-clause-left : goal.returns-in-Ok-clause-left
 returns-in-Ok-clause-left g c not_well = ⊎_elim (λ same. inl same) (λ left. inr (c.in-Ok.request, c.in-Ok.ensures.asked, left)) (c.answer_to-status.ensures.left not_well)

@@ -52,17 +52,17 @@ pub returns-clause-bad_words : goal.returns-clause-bad_words
 returns-clause-bad_words g c is =
     subst (λ a. IsAnswerToWords (texts c.args.words.now) (g.I.Inbox.count c.args.inbox.now) (g.I.Inbox.count c.answer_words-status.new.inbox) (Rose (g.O.Sink.count c.args.out.now) (g.O.Sink.count c.answer_words-status.new.out)) a) is c.answer_words-status.ensures.cause
 
-pub returns-clause-read : goal.returns-clause-read
-returns-clause-read g c file is =
+pub returns-clause-read_fault : goal.returns-clause-read_fault
+returns-clause-read_fault g c file is =
     subst (λ a. IsAnswerToWords (texts c.args.words.now) (g.I.Inbox.count c.args.inbox.now) (g.I.Inbox.count c.answer_words-status.new.inbox) (Rose (g.O.Sink.count c.args.out.now) (g.O.Sink.count c.answer_words-status.new.out)) a) is c.answer_words-status.ensures.cause
 
-pub returns-clause-written : goal.returns-clause-written
-returns-clause-written g c is =
+pub returns-clause-write_fault : goal.returns-clause-write_fault
+returns-clause-write_fault g c is =
     rose_later (g.O.Sink.count c.args.out.now) (g.O.Sink.count c.args.out.now) (g.O.Sink.count c.answer_words-status.new.out) (g.O.Sink.count c.write_fault.new.out) (omega arith) c.write_fault.ensures.cause.later
     (subst (λ a. IsAnswerToWords (texts c.args.words.now) (g.I.Inbox.count c.args.inbox.now) (g.I.Inbox.count c.answer_words-status.new.inbox) (Rose (g.O.Sink.count c.args.out.now) (g.O.Sink.count c.answer_words-status.new.out)) a) is c.answer_words-status.ensures.cause)
 
-pub returns-clause-told : goal.returns-clause-told
-returns-clause-told g c refused = c.answer_words-status.ensures.told refused
+pub returns-clause-refused_words : goal.returns-clause-refused_words
+returns-clause-refused_words g c refused = c.answer_words-status.ensures.refused_words refused
 
 pub returns-clause-fault_line : goal.returns-clause-fault_line
 returns-clause-fault_line g c =
