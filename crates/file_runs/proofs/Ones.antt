@@ -11,7 +11,7 @@ use Rattle.lane_driver.specs.Told.{KeepsOtherLanes}
 use Rattle.lane_driver.specs.declared.fault.LaneFault.{LaneFault}
 use Rattle.recovery.specs.declared.resumed.Resumed.{Resumed}
 use Rattle.recovery.specs.declared.resumed.ResumedBatch.{ResumedBatch}
-use Rattle.recovery.specs.Open.{KeepsUnlisted, AreResumed, IsResumeStopped, IsOneTaken, AreTakenUp, AreTried, IsStoppedAmong, OpenLanesCame}
+use Rattle.recovery.specs.Open.{KeepsUnlisted, AreResumed, IsResumeStopped, IsOneTaken, AreTakenUp, AreTried, IsStoppedAmong, OpenLanesResult}
 use Rattle.recovery.proofs.InOrder.{taken_resumed}
 use Rattle.recovery.proofs.Taking.{resume_left}
 use Rattle.file_runs.specs.Ones.{IsOneOf, ResumeLeft}
@@ -21,7 +21,7 @@ one_batch o [] resumed = absurd resumed
 one_batch o (b ∷ []) resumed = (b, refl)
 one_batch o (b ∷ c ∷ rs) resumed = absurd resumed.1
 
-pub are_one : (K : Shape) (alone : Bool) (o : OpenLane) (came : Result Resumed LaneFault) (old new : LaneSights) → OpenLanesCame K alone (o ∷ []) came old new → IfOk came (λ r. (b : ResumedBatch) × (r.batches ≡ b ∷ []))
+pub are_one : (K : Shape) (alone : Bool) (o : OpenLane) (came : Result Resumed LaneFault) (old new : LaneSights) → OpenLanesResult K alone (o ∷ []) came old new → IfOk came (λ r. (b : ResumedBatch) × (r.batches ≡ b ∷ []))
 are_one K alone o (Ok r) old new taken = one_batch o r.batches (taken_resumed K alone (o ∷ []) r.batches old new taken)
 are_one K alone o (Err e) old new stop = tt
 
@@ -61,7 +61,7 @@ stopped_one K alone o old new e among = go among.before among.batches among.behi
     go (p ∷ ps) bs behind came is taken tried = absurd (omega (arith, ap length is, length-append ps (among.stopped_at ∷ behind)))
 
 pub one_came : (K : Shape) (o : OpenLane) (old new : LaneSights) (came : Result Resumed LaneFault) (one : Result ResumedBatch LaneFault) → IsOneOf came one
-    → OpenLanesCame K true (o ∷ []) came old new → ResumeLeft K o one old.home old.shards new.home new.shards
+    → OpenLanesResult K true (o ∷ []) came old new → ResumeLeft K o one old.home old.shards new.home new.shards
 one_came K o old new (Ok r) (Ok b) is taken = taken_one K true o b old new (subst (λ bs. AreTakenUp K true (o ∷ []) bs old new) is taken)
 one_came K o old new (Ok r) (Err f) is taken = absurd is
 one_came K o old new (Err e) (Ok b) is stop = absurd is

@@ -49,7 +49,7 @@ use Rattle.command_answers.specs.Causes.{IsAnswerToRequest}
 use Rattle.run_command.specs.Told.{IsCountable, numbers_of}
 use Rattle.gen_command.specs.Generated.{all_good, files_of, all_submissions, made_for, IsWorkloadRun, HasVerdictOf, EndsWorkload, batches_for, IsWorkloadText, IsUnsoundWorkload, WhyNoWorkload}
 use Rattle.submission_laws.specs.Files.{mint_journals}
-use Rattle.gen_command.specs.InMemory.{AreDisksReady, HaveRoomForFiles, TellsRunOf, CameTo, IsCheckedSound, IsUnchecked, memory_disks}
+use Rattle.gen_command.specs.InMemory.{AreDisksReady, HaveRoomForFiles, TellsRunOf, IsWorkloadResult, IsCheckedSound, IsUnchecked, memory_disks}
 use Rattle.gen_command.proofs.FirstShown.{kept_journal, kept_beyond, first_kept, first_shown}
 use Rattle.gen_command.proofs.Memory.{none_rose, there}
 use Rattle.rack_laws.specs.Ready.{NoneRises, ShowsKept, limit_at}
@@ -201,7 +201,7 @@ module _ (K : Shape) (seed n : ℕ) where
         bytes_in None = []
         bytes_in (Some c) = c
 
-    pub came_to : (totals : Totals) → IsCheckedSound rack (mint_of seed n) (all_submissions seed n) totals → CameTo K seed n ran totals
+    pub came_to : (totals : Totals) → IsCheckedSound rack (mint_of seed n) (all_submissions seed n) totals → IsWorkloadResult K seed n ran totals
     came_to totals audited = record {
       limits = limits;
       exit = told.run.exit;
@@ -267,7 +267,7 @@ module _ (K : Shape) (seed n : ℕ) where
   why_done written answers.Memory is = tt
 
   -- the text of a workload
-  pub text_of : (ran : Ran) (totals : Totals) → CameTo K seed n ran totals → IsWorkloadText K seed n (numbers_of ran ++ audit_lines totals)
+  pub text_of : (ran : Ran) (totals : Totals) → IsWorkloadResult K seed n ran totals → IsWorkloadText K seed n (numbers_of ran ++ audit_lines totals)
   text_of ran totals came = record {
     exit = came.exit;
     run = came.run;

@@ -46,7 +46,7 @@ abbrev pub TellsRunOf : Shape → List Output → List (List FullTx) → PlainRa
 TellsRunOf K mint files rack ran = IsRunTold plain (disk_at rack) all_good files ran K mint [] (mint_journals K mint)
 
 -- what a workload's run and audit tell is so
-pub record CameTo (K : Shape) (seed n : ℕ) (ran : Ran) (totals : Totals) : Type 0 where
+pub record IsWorkloadResult (K : Shape) (seed n : ℕ) (ran : Ran) (totals : Totals) : Type 0 where
   pub limits : IsWithinLimits K
   pub exit : ℕ → List Record
   pub run : IsWorkloadRun K seed n exit

@@ -4,7 +4,7 @@ ghost use Rattle.outside.specs.Counts.{Rose};
 ghost use Rattle.cbdc_types.specs.Limits.{IsWithinLimits};
 ghost use Rattle.command_answers.specs.Causes.{IsAnswerToRequest, HasToldCause, IsWell};
 ghost use Rattle.gen_command.specs.Generated.{files_of as files_from, PrintsWorkload, WhyNoWorkload};
-ghost use Rattle.gen_command.specs.InMemory.{AreDisksReady, HaveRoomForFiles, TellsRunOf, IsCheckedSound, IsUnchecked, CameTo};
+ghost use Rattle.gen_command.specs.InMemory.{AreDisksReady, HaveRoomForFiles, TellsRunOf, IsCheckedSound, IsUnchecked, IsWorkloadResult};
 ghost use Rattle.command_answers.specs.Texts.{IsPrinted, IsSilent};
 ghost use Rattle.file_runs.specs.Runs.{joined as all_joined};
 ghost use Rattle.input_files.specs.Limits.{IsShort};
@@ -144,7 +144,7 @@ fn run_workload<W: Wait + Threads + Sync, G: Gate + Sync>(
     gate: &G,
 ) -> Result<Came, Answer>
     requires { count ≤ 10000 }
-    ensures did { IfOk result (λ c. CameTo shape.now seed count c.ran c.totals) }
+    ensures did { IfOk result (λ c. IsWorkloadResult shape.now seed count c.ran c.totals) }
     ensures why { IfErr result (WhyNoWorkload shape.now seed count) }
 {
     let Ok(Files { mint, clients }) = files_of(alloc, seed, count) else {

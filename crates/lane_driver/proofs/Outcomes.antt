@@ -19,7 +19,7 @@ use Rattle.lane_driver.specs.Causes.{IsCausedFault}
 use Rattle.lane_driver.specs.Wanting.{IsBatchWant}
 use Rattle.lane_driver.specs.Reports.{AreDone}
 use Rattle.lane_driver.specs.Showing.{LaneSights}
-use Rattle.lane_driver.specs.Outcomes.{IsBatchDone, IsBatchStop, IsFaultOfBatch, IsBatchEnd, LaneCame}
+use Rattle.lane_driver.specs.Outcomes.{IsBatchDone, IsBatchStop, IsFaultOfBatch, IsBatchEnd, LaneResult}
 use Rattle.lane_driver.proofs.Wanting.{fault_want, fault_node}
 
 -- where the driver ran out of memory that is its fault's cause
@@ -80,12 +80,12 @@ module _ (K : Shape) (alone : Bool) (lane : ℕ) (txs : List Compact) (repeats :
       inr (inr (s.0, s.1, s.2, lane_stops K alone lane txs rest old.home between.home new.home old.shards between.shards new.shards so (take K.batch rest) s.0 s.1 some refl s.3))
 
   -- a settled lane that stopped: its batches up to there are done, and what the last one left
-  pub lane_left : LaneCame K alone lane txs repeats (Err e) old new → IsLaneStopped K alone lane txs old.home old.shards new.home new.shards e
+  pub lane_left : LaneResult K alone lane txs repeats (Err e) old new → IsLaneStopped K alone lane txs old.home old.shards new.home new.shards e
   lane_left (inl none) k st = inl none
   lane_left (inr stop) k st =
       ended_left stop.rest stop.between (lane_so K alone lane k txs old.home old.shards st stop.reports stop.rest stop.between.home stop.between.shards stop.done) stop.left stop.ended
 
   -- what its fault has its cause in
-  pub lane_caused : LaneCame K alone lane txs repeats (Err e) old new → IsCausedFault K new.logs new.shards e
+  pub lane_caused : LaneResult K alone lane txs repeats (Err e) old new → IsCausedFault K new.logs new.shards e
   lane_caused (inl none) = driver_caused K new.logs new.shards e none.0
   lane_caused (inr stop) = end_caused K alone lane (take K.batch stop.rest) repeats stop.between new e stop.ended

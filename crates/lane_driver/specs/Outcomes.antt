@@ -29,20 +29,20 @@ pub record IsStop (K : Shape) (new : LaneSights) (told : ℕ → NodeFault → T
 abbrev pub TakesNone : ℕ → Type 0
 TakesNone node = ⊥
 
--- `DiscardedCame`, `CommittedCame`, `PreparedCame`: what a batch came to from its Discard, its Commit, its Prepare on
-abbrev pub DiscardedCame : {A : Type 0} → Shape → Bool → Batch → ℕ → ℕ → List (ℕ × LockCall) → Result A Stop → LaneSights → LaneSights → Type 0
-DiscardedCame K alone b cause repeats locks (Ok a) old new = ToldDiscarded alone b cause repeats locks old.home new.home old.shards new.shards
-DiscardedCame K alone b cause repeats locks (Err e) old new =
+-- `DiscardedResult`, `CommittedResult`, `PreparedResult`: what a batch came to from its Discard, its Commit, its Prepare on
+abbrev pub DiscardedResult : {A : Type 0} → Shape → Bool → Batch → ℕ → ℕ → List (ℕ × LockCall) → Result A Stop → LaneSights → LaneSights → Type 0
+DiscardedResult K alone b cause repeats locks (Ok a) old new = ToldDiscarded alone b cause repeats locks old.home new.home old.shards new.shards
+DiscardedResult K alone b cause repeats locks (Err e) old new =
     IsStop K new (DiscardedStopped K alone b cause repeats locks old.home new.home old.shards new.shards) TakesNone e
 
-abbrev pub CommittedCame : {A : Type 0} → Shape → Bool → Batch → ℕ → List Outcome → ℕ → List (ℕ × LockCall) → Result A Stop → LaneSights → LaneSights → Type 0
-CommittedCame K alone b cause os repeats locks (Ok a) old new = ToldCommitted alone b cause os repeats locks old.home new.home old.shards new.shards
-CommittedCame K alone b cause os repeats locks (Err e) old new =
+abbrev pub CommittedResult : {A : Type 0} → Shape → Bool → Batch → ℕ → List Outcome → ℕ → List (ℕ × LockCall) → Result A Stop → LaneSights → LaneSights → Type 0
+CommittedResult K alone b cause os repeats locks (Ok a) old new = ToldCommitted alone b cause os repeats locks old.home new.home old.shards new.shards
+CommittedResult K alone b cause os repeats locks (Err e) old new =
     IsStop K new (CommittedStopped K alone b cause os repeats locks old.home new.home old.shards new.shards) TakesNone e
 
-abbrev pub PreparedCame : Shape → Bool → Batch → ℕ → ℕ → List (ℕ × List Entry) → Result (List Outcome) Stop → LaneSights → LaneSights → Type 0
-PreparedCame K alone b cause repeats parts (Ok os) old new = ToldPrepared alone b cause repeats parts old.home new.home old.shards new.shards os
-PreparedCame K alone b cause repeats parts (Err e) old new =
+abbrev pub PreparedResult : Shape → Bool → Batch → ℕ → ℕ → List (ℕ × List Entry) → Result (List Outcome) Stop → LaneSights → LaneSights → Type 0
+PreparedResult K alone b cause repeats parts (Ok os) old new = ToldPrepared alone b cause repeats parts old.home new.home old.shards new.shards os
+PreparedResult K alone b cause repeats parts (Err e) old new =
     IsStop K new (PreparedStopped K alone b cause repeats parts old.home new.home old.shards new.shards)
     (IsLockWant K alone b cause parts old.home new.home old.shards new.shards) e
 
@@ -67,19 +67,19 @@ IsBatchEnd K alone lane txs repeats old new e =
     DriverHasNoMemory e old.home old.shards new.home new.shards ⊎ IsFaultOfBatch K alone lane txs repeats old new e
 
 -- what a batch came to, where it stopped by the node's answer
-abbrev pub DriveCame : Shape → Bool → ℕ → List Compact → ℕ → Result BatchReport Stop → LaneSights → LaneSights → Type 0
-DriveCame K alone lane txs repeats (Ok r) old new = IsBatchDone K alone lane txs repeats old new r
-DriveCame K alone lane txs repeats (Err e) old new = IsBatchStop K alone lane txs repeats old new e
+abbrev pub DriveResult : Shape → Bool → ℕ → List Compact → ℕ → Result BatchReport Stop → LaneSights → LaneSights → Type 0
+DriveResult K alone lane txs repeats (Ok r) old new = IsBatchDone K alone lane txs repeats old new r
+DriveResult K alone lane txs repeats (Err e) old new = IsBatchStop K alone lane txs repeats old new e
 
 -- what a batch came to whose driver has all its memory
-abbrev pub BatchCame : Shape → Bool → ℕ → List Compact → ℕ → Result BatchReport LaneFault → LaneSights → LaneSights → Type 0
-BatchCame K alone lane txs repeats (Ok r) old new = IsBatchDone K alone lane txs repeats old new r
-BatchCame K alone lane txs repeats (Err e) old new = IsFaultOfBatch K alone lane txs repeats old new e
+abbrev pub BatchResult : Shape → Bool → ℕ → List Compact → ℕ → Result BatchReport LaneFault → LaneSights → LaneSights → Type 0
+BatchResult K alone lane txs repeats (Ok r) old new = IsBatchDone K alone lane txs repeats old new r
+BatchResult K alone lane txs repeats (Err e) old new = IsFaultOfBatch K alone lane txs repeats old new e
 
 -- what the one batch of a lane came to, with its driver's memory
-abbrev pub OneBatchCame : Shape → Bool → ℕ → List Compact → ℕ → Result LaneReport LaneFault → LaneSights → LaneSights → Type 0
-OneBatchCame K alone lane txs repeats (Ok r) old new = (one : BatchReport) × (r.batches ≡ one ∷ []) × IsBatchDone K alone lane txs repeats old new one
-OneBatchCame K alone lane txs repeats (Err e) old new = IsBatchEnd K alone lane txs repeats old new e
+abbrev pub OneBatchResult : Shape → Bool → ℕ → List Compact → ℕ → Result LaneReport LaneFault → LaneSights → LaneSights → Type 0
+OneBatchResult K alone lane txs repeats (Ok r) old new = (one : BatchReport) × (r.batches ≡ one ∷ []) × IsBatchDone K alone lane txs repeats old new one
+OneBatchResult K alone lane txs repeats (Err e) old new = IsBatchEnd K alone lane txs repeats old new e
 
 -- a lane stopped: these batches, the newest first, are done, and that of the very next piece of what is left stopped, or was not begun because the
 -- driver ran out of memory
@@ -93,7 +93,7 @@ pub record IsLaneStop (K : Shape) (alone : Bool) (lane : ℕ) (txs : List Compac
 
 -- what a lane came to: all its batches are done, one behind the other, each with the outcomes that it reports; or it stopped, or was not begun because
 -- the driver ran out of memory
-abbrev pub LaneCame : Shape → Bool → ℕ → List Compact → ℕ → Result LaneReport LaneFault → LaneSights → LaneSights → Type 0
-LaneCame K alone lane txs repeats (Ok r) old new = AreDone K alone lane txs old.home old.shards (reverse r.batches) [] new.home new.shards
-LaneCame K alone lane txs repeats (Err e) old new =
+abbrev pub LaneResult : Shape → Bool → ℕ → List Compact → ℕ → Result LaneReport LaneFault → LaneSights → LaneSights → Type 0
+LaneResult K alone lane txs repeats (Ok r) old new = AreDone K alone lane txs old.home old.shards (reverse r.batches) [] new.home new.shards
+LaneResult K alone lane txs repeats (Err e) old new =
     DriverHasNoMemory e old.home old.shards new.home new.shards ⊎ IsLaneStop K alone lane txs repeats old new e

@@ -11,7 +11,7 @@ ghost use Rattle.lane_driver.specs.Reports.{AreBatchReports};
 ghost use Rattle.lane_driver.specs.Stops.{IsLaneSettled};
 ghost use Rattle.lane_driver.specs.Readied.{IsReadied};
 ghost use Rattle.lane_driver.specs.Showing.{PortsShow, PortsTell, KeepsLanePorts};
-ghost use Rattle.lane_driver.specs.Outcomes.{DiscardedCame, CommittedCame, PreparedCame, DriveCame, OneBatchCame};
+ghost use Rattle.lane_driver.specs.Outcomes.{DiscardedResult, CommittedResult, PreparedResult, DriveResult, OneBatchResult};
 
 use crate::fault::{BatchReport, LaneFault, LaneReport, Stop, no_memory};
 use crate::making::ready;
@@ -62,7 +62,7 @@ pub fn from_discarded<S: PortSet<G>, L: LogPort, G: Gate>(
     requires room { length locks.now ≤ vec_capacity forgets.old }
     requires answers { length locks.now ≤ vec_capacity stamped.old }
     ensures outcome { PortsTell L.LogPort S.PortSet ports.old ports.new
-        (DiscardedCame shape.now L.alone batch.now cause repeats locks.now result) }
+        (DiscardedResult shape.now L.alone batch.now cause repeats locks.now result) }
     ensures phase { OnOk result (L.phase ports.new.log batch.now.lane ≡ Idle) }
     ensures keeps { KeepsLanePorts L.LogPort S.PortSet batch.now.lane ports.old ports.new }
     ensures calls { forgets.new.items ≡ map (forget_call_of batch.now cause) locks.now }
@@ -113,7 +113,7 @@ pub fn from_committed<S: PortSet<G>, L: LogPort, G: Gate>(
     requires again { length locks.now ≤ vec_capacity again.old }
     requires room { IsLaterRoom (length locks.now) (length outcomes.now) room }
     ensures outcome { PortsTell L.LogPort S.PortSet ports.old ports.new
-        (CommittedCame shape.now L.alone batch.now cause outcomes.now repeats locks.now result) }
+        (CommittedResult shape.now L.alone batch.now cause outcomes.now repeats locks.now result) }
     ensures phase { OnOk result (L.phase ports.new.log batch.now.lane ≡ Idle) }
     ensures keeps { KeepsLanePorts L.LogPort S.PortSet batch.now.lane ports.old ports.new }
 {
@@ -183,7 +183,7 @@ pub fn from_prepared<S: PortSet<G>, L: LogPort, G: Gate>(
     requires parts { AreFitParts (S.sights ports.old.shards) room.parts }
     requires room { IsBatchRoom shape.now.shards (length (L.open_txs ports.old.log batch.now.lane)) room }
     ensures outcome { PortsTell L.LogPort S.PortSet ports.old ports.new
-        (PreparedCame shape.now L.alone batch.now cause repeats room.parts result) }
+        (PreparedResult shape.now L.alone batch.now cause repeats room.parts result) }
     ensures phase { OnOk result (L.phase ports.new.log batch.now.lane ≡ Idle) }
     ensures keeps { KeepsLanePorts L.LogPort S.PortSet batch.now.lane ports.old ports.new }
     ensures outcomes { IfOk result (λ os. length os ≡ length (L.open_txs ports.old.log batch.now.lane)) }
@@ -242,7 +242,7 @@ pub(crate) fn drive_batch<S: PortSet<G>, L: LogPort, G: Gate>(
     requires limits { All IsCompact txs.now }
     requires readied { IsReadied shape.now txs.now room }
     ensures outcome { PortsTell L.LogPort S.PortSet ports.old ports.new
-        (DriveCame shape.now L.alone lane txs.now repeats result) }
+        (DriveResult shape.now L.alone lane txs.now repeats result) }
     ensures idle { OnOk result (L.phase ports.new.log lane ≡ Idle) }
     ensures keeps { KeepsLanePorts L.LogPort S.PortSet lane ports.old ports.new }
     ensures report { IfOk result (λ r. (r.batch.lane ≡ lane) × (length r.outcomes ≡ length txs.now)) }
@@ -289,7 +289,7 @@ pub fn run_batch<S: PortSet<G>, L: LogPort, G: Gate>(
     requires size { HasSize shape.now txs.now }
     requires limits { All IsCompact txs.now }
     ensures outcome { PortsTell L.LogPort S.PortSet ports.old ports.new
-        (OneBatchCame shape.now L.alone lane txs.now repeats result) }
+        (OneBatchResult shape.now L.alone lane txs.now repeats result) }
     ensures idle { OnOk result (L.phase ports.new.log lane ≡ Idle) }
     ensures keeps { KeepsLanePorts L.LogPort S.PortSet lane ports.old ports.new }
     ensures report { IfOk result (λ r. AreBatchReports lane r.batches (txs.now ∷ [])) }

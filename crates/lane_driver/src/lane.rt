@@ -7,7 +7,7 @@ ghost use Rattle.lane_driver.specs.Stops.{IsLaneSettled};
 ghost use Rattle.lane_driver.specs.Told.{IsLane, AreShardsOf};
 ghost use Rattle.lane_driver.specs.Reports.{IsReported};
 ghost use Rattle.lane_driver.specs.Showing.{PortsShow, PortsTell, KeepsLanePorts};
-ghost use Rattle.lane_driver.specs.Outcomes.{LaneCame};
+ghost use Rattle.lane_driver.specs.Outcomes.{LaneResult};
 
 use crate::fault::{LaneFault, LaneReport, no_memory};
 use crate::making::ready;
@@ -51,7 +51,7 @@ pub fn run_lane<S: PortSet<G>, L: LogPort, X: Source, G: Gate>(
 
     // All its batches are done, one behind the other, each with the outcomes of its Commit; or it stopped, with those before it done.
     ensures outcome { PortsTell L.LogPort S.PortSet ports.old ports.new
-        (LaneCame shape.now L.alone lane (X.all source.old) repeats result) }
+        (LaneResult shape.now L.alone lane (X.all source.old) repeats result) }
     ensures idle { OnOk result (L.phase ports.new.log lane ≡ Idle) }
     ensures keeps { KeepsLanePorts L.LogPort S.PortSet lane ports.old ports.new }
     ensures report { IfOk result (λ r. IsReported lane shape.now.batch (X.all source.old) [] r.batches) }

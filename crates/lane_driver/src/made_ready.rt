@@ -6,7 +6,7 @@ ghost use Rattle.cbdc_model.specs.Grammar.{HasSize, IsCompact};
 ghost use Rattle.lane_driver.specs.Told.{IsLane, AreShardsOf};
 ghost use Rattle.lane_driver.specs.Stops.{IsLaneSettled};
 ghost use Rattle.lane_driver.specs.Showing.{PortsShow, PortsTell, KeepsLanePorts};
-ghost use Rattle.lane_driver.specs.Outcomes.{BatchCame};
+ghost use Rattle.lane_driver.specs.Outcomes.{BatchResult};
 
 use crate::batch::drive_batch;
 use crate::fault::{BatchReport, LaneFault, lane_fault};
@@ -65,7 +65,7 @@ impl<'a> Ready<'a> {
         // It is done, or it stopped at a call, with that node's answer: out of memory only where the node was its coordinator at the Prepare, or a
         // shard at a Lock.
         ensures outcome { PortsTell L.LogPort S.PortSet ports.old ports.new
-            (BatchCame self.entry.shape L.alone self.entry.lane self.entry.txs repeats result) }
+            (BatchResult self.entry.shape L.alone self.entry.lane self.entry.txs repeats result) }
         ensures idle { OnOk result (L.phase ports.new.log self.entry.lane ≡ Idle) }
         ensures keeps { KeepsLanePorts L.LogPort S.PortSet self.entry.lane ports.old ports.new }
         ensures report { IfOk result (λ r. (r.batch.lane ≡ self.entry.lane)

@@ -9,7 +9,7 @@ use Rattle.lane_driver.specs.Told.{IsLane, AreShardsOf, KeepNodes}
 use Rattle.lane_driver.specs.Stops.{IsLaneSettled}
 use Rattle.lane_driver.specs.Reports.{IsReported}
 use Rattle.lane_driver.specs.Showing.{LaneSights}
-use Rattle.lane_driver.specs.Outcomes.{LaneCame}
+use Rattle.lane_driver.specs.Outcomes.{LaneResult}
 use Rattle.lane_driver.specs.declared.fault.LaneFault.{LaneFault}
 use Rattle.lane_driver.specs.declared.fault.LaneReport.{LaneReport}
 use Rattle.node_lock.specs.Seats.{TableId, knows, table_of}
@@ -60,7 +60,7 @@ module _ {W D S B X : Type 0} {G : Ghosts B} (sight : S → Sight) (tables : ℕ
 
   -- what a run came to; where it has done all its lane is idle, and it reports an outcome for each transaction
   pub record HasCome (r q : LaneRun W D S B X G) (came : Result LaneReport LaneFault) : Type 0 where
-    pub outcome : LaneCame K false r.lane r.work.txs r.work.repeats came (sights_of r) (sights_of q)
+    pub outcome : LaneResult K false r.lane r.work.txs r.work.repeats came (sights_of r) (sights_of q)
     pub idle : OnOk came (seat_phase (knows q.ports.log.seat).lane (seat_sight (log_sight {D = D}) q.ports.log.seat) r.lane ≡ Idle)
     pub named : IfOk came (λ report. IsReported r.lane K.batch r.work.txs [] report.batches)
 

@@ -7,7 +7,7 @@ ghost use Rattle.cbdc_model.specs.Ranges.{home_of};
 ghost use Rattle.lane_driver.specs.Stops.{IsLaneSettled};
 ghost use Rattle.lane_driver.specs.Told.{IsLane, AreShardsOf};
 ghost use Rattle.lane_driver.specs.Reports.{IsReported};
-ghost use Rattle.lane_driver.specs.Outcomes.{LaneCame};
+ghost use Rattle.lane_driver.specs.Outcomes.{LaneResult};
 ghost use Rattle.node_ports.specs.Nodes.{sight_at};
 ghost use Rattle.port_sets.specs.Phase.{MakesAll, AsksLocks, AsksFinishes, AsksForgets, Locks, Finishes, Forgets, IsToldAtOnce};
 ghost use Rattle.lane_waves.specs.Phases.{SeatsShow, SeatsTell, KeepsSeats};
@@ -111,7 +111,7 @@ pub(crate) fn run_over<
 
     // All its batches are done, one behind the other, each with the outcomes of its Commit; or it stopped, with those before it done.
     ensures outcome { SeatsTell L.LogPort P.ShardPort ports.old ports.new
-        (LaneCame shape.now L.alone lane (Y.all source.old) repeats result) }
+        (LaneResult shape.now L.alone lane (Y.all source.old) repeats result) }
     ensures idle { OnOk result (L.phase ports.new.log lane ≡ Idle) }
     ensures keeps { KeepsSeats L.LogPort P.ShardPort ports.old ports.new }
     ensures report { IfOk result (λ r. IsReported lane shape.now.batch (Y.all source.old) [] r.batches) }

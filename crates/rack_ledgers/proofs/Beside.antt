@@ -14,7 +14,7 @@ use Rattle.rack_ledgers.proofs.Range.{opening_later}
 use Rattle.rack_ledgers.proofs.Told.{back_opened, rose_not}
 use Rattle.rack_ledgers.specs.declared.slots.Slot.{Slot}
 use Rattle.rack_ledgers.specs.declared.slots.Slot.TheVariants as slots
-use Rattle.rack_ledgers.specs.Slots.{IsWaitingSlot, nodes_in, AreNodesOpen, AreNotRefused, IsFirstNodeRefusal, faults_in, MayPut, HasDisk, IsDiskIn, IsTakenDisk, IsTakenSlot, IsOpenOn, IsRefusedOn, SlotCameOf, CameAt, OpensAt, FailsAt}
+use Rattle.rack_ledgers.specs.Slots.{IsWaitingSlot, nodes_in, AreNodesOpen, AreNotRefused, IsFirstNodeRefusal, faults_in, MayPut, HasDisk, IsDiskIn, IsTakenDisk, IsTakenSlot, IsOpenOn, IsRefusedOn, SlotResult, SlotResultAt, OpensAt, FailsAt}
 
 -- what each place was says what it is
 pub each_came : {S : Type 0} (Goes : S → S → Type 0) (P Q : ℕ → S → Type 0) → ((n : ℕ) (s t : S) → Goes s t → P n s → Q n t) → (first : ℕ) (olds news : List S) → length news ≡ length olds
@@ -92,7 +92,7 @@ module _ {D N : Type 0} (device : Ghosts D) (disk_of : N → D) where
 
 module _ {D N : Type 0} (device : Ghosts D) (disk_of : N → D) (opens : N → List ℕ → Type 0) (fits : ℕ → Option Header → N → Type 0) (refusals : Answer → Type 0) (refused : ℕ → Option Header → ℕ → List ℕ → Answer → Type 0) (h : Header) where
   abbrev Came : Slot D N → Slot D N → Type 0
-  Came = SlotCameOf device disk_of opens fits refusals refused h
+  Came = SlotResult device disk_of opens fits refusals refused h
 
   abbrev Opens : (ℕ → Option D) → (ℕ → ℕ) → ℕ → N → Type 0
   Opens = OpensAt device disk_of opens fits refusals refused h
@@ -101,7 +101,7 @@ module _ {D N : Type 0} (device : Ghosts D) (disk_of : N → D) (opens : N → L
   Fails = FailsAt device disk_of opens fits refusals refused h
 
   abbrev At : (ℕ → Option D) → (ℕ → ℕ) → ℕ → Slot D N → Type 0
-  At = CameAt device disk_of opens fits refusals refused h
+  At = SlotResultAt device disk_of opens fits refusals refused h
 
   -- of a disk that was taken
   pub came_at : (held : ℕ → Option D) (before : ℕ → ℕ) (n : ℕ) (s t : Slot D N) → Came s t → IsTakenSlot device held before n s → At held before n t

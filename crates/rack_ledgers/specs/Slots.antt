@@ -103,16 +103,16 @@ module _ {D N : Type 0} (device : Ghosts D) (disk_of : N → D) (opens : N → L
     pub back : IsReturned device (device.count was) (device.count is) was is
 
   -- what comes of a disk that waits
-  abbrev pub SlotCameOf : Slot D N → Slot D N → Type 0
-  SlotCameOf (slots.Waiting n was) (slots.Opened x) = IsOpenOn n was x
-  SlotCameOf (slots.Waiting n was) (slots.Refused is e) = IsRefusedOn n was is e
-  SlotCameOf old new = ⊥
+  abbrev pub SlotResult : Slot D N → Slot D N → Type 0
+  SlotResult (slots.Waiting n was) (slots.Opened x) = IsOpenOn n was x
+  SlotResult (slots.Waiting n was) (slots.Refused is e) = IsRefusedOn n was is e
+  SlotResult old new = ⊥
 
   -- what became of the disk of a place
-  pub record CameAt (held : ℕ → Option D) (before : ℕ → ℕ) (n : ℕ) (slot : Slot D N) : Type 0 where
+  pub record SlotResultAt (held : ℕ → Option D) (before : ℕ → ℕ) (n : ℕ) (slot : Slot D N) : Type 0 where
     pub disk : D
     pub taken : IsTakenDisk device held before n disk
-    pub came : SlotCameOf (slots.Waiting n disk) slot
+    pub came : SlotResult (slots.Waiting n disk) slot
 
   -- `OpensAt`, `FailsAt`: what is known of the node of a place that is open; and of an answer where it can't be opened
   abbrev pub OpensAt : (ℕ → Option D) → (ℕ → ℕ) → ℕ → N → Type 0

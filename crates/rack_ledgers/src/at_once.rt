@@ -4,7 +4,7 @@ ghost use Rattle.outside.specs.Counts.{Rose};
 ghost use Rattle.outside.specs.Images.{Tells};
 ghost use Rattle.rack_ledgers.specs.Places.{EachFrom, MayReturn, IsOutsideRange, IsOpening, IsOpeningIn};
 ghost use Rattle.rack_ledgers.specs.Racked.{OfTold, IsDiskBack, IsNodeOpened, ListGoesOn, FailsFirst};
-ghost use Rattle.rack_ledgers.specs.Slots.{IsWaitingSlot, SlotCameOf, CameAt, IsTakenSlot, MayPut, IsDiskIn, faults_in, nodes_in, AreNodesOpen, AreNotRefused, IsFirstNodeRefusal, IsFirstNodeFault, IsListGrown, OpensAt, FailsAt};
+ghost use Rattle.rack_ledgers.specs.Slots.{IsWaitingSlot, SlotResult, SlotResultAt, IsTakenSlot, MayPut, IsDiskIn, faults_in, nodes_in, AreNodesOpen, AreNotRefused, IsFirstNodeRefusal, IsFirstNodeFault, IsListGrown, OpensAt, FailsAt};
 
 use crate::slots::Slot;
 use crate::{OnDisk, close_all};
@@ -84,7 +84,7 @@ fn open_slots<W: Threads + Sync, D: Disk + Send, N: OnDisk<D> + Send>(
 )
     requires { All IsWaitingSlot slots.old }
     ensures { (i : ℕ) (d : _) → i < length slots.old
-        → SlotCameOf D.Disk N.disk_of N.opens N.fits N.refusals N.refused ledger.now
+        → SlotResult D.Disk N.disk_of N.opens N.fits N.refusals N.refused ledger.now
         (slice_index_or slots.old i d) (slice_index_or slots.new i d) }
 {
     let count = thread_count(rt, slots.len());
@@ -94,7 +94,7 @@ fn open_slots<W: Threads + Sync, D: Disk + Send, N: OnDisk<D> + Send>(
         count,
         &|_: usize, slot: &mut Slot<D, N>|
             requires { IsWaitingSlot slot.old }
-            ensures { SlotCameOf
+            ensures { SlotResult
                 D.Disk N.disk_of N.opens N.fits N.refusals N.refused ledger.entry.now slot.old slot.new }
         { slot.open(alloc, ledger) },
     );
@@ -110,7 +110,7 @@ fn open_list<W: Threads + Sync, D: Disk + Send, N: OnDisk<D> + Send>(
     requires { All IsWaitingSlot slots.items }
     ensures same { length result.items ≡ length slots.items }
     ensures came { (i : ℕ) (d : _) → i < length slots.items
-        → SlotCameOf D.Disk N.disk_of N.opens N.fits N.refusals N.refused ledger.now
+        → SlotResult D.Disk N.disk_of N.opens N.fits N.refusals N.refused ledger.now
         (slice_index_or slots.items i d) (slice_index_or result.items i d) }
 {
     let mut slots = slots;
@@ -135,7 +135,7 @@ where
     requires empty { room.items ≡ [] }
     requires waiting { (n : ℕ) → first ≤ n → n < first + count → R.can_take rack.old n }
     ensures some { length result.items ≤ count }
-    ensures came { EachFrom (CameAt R.Disk.Disk N.disk_of N.opens N.fits N.refusals N.refused ledger.now
+    ensures came { EachFrom (SlotResultAt R.Disk.Disk N.disk_of N.opens N.fits N.refusals N.refused ledger.now
         (R.held rack.old) (R.count rack.old)) first result.items }
     ensures failed { length result.items < count → Rose
         (R.count rack.old (first + length result.items)) (R.count rack.new (first + length result.items)) }

@@ -1,6 +1,6 @@
 // The place of a node that is opened beside others.
 ghost use Rattle.std.specs.Prelude.{◌≡◌, None, Some, MatchOption, [], ◌∷◌};
-ghost use Rattle.rack_ledgers.specs.Slots.{IsWaitingSlot, SlotCameOf, HasDisk, IsDiskIn, AreNotRefused, IsFirstNodeRefusal};
+ghost use Rattle.rack_ledgers.specs.Slots.{IsWaitingSlot, SlotResult, HasDisk, IsDiskIn, AreNotRefused, IsFirstNodeRefusal};
 
 use crate::OnDisk;
 use cbdc_types::{Answer, Header, NodeId};
@@ -23,7 +23,7 @@ fn come_of<D: Disk, N: OnDisk<D>>(
     ledger: &Header,
     disk: D,
 ) -> Slot<D, N>
-    ensures { SlotCameOf D.Disk N.disk_of N.opens N.fits N.refusals N.refused ledger.now
+    ensures { SlotResult D.Disk N.disk_of N.opens N.fits N.refusals N.refused ledger.now
         (Slot.Waiting node disk) result }
 {
     match N::open_disk(alloc, node, Some(ledger), disk) {
@@ -36,7 +36,7 @@ impl<D: Disk, N: OnDisk<D>> Slot<D, N> {
     /// Opens the disk that waits.
     pub(crate) fn open(&mut self, alloc: Global, ledger: &Header)
         requires { IsWaitingSlot self.old }
-        ensures { SlotCameOf
+        ensures { SlotResult
             D.Disk N.disk_of N.opens N.fits N.refusals N.refused ledger.now self.old self.new }
     {
         let (node, disk) = match mem::replace(self, Slot::Gone) {

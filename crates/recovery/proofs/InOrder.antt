@@ -13,7 +13,7 @@ use Rattle.recovery.specs.declared.resumed.Resumed.{Resumed}
 use Rattle.recovery.specs.declared.resumed.ResumedBatch.{ResumedBatch}
 use Rattle.lane_driver.specs.declared.fault.LaneFault.{LaneFault}
 use Rattle.lane_driver.specs.declared.fault.LaneFaultKind.TheVariants.{Memory as NoMemory}
-use Rattle.recovery.specs.Open.{IsLaneOpen, LanesAbove, LanesRise, KeepsUnlisted, AreResumed, HasPreparedLane, IsOneTaken, AreTakenUp, ResumeCameOf, AreTried, HasGoneOn, IsStoppedAmong, OpenLanesCame, ResumingCame, WasCaused, KeepsResumed}
+use Rattle.recovery.specs.Open.{IsLaneOpen, LanesAbove, LanesRise, KeepsUnlisted, AreResumed, HasPreparedLane, IsOneTaken, AreTakenUp, ResumeResult, AreTried, HasGoneOn, IsStoppedAmong, OpenLanesResult, ResumingResult, WasCaused, KeepsResumed}
 use Rattle.recovery.proofs.Rest.{split_rest, open_here, more_before}
 use Rattle.lane_driver.proofs.Outcomes.{driver_caused}
 use Rattle.recovery.proofs.Taking.{resume_caused, resume_want}
@@ -38,8 +38,8 @@ taken_resumed K alone (p ∷ os) (q ∷ rs) old new (first, is, rest) = (is.resu
 
 -- one more, whatever it came to
 tried_one_more : (K : Shape) (alone : Bool) (os : List OpenLane) (cs : List (Result ResumedBatch LaneFault)) (o : OpenLane) (c : Result ResumedBatch LaneFault) (old between new : LaneSights)
-    → AreTried K alone os cs old between → ResumeCameOf K alone o c between new → AreTried K alone (os ++ o ∷ []) (cs ++ c ∷ []) old new
-tried_one_more K alone [] [] o c old between new same one = (new, subst (λ (x : LaneSights). ResumeCameOf K alone o c x new) same one, refl)
+    → AreTried K alone os cs old between → ResumeResult K alone o c between new → AreTried K alone (os ++ o ∷ []) (cs ++ c ∷ []) old new
+tried_one_more K alone [] [] o c old between new same one = (new, subst (λ (x : LaneSights). ResumeResult K alone o c x new) same one, refl)
 tried_one_more K alone [] (d ∷ cs) o c old between new tried one = absurd tried
 tried_one_more K alone (p ∷ os) [] o c old between new tried one = absurd tried
 tried_one_more K alone (p ∷ os) (d ∷ cs) o c old between new (first, is, rest) one = (first, is, tried_one_more K alone os cs o c first between new rest one)
@@ -62,7 +62,7 @@ kept_none before after (Some f) now c kept none = absurd (let z : Some f ≡ Non
 
 module _ (K : Shape) (alone : Bool) (old between new : LaneSights) (logs_on : (n : ℕ) → HasGoneOn (between.logs n) (new.logs n)) (shards_on : (n : ℕ) → HasGoneOn (between.shards n) (new.shards n)) where
   came_one_more : (os : List OpenLane) (before after : List ResumedBatch) (was now : Option LaneFault) (o : OpenLane) (c : Result ResumedBatch LaneFault)
-      → CameSo K alone os before was old between → ResumeCameOf K alone o c between new → KeepsResumed before was c after now → CameSo K alone (os ++ o ∷ []) after now old new
+      → CameSo K alone os before was old between → ResumeResult K alone o c between new → KeepsResumed before was c after now → CameSo K alone (os ++ o ∷ []) after now old new
   came_one_more os before after None now o (Ok r) so one kept =
       subst (λ f. CameSo K alone (os ++ o ∷ []) after f old new) (sym kept.1)
       (subst (λ rs. AreTakenUp K alone (os ++ o ∷ []) rs old new) (sym kept.0) (taken_one_more K alone os before o r old between new so one))
@@ -100,7 +100,7 @@ module _ (K : Shape) (alone : Bool) (old between new : LaneSights) (logs_on : (n
       })
 
 -- what they came to with their memory taken is what they came to
-pub came_whole : (K : Shape) (alone : Bool) (os : List OpenLane) (came : Result Resumed LaneFault) (old new : LaneSights) → OpenLanesCame K alone os came old new → ResumingCame K alone os came old new
+pub came_whole : (K : Shape) (alone : Bool) (os : List OpenLane) (came : Result Resumed LaneFault) (old new : LaneSights) → OpenLanesResult K alone os came old new → ResumingResult K alone os came old new
 came_whole K alone os (Ok r) old new taken = taken
 came_whole K alone os (Err e) old new stop = inr stop
 
@@ -124,7 +124,7 @@ module _ (K : Shape) (alone : Bool) (os : List OpenLane) (old new : LaneSights) 
   }
 
 -- so had the fault of open batches that were not begun because the driver ran out of memory
-pub resuming_caused : (K : Shape) (alone : Bool) (os : List OpenLane) (old new : LaneSights) (e : LaneFault) → ResumingCame K alone os (Err e) old new → WasCaused K new.logs new.shards e
+pub resuming_caused : (K : Shape) (alone : Bool) (os : List OpenLane) (old new : LaneSights) (e : LaneFault) → ResumingResult K alone os (Err e) old new → WasCaused K new.logs new.shards e
 resuming_caused K alone os old new e (inl none) = record {
   logs_then = new.logs;
   shards_then = new.shards;
@@ -150,7 +150,7 @@ module _ (os : List OpenLane) (i : ℕ) (o : OpenLane) (lt : i < length os) (is 
 
   pub came_more : (K : Shape) (alone : Bool) (old between new : LaneSights) → ((n : ℕ) → HasGoneOn (between.logs n) (new.logs n)) → ((n : ℕ) → HasGoneOn (between.shards n) (new.shards n))
       → (before after : List ResumedBatch) (was now : Option LaneFault) (c : Result ResumedBatch LaneFault)
-      → CameSo K alone (take i os) before was old between → ResumeCameOf K alone o c between new → KeepsResumed before was c after now → CameSo K alone (take (i + 1) os) after now old new
+      → CameSo K alone (take i os) before was old between → ResumeResult K alone o c between new → KeepsResumed before was c after now → CameSo K alone (take (i + 1) os) after now old new
   came_more K alone old between new logs_on shards_on before after was now c so one kept =
       subst (λ xs. CameSo K alone xs after now old new) (sym longer) (came_one_more K alone old between new logs_on shards_on (take i os) before after was now o c so one kept)
 

@@ -15,12 +15,12 @@ use Rattle.lane_driver.specs.Showing.{LaneSights}
 use Rattle.lane_driver.specs.declared.fault.LaneFault.{LaneFault}
 use Rattle.lane_driver.proofs.Fitting.{nodes_same, nodes_on}
 use Rattle.recovery.specs.declared.resumed.ResumedBatch.{ResumedBatch}
-use Rattle.recovery.specs.Open.{ResumeCameOf, HasGoneOn}
+use Rattle.recovery.specs.Open.{ResumeResult, HasGoneOn}
 use Rattle.recovery.proofs.Taking.{resume_left}
 
 -- ---- what a lane made, whatever it came to
 
-pub made_by : (K : Shape) (alone : Bool) (o : OpenLane) (c : Result ResumedBatch LaneFault) (old new : LaneSights) → ResumeCameOf K alone o c old new
+pub made_by : (K : Shape) (alone : Bool) (o : OpenLane) (c : Result ResumedBatch LaneFault) (old new : LaneSights) → ResumeResult K alone o c old new
     → Made K [] alone o.batch.lane (view K o.batch.lane old.home old.shards) (view K o.batch.lane new.home new.shards)
 made_by K alone o (Ok r) old new one = one.taken.made
 made_by K alone o (Err e) old new stop = (resume_left K alone o old new e stop stop.stands).3.made

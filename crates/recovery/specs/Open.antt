@@ -140,16 +140,16 @@ AreTakenUp K alone (o ∷ os) (r ∷ rs) old new =
     (between : LaneSights) × IsOneTaken K alone o old.home old.shards between.home between.shards r × AreTakenUp K alone os rs between new
 
 -- what one of them came to: it was taken to its end, or it stopped
-abbrev pub ResumeCameOf : Shape → Bool → OpenLane → Result ResumedBatch LaneFault → LaneSights → LaneSights → Type 0
-ResumeCameOf K alone o (Ok r) old new = IsOneTaken K alone o old.home old.shards new.home new.shards r
-ResumeCameOf K alone o (Err e) old new = IsResumeStop K alone o old new e
+abbrev pub ResumeResult : Shape → Bool → OpenLane → Result ResumedBatch LaneFault → LaneSights → LaneSights → Type 0
+ResumeResult K alone o (Ok r) old new = IsOneTaken K alone o old.home old.shards new.home new.shards r
+ResumeResult K alone o (Err e) old new = IsResumeStop K alone o old new e
 
 -- each of them was taken up, one behind the other, whatever those before it came to
 abbrev pub AreTried : Shape → Bool → List OpenLane → List (Result ResumedBatch LaneFault) → LaneSights → LaneSights → Type 0
 AreTried K alone [] [] old new = new ≡ old
 AreTried K alone [] (c ∷ cs) old new = ⊥
 AreTried K alone (o ∷ os) [] old new = ⊥
-AreTried K alone (o ∷ os) (c ∷ cs) old new = (between : LaneSights) × ResumeCameOf K alone o c old between × AreTried K alone os cs between new
+AreTried K alone (o ∷ os) (c ∷ cs) old new = (between : LaneSights) × ResumeResult K alone o c old between × AreTried K alone os cs between new
 
 -- one of them was prepared
 abbrev pub HasPreparedLane : List OpenLane → Type 0
@@ -177,14 +177,14 @@ pub record IsStoppedAmong (K : Shape) (alone : Bool) (os : List OpenLane) (old n
   pub shards_on : (n : ℕ) → HasGoneOn (since.shards n) (new.shards n)
 
 -- what open batches came to whose memory was taken: each was taken to its end, or one of them stopped
-abbrev pub OpenLanesCame : Shape → Bool → List OpenLane → Result Resumed LaneFault → LaneSights → LaneSights → Type 0
-OpenLanesCame K alone os (Ok r) old new = AreTakenUp K alone os r.batches old new
-OpenLanesCame K alone os (Err e) old new = IsStoppedAmong K alone os old new e
+abbrev pub OpenLanesResult : Shape → Bool → List OpenLane → Result Resumed LaneFault → LaneSights → LaneSights → Type 0
+OpenLanesResult K alone os (Ok r) old new = AreTakenUp K alone os r.batches old new
+OpenLanesResult K alone os (Err e) old new = IsStoppedAmong K alone os old new e
 
 -- what they came to with their memory: that, or they were not begun because the driver ran out of memory
-abbrev pub ResumingCame : Shape → Bool → List OpenLane → Result Resumed LaneFault → LaneSights → LaneSights → Type 0
-ResumingCame K alone os (Ok r) old new = AreTakenUp K alone os r.batches old new
-ResumingCame K alone os (Err e) old new = DriverHasNoMemory e old.home old.shards new.home new.shards ⊎ IsStoppedAmong K alone os old new e
+abbrev pub ResumingResult : Shape → Bool → List OpenLane → Result Resumed LaneFault → LaneSights → LaneSights → Type 0
+ResumingResult K alone os (Ok r) old new = AreTakenUp K alone os r.batches old new
+ResumingResult K alone os (Err e) old new = DriverHasNoMemory e old.home old.shards new.home new.shards ⊎ IsStoppedAmong K alone os old new e
 
 -- the fault had its cause as the nodes stood when it came, from where they have gone on
 pub record WasCaused (K : Shape) (logs shards : ℕ → Sight) (e : LaneFault) : Type 0 where

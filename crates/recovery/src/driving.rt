@@ -4,7 +4,7 @@ ghost use Rattle.std.specs.Vec.{vec_capacity, vec_len};
 ghost use Rattle.cbdc_model.specs.Slots.{Idle};
 ghost use Rattle.lane_driver.specs.Showing.{PortsShow, PortsTell};
 ghost use Rattle.lane_driver.specs.Told.{AreShardsOf};
-ghost use Rattle.recovery.specs.Open.{IsOpenThrough, LanesRise, AreUnfinished, OpenLanesCame, KeepsListedPorts, KeepsResumed};
+ghost use Rattle.recovery.specs.Open.{IsOpenThrough, LanesRise, AreUnfinished, OpenLanesResult, KeepsListedPorts, KeepsResumed};
 ghost use Rattle.recovery.specs.Planned.{IsPlan};
 
 use crate::planning::LaneRoom;
@@ -60,7 +60,7 @@ pub(crate) fn drive_lanes<S: PortSet<G>, L: LogPort, G: Gate>(
     // fault of a phase all of whose calls were made, or at its coordinator's: those before it are at their end, and each of those behind it was
     // taken up still, to its end or until it stopped too.
     ensures outcome { PortsTell L.LogPort S.PortSet ports.old ports.new
-        (OpenLanesCame shape.now L.alone lanes.now result) }
+        (OpenLanesResult shape.now L.alone lanes.now result) }
     ensures idle { OnOk result (All (λ o. L.phase ports.new.log o.batch.lane ≡ Idle) lanes.now) }
     ensures keeps { KeepsListedPorts L.LogPort S.PortSet lanes.now ports.old ports.new }
 {

@@ -3,7 +3,7 @@ ghost use Rattle.std.specs.Prelude.{◌≡◌, ◌<◌, true, length, OnOk, All}
 ghost use Rattle.cbdc_model.specs.Slots.{Idle};
 ghost use Rattle.lane_driver.specs.Showing.{PortsShow, PortsTell};
 ghost use Rattle.lane_driver.specs.Told.{AreShardsOf};
-ghost use Rattle.recovery.specs.Open.{IsOpenThrough, LanesRise, AreUnfinished, OpenLanesCame, KeepsListedPorts};
+ghost use Rattle.recovery.specs.Open.{IsOpenThrough, LanesRise, AreUnfinished, OpenLanesResult, KeepsListedPorts};
 
 use crate::driving::drive_lanes;
 use crate::planning::LaneRoom;
@@ -64,7 +64,7 @@ impl<'a> Plan<'a> {
         // fault of a phase all of whose calls were made, or at its coordinator's: those before it are at their end, and each of those behind it was
         // taken up still, to its end or until it stopped too.
         ensures outcome { PortsTell L.LogPort S.PortSet ports.old ports.new
-            (OpenLanesCame self.entry.shape L.alone self.entry.lanes result) }
+            (OpenLanesResult self.entry.shape L.alone self.entry.lanes result) }
         ensures idle { OnOk result (All (λ o. L.phase ports.new.log o.batch.lane ≡ Idle) self.entry.lanes) }
         ensures keeps { KeepsListedPorts L.LogPort S.PortSet self.entry.lanes ports.old ports.new }
     {

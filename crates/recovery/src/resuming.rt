@@ -5,7 +5,7 @@ ghost use Rattle.cbdc_types.specs.declared.batch.Phase.TheVariants.{Prepared, Co
 ghost use Rattle.lane_driver.specs.Showing.{PortsShow, PortsTell, KeepsLanePorts};
 ghost use Rattle.lane_driver.specs.Told.{AreShardsOf};
 ghost use Rattle.lane_driver.specs.Readied.{IsReadied};
-ghost use Rattle.recovery.specs.Open.{IsOpenThrough, StandsOpen, ResumeCameOf};
+ghost use Rattle.recovery.specs.Open.{IsOpenThrough, StandsOpen, ResumeResult};
 ghost use Rattle.recovery.specs.Planned.{IsRoomToResume};
 
 use crate::planning::LaneRoom;
@@ -39,7 +39,7 @@ fn resume_prepared<S: PortSet<G>, L: LogPort, G: Gate>(
     requires mine { S.serves ports.old.shards unfinished.now.batch.lane }
     requires readied { IsReadied shape.now unfinished.now.txs room }
     ensures outcome { PortsTell L.LogPort S.PortSet ports.old ports.new
-        (ResumeCameOf shape.now L.alone unfinished.now result) }
+        (ResumeResult shape.now L.alone unfinished.now result) }
     ensures idle { OnOk result (L.phase ports.new.log unfinished.now.batch.lane ≡ Idle) }
     ensures keeps { KeepsLanePorts L.LogPort S.PortSet unfinished.now.batch.lane ports.old ports.new }
 {
@@ -82,7 +82,7 @@ fn resume_committed<S: PortSet<G>, L: LogPort, G: Gate>(
     requires readied { IsReadied shape.now unfinished.now.txs room }
     requires outcomes { outcomes ≡ unfinished.now.outcomes }
     ensures outcome { PortsTell L.LogPort S.PortSet ports.old ports.new
-        (ResumeCameOf shape.now L.alone unfinished.now result) }
+        (ResumeResult shape.now L.alone unfinished.now result) }
     ensures idle { OnOk result (L.phase ports.new.log unfinished.now.batch.lane ≡ Idle) }
     ensures keeps { KeepsLanePorts L.LogPort S.PortSet unfinished.now.batch.lane ports.old ports.new }
 {
@@ -138,7 +138,7 @@ fn resume_discarded<S: PortSet<G>, L: LogPort, G: Gate>(
     requires readied { IsReadied shape.now unfinished.now.txs room }
     requires outcomes { outcomes ≡ unfinished.now.outcomes }
     ensures outcome { PortsTell L.LogPort S.PortSet ports.old ports.new
-        (ResumeCameOf shape.now L.alone unfinished.now result) }
+        (ResumeResult shape.now L.alone unfinished.now result) }
     ensures idle { OnOk result (L.phase ports.new.log unfinished.now.batch.lane ≡ Idle) }
     ensures keeps { KeepsLanePorts L.LogPort S.PortSet unfinished.now.batch.lane ports.old ports.new }
 {
@@ -196,7 +196,7 @@ pub(crate) fn resume_lane<S: PortSet<G>, L: LogPort, G: Gate>(
     requires mine { S.serves ports.old.shards unfinished.now.batch.lane }
     requires room { IsRoomToResume shape.now unfinished.now room }
     ensures outcome { PortsTell L.LogPort S.PortSet ports.old ports.new
-        (ResumeCameOf shape.now L.alone unfinished.now result) }
+        (ResumeResult shape.now L.alone unfinished.now result) }
     ensures idle { OnOk result (L.phase ports.new.log unfinished.now.batch.lane ≡ Idle) }
     ensures keeps { KeepsLanePorts L.LogPort S.PortSet unfinished.now.batch.lane ports.old ports.new }
 {

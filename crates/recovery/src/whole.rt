@@ -3,7 +3,7 @@ ghost use Rattle.std.specs.Prelude.{◌≡◌, ◌<◌, true, length, OnOk, All}
 ghost use Rattle.cbdc_model.specs.Slots.{Idle};
 ghost use Rattle.lane_driver.specs.Showing.{PortsShow, PortsTell};
 ghost use Rattle.lane_driver.specs.Told.{AreShardsOf};
-ghost use Rattle.recovery.specs.Open.{IsOpenThrough, LanesRise, AreUnfinished, ResumingCame, KeepsListedPorts};
+ghost use Rattle.recovery.specs.Open.{IsOpenThrough, LanesRise, AreUnfinished, ResumingResult, KeepsListedPorts};
 
 use crate::planning::plan;
 use crate::resumed::Resumed;
@@ -41,7 +41,7 @@ pub fn resume<S: PortSet<G>, L: LogPort, G: Gate>(
     // fault of a phase all of whose calls were made, or at its coordinator's: those before it are at their end, and each of those behind it was
     // taken up still, to its end or until it stopped too.
     ensures outcome { PortsTell L.LogPort S.PortSet ports.old ports.new
-        (ResumingCame shape.now L.alone lanes.now result) }
+        (ResumingResult shape.now L.alone lanes.now result) }
     ensures idle { OnOk result (All (λ o. L.phase ports.new.log o.batch.lane ≡ Idle) lanes.now) }
     ensures keeps { KeepsListedPorts L.LogPort S.PortSet lanes.now ports.old ports.new }
 {

@@ -11,7 +11,7 @@ use Rattle.cbdc_model.specs.Due.{open_batch}
 use Rattle.node_journal.specs.Nodes.{sight}
 use Rattle.node_ports.specs.Nodes.{sight_at}
 use Rattle.run_laws.proofs.Seen.{seen_log}
-use Rattle.recovery.specs.Open.{IsLaneOpen, LanesRise, KeepsUnlisted, IsBatchUnfinished, AreUnfinished, OpenLanesCame}
+use Rattle.recovery.specs.Open.{IsLaneOpen, LanesRise, KeepsUnlisted, IsBatchUnfinished, AreUnfinished, OpenLanesResult}
 use Rattle.thread_laws.proofs.OpenThere.{told_lane}
 use Rattle.file_runs.specs.Ledgers.{FliesNext}
 use Rattle.file_runs.proofs.Steps.{is_step, are_shards, at_home, open_at}
@@ -47,7 +47,7 @@ pub returns-clause-outcome : goal.returns-clause-outcome
 returns-clause-outcome g c = at_home (λ x y. ResumeLeft c.args.header.now.shape c.args.unfinished.now c.one_of.result x (λ n. sight_at sight c.args.ports.now.shards.nodes.items n) y (λ n. sight_at sight c.go-came.new.ports.shards.nodes.items n))
     (λ n. sight_at sight c.args.ports.now.log.logs.items n) (λ n. sight_at sight c.go-came.new.ports.log.logs.items n) c.home-ports.result c.go-came.new.ports.log.at (home_of c.args.header.now.shape c.args.lane) c.home-ports.ensures.place c.go-came.ensures.keeps.to_log.at_same
     (one_came c.args.header.now.shape c.args.unfinished.now (record { home = sight_at sight c.args.ports.now.log.logs.items c.home-ports.result; logs = λ n. sight_at sight c.args.ports.now.log.logs.items n; shards = λ n. sight_at sight c.args.ports.now.shards.nodes.items n }) (record { home = sight_at sight c.go-came.new.ports.log.logs.items c.go-came.new.ports.log.at; logs = λ n. sight_at sight c.go-came.new.ports.log.logs.items n; shards = λ n. sight_at sight c.go-came.new.ports.shards.nodes.items n }) c.go-came.result c.one_of.result c.one_of.ensures
-    (subst (λ (p : PlanOf). OpenLanesCame p.shape true p.lanes c.go-came.result (record { home = sight_at sight c.args.ports.now.log.logs.items c.home-ports.result; logs = λ n. sight_at sight c.args.ports.now.log.logs.items n; shards = λ n. sight_at sight c.args.ports.now.shards.nodes.items n }) (record { home = sight_at sight c.go-came.new.ports.log.logs.items c.go-came.new.ports.log.at; logs = λ n. sight_at sight c.go-came.new.ports.log.logs.items n; shards = λ n. sight_at sight c.go-came.new.ports.shards.nodes.items n })) c.requires.plan c.go-came.ensures.outcome))
+    (subst (λ (p : PlanOf). OpenLanesResult p.shape true p.lanes c.go-came.result (record { home = sight_at sight c.args.ports.now.log.logs.items c.home-ports.result; logs = λ n. sight_at sight c.args.ports.now.log.logs.items n; shards = λ n. sight_at sight c.args.ports.now.shards.nodes.items n }) (record { home = sight_at sight c.go-came.new.ports.log.logs.items c.go-came.new.ports.log.at; logs = λ n. sight_at sight c.go-came.new.ports.log.logs.items n; shards = λ n. sight_at sight c.go-came.new.ports.shards.nodes.items n })) c.requires.plan c.go-came.ensures.outcome))
 
 pub returns-clause-idle : goal.returns-clause-idle
 returns-clause-idle g c = subst (λ L. OnOk c.one_of.result ((slot L c.args.lane).phase ≡ Idle))
@@ -73,7 +73,7 @@ pub go-came-requires-clause-rise : goal.go-came-requires-clause-rise
 go-came-requires-clause-rise g c = subst LanesRise (sym (ap (λ (p : PlanOf). p.lanes) c.requires.plan)) (tt, tt)
 
 pub one_of-requires : goal.one_of-requires
-one_of-requires g c = are_one c.args.header.now.shape true c.args.unfinished.now c.go-came.result (record { home = sight_at sight c.args.ports.now.log.logs.items c.home-ports.result; logs = λ n. sight_at sight c.args.ports.now.log.logs.items n; shards = λ n. sight_at sight c.args.ports.now.shards.nodes.items n }) (record { home = sight_at sight c.go-came.new.ports.log.logs.items c.go-came.new.ports.log.at; logs = λ n. sight_at sight c.go-came.new.ports.log.logs.items n; shards = λ n. sight_at sight c.go-came.new.ports.shards.nodes.items n }) (subst (λ (p : PlanOf). OpenLanesCame p.shape true p.lanes c.go-came.result (record { home = sight_at sight c.args.ports.now.log.logs.items c.home-ports.result; logs = λ n. sight_at sight c.args.ports.now.log.logs.items n; shards = λ n. sight_at sight c.args.ports.now.shards.nodes.items n }) (record { home = sight_at sight c.go-came.new.ports.log.logs.items c.go-came.new.ports.log.at; logs = λ n. sight_at sight c.go-came.new.ports.log.logs.items n; shards = λ n. sight_at sight c.go-came.new.ports.shards.nodes.items n })) c.requires.plan c.go-came.ensures.outcome)
+one_of-requires g c = are_one c.args.header.now.shape true c.args.unfinished.now c.go-came.result (record { home = sight_at sight c.args.ports.now.log.logs.items c.home-ports.result; logs = λ n. sight_at sight c.args.ports.now.log.logs.items n; shards = λ n. sight_at sight c.args.ports.now.shards.nodes.items n }) (record { home = sight_at sight c.go-came.new.ports.log.logs.items c.go-came.new.ports.log.at; logs = λ n. sight_at sight c.go-came.new.ports.log.logs.items n; shards = λ n. sight_at sight c.go-came.new.ports.shards.nodes.items n }) (subst (λ (p : PlanOf). OpenLanesResult p.shape true p.lanes c.go-came.result (record { home = sight_at sight c.args.ports.now.log.logs.items c.home-ports.result; logs = λ n. sight_at sight c.args.ports.now.log.logs.items n; shards = λ n. sight_at sight c.args.ports.now.shards.nodes.items n }) (record { home = sight_at sight c.go-came.new.ports.log.logs.items c.go-came.new.ports.log.at; logs = λ n. sight_at sight c.go-came.new.ports.log.logs.items n; shards = λ n. sight_at sight c.go-came.new.ports.shards.nodes.items n })) c.requires.plan c.go-came.ensures.outcome)
 
 pub go-came-requires-clause-mine : goal.go-came-requires-clause-mine
 go-came-requires-clause-mine g c = λ i o inside. tt

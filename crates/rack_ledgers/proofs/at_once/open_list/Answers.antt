@@ -3,7 +3,7 @@ use Rattle.std.specs.Prelude.{slice_index_or}
 use Rattle.std.proofs.lemmas.List.{take_at}
 use Rattle.std.proofs.lemmas.List.Elements.{All-same}
 use Rattle.rack_ledgers.specs.declared.slots.Slot.{Slot}
-use Rattle.rack_ledgers.specs.Slots.{IsWaitingSlot, SlotCameOf}
+use Rattle.rack_ledgers.specs.Slots.{IsWaitingSlot, SlotResult}
 use Rattle.rack_ledgers.proofs.at_once.open_list.Goals as goal
 
 pub open_slots-requires-after_bounds : goal.open_slots-requires-after_bounds
@@ -11,7 +11,7 @@ open_slots-requires-after_bounds g c κs within = All-same IsWaitingSlot c.as_mu
 
 pub returns : goal.returns
 returns g c =
-    let C = SlotCameOf g.D.Disk g.N.OnDisk.disk_of g.N.OnDisk.opens g.N.OnDisk.fits g.N.OnDisk.refusals g.N.OnDisk.refused c.args.ledger.now in
+    let C = SlotResult g.D.Disk g.N.OnDisk.disk_of g.N.OnDisk.opens g.N.OnDisk.fits g.N.OnDisk.refusals g.N.OnDisk.refused c.args.ledger.now in
     let olds = c.args.slots in
     let news = c.open_slots.new.slots in
     let same : length news ≡ length olds.items = c.open_slots.auto.slots ∙ ap (λ (xs : List _). length xs) c.as_mut_slice.ensures.value in

@@ -1,7 +1,7 @@
 use Rattle.std.proofs.Common.{◌≡◌, ◌<◌, ◌+◌, ℕ, sym, subst, arith}
 use Rattle.outside.specs.Counts.{Rose}
 use Rattle.rack_ledgers.specs.Places.{IsOutsideRange}
-use Rattle.rack_ledgers.specs.Slots.{SlotCameOf, CameAt, IsTakenSlot, MayPut}
+use Rattle.rack_ledgers.specs.Slots.{SlotResult, SlotResultAt, IsTakenSlot, MayPut}
 use Rattle.rack_ledgers.proofs.Beside.{all_wait, each_came, came_at, came_put}
 use Rattle.rack_ledgers.proofs.at_once.open_taken.Goals as goal
 
@@ -14,8 +14,8 @@ returns g c =
     let n = g.N.OnDisk in
     let held = g.R.Rack.held c.args.rack.now in
     let before = g.R.Rack.count c.args.rack.now in
-    let C = SlotCameOf d n.disk_of n.opens n.fits n.refusals n.refused c.args.ledger.now in
-    let A = CameAt d n.disk_of n.opens n.fits n.refusals n.refused c.args.ledger.now held before in
+    let C = SlotResult d n.disk_of n.opens n.fits n.refusals n.refused c.args.ledger.now in
+    let A = SlotResultAt d n.disk_of n.opens n.fits n.refusals n.refused c.args.ledger.now held before in
     let T = IsTakenSlot {N = g.row.N.Denot} d held before in
     let P = MayPut d n.disk_of (g.R.Rack.can_put c.take_disks-slots.new.rack) in
     let olds = c.take_disks-slots.result.items in
