@@ -13,6 +13,7 @@ use Rattle.node_journal.specs.Nodes.{NodeOf}
 use Rattle.rack_ledgers.specs.Racked.{OfTold}
 use Rattle.rack_ledgers.specs.Refused.{IsNodeJournal}
 
+-- how many nodes a ledger of this shape has
 abbrev pub node_count : Shape → ℕ
 node_count K = K.coordinators + K.shards
 
