@@ -58,31 +58,39 @@ stamp_of (Commit stamp b os) = stamp
 stamp_of (Discard stamp b) = stamp
 stamp_of (Done stamp b) = stamp
 
--- `genesis_kind` to `done_kind`: the kinds of record, each by the first byte of a record's body
+-- the kind of a Genesis, a shard's first record: the first byte of its body
 abbrev pub genesis_kind : ℕ
 genesis_kind = 1
 
+-- the kind of a Lock: the first byte of its body
 abbrev pub lock_kind : ℕ
 lock_kind = 2
 
+-- the kind of a Finish: the first byte of its body
 abbrev pub finish_kind : ℕ
 finish_kind = 3
 
+-- the kind of a Forget: the first byte of its body
 abbrev pub forget_kind : ℕ
 forget_kind = 4
 
+-- the kind of a Start, a coordinator's first record: the first byte of its body
 abbrev pub start_kind : ℕ
 start_kind = 5
 
+-- the kind of a Prepare: the first byte of its body
 abbrev pub prepare_kind : ℕ
 prepare_kind = 6
 
+-- the kind of a Commit: the first byte of its body
 abbrev pub commit_kind : ℕ
 commit_kind = 7
 
+-- the kind of a Discard: the first byte of its body
 abbrev pub discard_kind : ℕ
 discard_kind = 8
 
+-- the kind of a Done: the first byte of its body
 abbrev pub done_kind : ℕ
 done_kind = 9
 

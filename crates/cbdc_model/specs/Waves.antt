@@ -26,7 +26,7 @@ abbrev pub prepared_before : ℕ → Record → List (List Compact) → List (Li
 prepared_before lane (Prepare stamp b txs) older = if b.lane == lane then txs ∷ older else older
 prepared_before lane other older = older
 
--- `prepared_before`, `prepared`: the transactions of a lane's Prepares in a journal, the newest first
+-- the transactions of a lane's Prepares in a journal, the newest first
 abbrev pub prepared : ℕ → List Record → List (List Compact)
 prepared lane [] = []
 prepared lane (r ∷ J) = prepared_before lane r (prepared lane J)

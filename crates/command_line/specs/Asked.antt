@@ -33,11 +33,11 @@ is_wish DisplayHelp = true
 is_wish DisplayVersion = true
 is_wish _ = false
 
--- `is_mistake`, `is_wish`, `HasMistake`, `HasWish`: a fault of the words that is no wish for help or the version, and not that memory ran out; such
--- a wish
+-- a fault of the words is a mistake: no wish for help or the version, and not that memory ran out
 abbrev pub HasMistake : Kinds → Type 0
 HasMistake kinds = (k : ErrorKind) × IsAmong k kinds × IsTrue (is_mistake k)
 
+-- a fault of the words is a wish for help or the version
 abbrev pub HasWish : Kinds → Type 0
 HasWish kinds = (k : ErrorKind) × IsAmong k kinds × IsTrue (is_wish k)
 
@@ -84,19 +84,19 @@ HasNoShape rows =
     HasNoNumber rows (codes "shards") 64
     ⊎ (HasNoNumber rows (codes "coordinators") 16 ⊎ (HasNoNumber rows (codes "lanes") 16 ⊎ HasNoNumber rows (codes "batch") 1024))
 
--- so many times more is each shard call made, or the option is out of form
+-- the text of --repeats is this number, from 0 to 3: so many times more is each call of a new batch at a shard made
 abbrev pub HasRepeats : List Row → ℕ → Type 0
 HasRepeats rows n = (text : Text) × (first_of (codes "repeats") rows ≡ Some text) × IsUpTo 3 text n
 
--- `HasNumber`, `HasNoNumber`, `HasShape`, `HasNoShape`, `HasRepeats`, `HasNoRepeats`, `HasSeed`, `HasNoSeed`, `HasNoWorkload`, `HasNoHashes`: an
--- option has such a number or has none; and so a ledger's shape, how often calls are repeated, a workload's numbers, the hashes
+-- the text of --repeats is no number from 0 to 3
 abbrev pub HasNoRepeats : List Row → Type 0
 HasNoRepeats rows = (text : Text) × (first_of (codes "repeats") rows ≡ Some text) × ((n : ℕ) → ¬ (IsUpTo 3 text n))
 
--- the workload's seed is this number, or is none
+-- the text of the workload's seed is this number, which 64 bits hold
 abbrev pub HasSeed : List Row → ℕ → Type 0
 HasSeed rows seed = (text : Text) × (first_of (codes "seed") rows ≡ Some text) × IsWholeNumber text seed
 
+-- the text of the workload's seed is no number that 64 bits hold
 abbrev pub HasNoSeed : List Row → Type 0
 HasNoSeed rows = (text : Text) × (first_of (codes "seed") rows ≡ Some text) × ((n : ℕ) → ¬ (IsWholeNumber text n))
 

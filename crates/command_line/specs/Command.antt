@@ -21,46 +21,55 @@ one_or_more id = record (required id) { range = Some (record { start_inclusive =
 abbrev pub option : Text → Text → Rule
 option id default = record (new_rule id) { long = Some id; value_names = 1; defaults = default ∷ [] }
 
--- `shards_rule`, `coordinators_rule`, `lanes_rule`, `batch_rule`, `mint_rule`, `verdicts_rule`, `client_rule`, `rest_rule`, `hash_rule`,
--- `seed_rule`, `count_rule`, `topic_rule`: the arguments by their names
+-- the rule by which clap reads --shards, with its value where it is left out
 abbrev pub shards_rule : Text → Rule
 shards_rule = option (codes "shards")
 
+-- the rule by which clap reads --coordinators, with its value where it is left out
 abbrev pub coordinators_rule : Text → Rule
 coordinators_rule = option (codes "coordinators")
 
+-- the rule by which clap reads --lanes, with its value where it is left out
 abbrev pub lanes_rule : Text → Rule
 lanes_rule = option (codes "lanes")
 
+-- the rule by which clap reads --batch, with its value where it is left out
 abbrev pub batch_rule : Text → Rule
 batch_rule = option (codes "batch")
 
+-- the rule by which clap reads the word that names the file of the mint, which has to be there
 abbrev pub mint_rule : Rule
 mint_rule = required (codes "mint")
 
+-- the rule by which clap reads --verdicts, which names the file of the verdicts and has to be there
 abbrev pub verdicts_rule : Rule
 verdicts_rule = record (required (codes "verdicts")) { long = Some (codes "verdicts") }
 
+-- the rule by which clap reads --repeats, which is 0 where it is left out
 abbrev pub repeats_rule : Rule
 repeats_rule = option (codes "repeats") (codes "0")
 
+-- the rule by which clap reads the client files of `run`, one word or more
 abbrev pub client_rule : Rule
 client_rule = one_or_more (codes "client")
 
--- words that may be left out
+-- the rule by which clap reads the client files of `audit`, words that may be left out
 abbrev pub rest_rule : Rule
 rest_rule = record (one_or_more (codes "client")) { required = false }
 
+-- the rule by which clap reads the hashes of `status`, one word or more
 abbrev pub hash_rule : Rule
 hash_rule = one_or_more (codes "hash")
 
+-- the rule by which clap reads the seed of `gen`, a word that has to be there
 abbrev pub seed_rule : Rule
 seed_rule = required (codes "seed")
 
+-- the rule by which clap reads how many transactions `gen` makes, a word that has to be there
 abbrev pub count_rule : Rule
 count_rule = required (codes "count")
 
--- a word that may be left out
+-- the rule by which clap reads the command that `help` is asked about, a word that may be left out
 abbrev pub topic_rule : Rule
 topic_rule = record (new_rule (codes "command")) { value_names = 1 }
 
@@ -70,36 +79,43 @@ topic_rule = record (new_rule (codes "command")) { value_names = 1 }
 abbrev pub with_arg : Shape → Rule → Shape
 with_arg s r = record s { rules = s.rules ++ r ∷ [] }
 
--- a command of this name with the first two options of a ledger's shape, and with all four, by what they are where they are left out
+-- a command of this name with the options --shards and --coordinators, by their values where they are left out
 abbrev pub nodes_shape : Text → Text → Text → Shape
 nodes_shape name shards coordinators = with_arg (with_arg (new_app name).top (shards_rule shards)) (coordinators_rule coordinators)
 
--- `required`, `one_or_more`, `option`, `with_arg`, `nodes_shape`, `sized_shape`: an argument that has to be there; one or more; an option with its
--- default; a command with one argument more; with the options of a shape
+-- a command with the options --lanes and --batch as well, by their values where they are left out
 abbrev pub sized_shape : Shape → Text → Text → Shape
 sized_shape s lanes batch = with_arg (with_arg s (lanes_rule lanes)) (batch_rule batch)
 
+-- the command `init`: the options of a ledger's shape, and the file of the mint
 abbrev pub init_shape : Shape
 init_shape = with_arg (sized_shape (nodes_shape (codes "init") (codes "1") (codes "1")) (codes "1") (codes "16")) mint_rule
 
+-- the command `gen` with the options of a ledger's shape, and nothing behind them yet
 abbrev pub gen_sizes : Shape
 gen_sizes = sized_shape (nodes_shape (codes "gen") (codes "4") (codes "2")) (codes "2") (codes "16")
 
+-- the command `gen`: the options of a ledger's shape, the seed, and how many transactions
 abbrev pub gen_shape : Shape
 gen_shape = with_arg (with_arg gen_sizes seed_rule) count_rule
 
+-- the command `run`: the file of the verdicts, how often calls are repeated, and the client files
 abbrev pub run_shape : Shape
 run_shape = (with_rule (with_rule (with_rule (new_app (codes "run")) verdicts_rule) repeats_rule) client_rule).top
 
+-- the command `recover`, which has no arguments
 abbrev pub recover_shape : Shape
 recover_shape = (new_app (codes "recover")).top
 
+-- the command `status`: the hashes that are looked up
 abbrev pub status_shape : Shape
 status_shape = (with_rule (new_app (codes "status")) hash_rule).top
 
+-- the command `audit`: the file of the mint, and the client files
 abbrev pub audit_shape : Shape
 audit_shape = (with_rule (with_rule (new_app (codes "audit")) mint_rule) rest_rule).top
 
+-- the command `help`: the command that it is asked about
 abbrev pub help_shape : Shape
 help_shape = (with_rule (new_app (codes "help")) topic_rule).top
 
@@ -113,20 +129,19 @@ with_settings a = record a {
   };
 }
 
--- the first two commands
+-- the command line with its first two commands, `init` and `run`
 abbrev pub main : App
 main = with_subcommand (with_subcommand (with_settings (new_app (codes "hamilton"))) init_shape) run_shape
 
--- the first four
+-- the command line with its first four commands: those, `recover` and `status`
 abbrev pub looks : App
 looks = with_subcommand (with_subcommand main recover_shape) status_shape
 
--- the first six
+-- the command line with its first six commands: those, `audit` and `gen`
 abbrev pub checks : App
 checks = with_subcommand (with_subcommand looks audit_shape) gen_shape
 
--- the whole command line, built up in `main`, `looks` and `checks` from `init_shape`, `run_shape`, `recover_shape`, `status_shape`, `audit_shape`,
--- `gen_shape` (with `gen_sizes`) and `help_shape`, by `with_settings`
+-- the whole command line: those six commands, and `help`
 abbrev pub hamilton : App
 hamilton = with_subcommand checks help_shape
 

@@ -6,11 +6,11 @@ use Rattle.requests.specs.declared.FileWord.{FileWord}
 use Rattle.requests.specs.declared.Request.{Request}
 use Rattle.requests.specs.declared.Request.TheVariants.{Init, Run, Recover, Status, Audit, Gen, Show}
 
--- the names of files, and their places among the words
+-- the names of files, in order
 abbrev pub names_of : List FileWord → List Text
 names_of files = map (λ (f : FileWord). f.name.now) files
 
--- `names_of`, `places_of`: the names of files, and their places
+-- the places of files among the words, in order
 abbrev pub places_of : List FileWord → List ℕ
 places_of files = map (λ (f : FileWord). f.place) files
 

@@ -72,22 +72,23 @@ pub record AreQuiet {D : Type 0} (logs shards : List (NodeOf D)) : Type 0 where
 -- ---- a ledger by its own shape
 
 module _ {D : Type 0} where
-  -- the journal of each node, and the record in flight there, if there is one
+  -- the journal of each node of a ledger, by the ledger's own shape
   abbrev pub ledger_journals : LedgerOf D → ℕ → List Record
   ledger_journals l = node_journals l.header.shape l.logs l.shards
 
-  -- `ledger_journals`, `ledger_flights`, `ledger_faults`, `ledger_opened`, `ledger_capacity`, `IsChecked`, `IsLedgerQuiet`, `IsLedgerStored`: the same
-  -- of a ledger, by its own shape
+  -- the record in flight at each node of a ledger, if there is one
   abbrev pub ledger_flights : LedgerOf D → ℕ → Option Record
   ledger_flights l = flights_of l.header.shape l.logs l.shards
 
-  -- how often the disk of each node has failed, how often it had when the node was opened, and how many bytes it may hold
+  -- how often the disk of each node of a ledger has failed
   abbrev pub ledger_faults : LedgerOf D → ℕ → ℕ
   ledger_faults l = faults_of l.header.shape l.logs l.shards
 
+  -- how often the disk of each node of a ledger had failed when the node was opened
   abbrev pub ledger_opened : LedgerOf D → ℕ → ℕ
   ledger_opened l = opened_of l.header.shape l.logs l.shards
 
+  -- how many bytes the disk of each node of a ledger may hold
   abbrev pub ledger_capacity : LedgerOf D → ℕ → ℕ
   ledger_capacity l = capacity_of l.header.shape l.logs l.shards
 
@@ -95,10 +96,11 @@ module _ {D : Type 0} where
   abbrev pub IsChecked : LedgerOf D → Type 0
   IsChecked l = HaveCheckedJournals l.header.shape l.logs l.shards
 
--- each node's disk holds its journal, and no node has a record in flight
+-- the disk of each node of a ledger holds the node's journal
 abbrev pub IsLedgerStored : {D : Type 0} → Ghosts D → LedgerOf D → Type 0
 IsLedgerStored device l = AreStored device l.logs l.shards
 
+-- no node of a ledger has a record in flight
 abbrev pub IsLedgerQuiet : {D : Type 0} → LedgerOf D → Type 0
 IsLedgerQuiet l = AreQuiet l.logs l.shards
 

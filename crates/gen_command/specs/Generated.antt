@@ -44,13 +44,12 @@ rounded_up m n = (m + n - 1) / n
 abbrev pub sent_of : Shape → ℕ → ℕ → ℕ
 sent_of K m lane = length (share (K.coordinators * K.lanes) lane 0 (range_with_len 0 m))
 
--- the batches that the lanes below a number cut the two files into
+-- how many batches the lanes below a number cut the two files of n transactions into
 abbrev pub cut_below : Shape → ℕ → ℕ → ℕ
 cut_below K n zero = 0
 cut_below K n (suc lane) = cut_below K n lane + (rounded_up (sent_of K (minted_of n) lane) K.batch + rounded_up (sent_of K (joined_of n) lane) K.batch)
 
--- `rounded_up`, `sent_of`, `cut_below`, `batches_for`: how many pieces a list is cut into; how many of the first places of a file go to a lane; the
--- batches that the lanes below a number, and all lanes, cut the two files of a workload into
+-- how many batches all lanes cut the two files of n transactions into
 abbrev pub batches_for : Shape → ℕ → ℕ
 batches_for K n = cut_below K n (K.coordinators * K.lanes)
 

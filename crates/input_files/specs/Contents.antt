@@ -58,7 +58,7 @@ pub record FirstNotRead (told : Text → Option (List ℕ)) (before now : Text �
   pub are_read : AreRead told 0 ahead read
   pub is_not : IsNotRead file.place (told file.name.now) (txs_of_file (all_txs read)) (before file.name.now) (now file.name.now) answer
 
--- the verdicts of a file; or why it is not read: a line that is bad, or that it is too large
+-- the verdicts of a file, by its lines, where its content is told
 abbrev pub AreVerdicts : Option (List ℕ) → VerdictFile → Type 0
 AreVerdicts told file = Tells told (λ c. ReadsVerdicts (goes_on c) (front c) (Ok file))
 
@@ -77,17 +77,18 @@ IsUnfetched place before now (answers.ReadFault file) = (file ≡ place) × Rose
 IsUnfetched place before now answers.Memory = Unit {0}
 IsUnfetched place before now other = ⊥
 
--- what a fault of a file is answered with
+-- what a fault of the file at this place of the words is answered with: its bad place, or that memory ran out
 abbrev pub IsFaultOf : ℕ → FileFault → Answer → Type 0
 IsFaultOf place (Bad bad) answer = answer ≡ answers.BadInput place bad.at bad.kind
 IsFaultOf place Memory answer = answer ≡ answers.Memory
 
+-- what a fault of a client file, which is read piece by piece, is answered with: its bad place, a fault of its reading, or that memory ran out
 abbrev pub IsStreamFaultOf : ℕ → StreamFault → Answer → Type 0
 IsStreamFaultOf place (stream_fault.Bad bad) answer = answer ≡ answers.BadInput place bad.at bad.kind
 IsStreamFaultOf place stream_fault.ReadFault answer = answer ≡ answers.ReadFault place
 IsStreamFaultOf place stream_fault.Memory answer = answer ≡ answers.Memory
 
--- `IsUnfetched`, `IsFaultOf`, `IsVerdictFaultOf`: a file that could not be had; what a file's fault is answered with
+-- what a fault of the verdict file is answered with: its bad line, that it is too large, or that memory ran out
 abbrev pub IsVerdictFaultOf : ℕ → VerdictFault → Answer → Type 0
 IsVerdictFaultOf place (verdict_fault.Bad bad) answer = answer ≡ answers.BadInput place bad.line bad.kind
 IsVerdictFaultOf place verdict_fault.Large answer = answer ≡ answers.BadInput place 1073741824 Large

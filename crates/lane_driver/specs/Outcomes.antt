@@ -29,17 +29,19 @@ pub record IsStop (K : Shape) (new : LaneSights) (told : ℕ → NodeFault → T
 abbrev pub TakesNone : ℕ → Type 0
 TakesNone node = ⊥
 
--- `DiscardedResult`, `CommittedResult`, `PreparedResult`: what a batch came to from its Discard, its Commit, its Prepare on
+-- what a batch came to from its Discard on: it was told to its end, or stopped at a call, but not because memory ran out
 abbrev pub DiscardedResult : {A : Type 0} → Shape → Bool → Batch → ℕ → ℕ → List (ℕ × LockCall) → Result A Stop → LaneSights → LaneSights → Type 0
 DiscardedResult K alone b cause repeats locks (Ok a) old new = ToldDiscarded alone b cause repeats locks old.home new.home old.shards new.shards
 DiscardedResult K alone b cause repeats locks (Err e) old new =
     IsStop K new (DiscardedStopped K alone b cause repeats locks old.home new.home old.shards new.shards) TakesNone e
 
+-- what a batch came to from its Commit on: it was told to its end, or stopped at a call, but not because memory ran out
 abbrev pub CommittedResult : {A : Type 0} → Shape → Bool → Batch → ℕ → List Outcome → ℕ → List (ℕ × LockCall) → Result A Stop → LaneSights → LaneSights → Type 0
 CommittedResult K alone b cause os repeats locks (Ok a) old new = ToldCommitted alone b cause os repeats locks old.home new.home old.shards new.shards
 CommittedResult K alone b cause os repeats locks (Err e) old new =
     IsStop K new (CommittedStopped K alone b cause os repeats locks old.home new.home old.shards new.shards) TakesNone e
 
+-- what a batch came to from its Prepare on: it was told to its end, with these outcomes, or stopped at a call; memory ran out at a Lock alone
 abbrev pub PreparedResult : Shape → Bool → Batch → ℕ → ℕ → List (ℕ × List Entry) → Result (List Outcome) Stop → LaneSights → LaneSights → Type 0
 PreparedResult K alone b cause repeats parts (Ok os) old new = ToldPrepared alone b cause repeats parts old.home new.home old.shards new.shards os
 PreparedResult K alone b cause repeats parts (Err e) old new =

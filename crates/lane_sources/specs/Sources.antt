@@ -24,10 +24,11 @@ pub record SourceOf : Type 0 where
 abbrev pub count_of_lanes : Shape → ℕ
 count_of_lanes K = K.coordinators * K.lanes
 
--- what a file sends to a lane, and what of it comes from the submissions from this place on
+-- what a file sends to a lane: the compact forms of its sound submissions, in order
 abbrev pub all_for_lane : Shape → VerdictsOf → List FullTx → ℕ → List Compact
 all_for_lane K verdicts file lane = sent_to K (sound_by verdicts) file lane
 
+-- what a file sends to a lane of the submissions from this place on
 abbrev pub left_at : Shape → VerdictsOf → List FullTx → ℕ → ℕ → List Compact
 left_at K verdicts file lane at = map compact (filter (sound_by verdicts) (share (count_of_lanes K) lane at (drop at file)))
 
@@ -52,10 +53,11 @@ pub record IsSource (K : Shape) (verdicts : VerdictsOf) (file : List FullTx) (la
 abbrev pub SubmissionAt : List FullTx → ℕ → (FullTx → Type 0) → Type 0
 SubmissionAt file at P = (t : FullTx) → slice_get file at ≡ Some t → P t
 
--- each source is its lane's, by its place, and has come to the end
+-- the source is this lane's, and has come to the end of the file
 abbrev pub IsSourceFinished : List FullTx → ℕ → SourceOf → Type 0
 IsSourceFinished file lane s = (s.lane ≡ lane) × (length file ≤ s.at)
 
+-- each source is its lane's, by its place in the list, and has come to the end of the file
 abbrev pub AreFinished : List FullTx → List SourceOf → Type 0
 AreFinished file sources = (lane : ℕ) (s : SourceOf) → slice_get sources lane ≡ Some s → IsSourceFinished file lane s
 

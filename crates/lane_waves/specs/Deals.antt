@@ -96,11 +96,11 @@ pub record IsOpenNodeAt (K : Shape) (n : ℕ) (s : Sight) : Type 0 where
   pub node : s.header.node ≡ n
   pub since : s.opened ≤ s.faults
 
--- the nodes as they were at the opening of their locks
+-- each coordinator as it was at the opening of its lock
 abbrev pub log_at : {D : Type 0} → List (Guarded (SharedLog D)) → ℕ → Sight
 log_at gs = sight_at (λ g. log_sight (opening_of g)) gs
 
--- `log_at`, `shard_at`: the nodes as they were at the opening of their locks
+-- each shard as it was at the opening of its lock
 abbrev pub shard_at : {S : Type 0} → (S → Sight) → List (Guarded (SharedShard S)) → ℕ → Sight
 shard_at sight hs = sight_at (λ h. shard_sight sight (opening_of h)) hs
 

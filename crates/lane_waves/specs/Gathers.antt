@@ -50,11 +50,11 @@ IsLaneEnd x None y = ⊥
 IsLaneEnd x (Some came) y = IsResultKept x came y
 
 module _ {W D S B X : Type 0} {G : Ghosts B} where
-  -- its seats of the shards, and that of its coordinator
+  -- a run's seats of the shards
   abbrev pub shard_seats : LaneRun W D S B X G → List (Seat (SharedShard S))
   shard_seats r = seats_of r.ports.shards.each.ports.items
 
-  -- `shard_seats`, `home_seat`: a run's seats of the shards, and that of its coordinator
+  -- a run's seat of its coordinator
   abbrev pub home_seat : LaneRun W D S B X G → Seat (SharedLog D)
   home_seat r = r.ports.log.seat
 
@@ -119,11 +119,11 @@ module _ {W D S B X : Type 0} {G : Ghosts B} where
     pub gave : AllGave gone t.rows.items
     pub lanes : AllZip (λ r x. IsLaneEnd r.work r.came x) gone (reverse t.lanes.items)
 
-  -- so many runs for each list, which has their seats, the last list first
+  -- so many runs for each of these lists of seats, in their order; each list has the seats of its runs at their coordinator, the last first
   abbrev pub Chunks : ℕ → List (Vec (Seat (SharedLog D))) → List (LaneRun W D S B X G) → Type 0
   Chunks n [] runs = runs ≡ []
   Chunks n (own ∷ owns) runs = (chunk : List (LaneRun W D S B X G)) × (rest : List (LaneRun W D S B X G)) × (runs ≡ chunk ++ rest) × (length chunk ≡ n) × (reverse own.items ≡ map home_seat chunk) × Chunks n owns rest
 
-  -- `Chunks`, `HomesBack`: so many runs for each list, which has their seats of one coordinator
+  -- so many runs for each of these lists of seats, the last list first; each list has the seats of its runs at their coordinator
   abbrev pub HomesBack : ℕ → List (LaneRun W D S B X G) → List (Vec (Seat (SharedLog D))) → Type 0
   HomesBack n runs homes = Chunks n (reverse homes) runs

@@ -30,13 +30,15 @@ module _ {W D S B X : Type 0} {G : Ghosts B} (sight : S → Sight) (tables : ℕ
     pub log : table_of r.ports.log.guarded.now ≡ tables r.ports.log.node
     pub shards : All (λ p. table_of p.guarded.now ≡ tables (seat_sight (shard_sight sight) p.seat).header.node) r.ports.shards.each.ports.items
 
-  -- `logs_of`, `log_of`, `shards_of`: what a lane's run has seen of the coordinators, of its own, and of the shards
+  -- what a lane's run has seen of the coordinators: of its own what its seat knows, of another nothing
   abbrev pub logs_of : LaneRun W D S B X G → ℕ → Sight
   logs_of r n = seen_at r.ports.log.node (seat_sight (log_sight {D = D}) r.ports.log.seat) n
 
+  -- what a lane's run has seen of its own coordinator
   abbrev pub log_of : LaneRun W D S B X G → Sight
   log_of r = logs_of r r.ports.log.node
 
+  -- what a lane's run has seen of the shards, through its seat of each
   abbrev pub shards_of : LaneRun W D S B X G → ℕ → Sight
   shards_of r = sight_at (λ p. seat_sight (shard_sight sight) p.seat) r.ports.shards.each.ports.items
 

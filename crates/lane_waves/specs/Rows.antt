@@ -8,7 +8,7 @@ abbrev pub lanes_from : ℕ → ℕ → List ℕ
 lanes_from first zero = []
 lanes_from first (suc n) = lanes_from first n ++ (first + n) ∷ []
 
--- a coordinator's own lanes, and all lanes
+-- a coordinator's own lanes
 abbrev pub home_lanes : Shape → ℕ → List ℕ
 home_lanes K home = lanes_from (home * K.lanes) K.lanes
 
@@ -16,9 +16,10 @@ home_lanes K home = lanes_from (home * K.lanes) K.lanes
 abbrev pub all_lanes : Shape → List ℕ
 all_lanes K = lanes_from 0 (K.coordinators * K.lanes)
 
--- `IsHomeRow`, `IsShardRow`: the lanes for which a coordinator is locked, and a shard
+-- the lanes for which a coordinator is locked: its own
 abbrev pub IsHomeRow : Shape → ℕ → Vec ℕ → Type 0
 IsHomeRow K home row = row.items ≡ home_lanes K home
 
+-- the lanes for which a shard is locked: all lanes, whichever shard it is
 abbrev pub IsShardRow : Shape → ℕ → Vec ℕ → Type 0
 IsShardRow K shard row = row.items ≡ all_lanes K

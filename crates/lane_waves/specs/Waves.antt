@@ -22,12 +22,11 @@ pub record AreNodesOf (K : Shape) (logs shards : ℕ → Sight) : Type 0 where
   pub logs_are : (n : ℕ) → n < K.coordinators → ((logs n).header.shape ≡ K) × ((logs n).header.node ≡ n)
   pub shards_are : (s : ℕ) → s < K.shards → ((shards s).header.shape ≡ K) × ((shards s).header.node ≡ shard_node K s)
 
--- what stays true of a node under its wrapper, whatever is asked of it
+-- what stays true of a coordinator under its wrapper, whatever is asked of it: that its disk holds its journal, if it did
 abbrev pub log_goes : {D : Type 0} → Ghosts D → SharedLog D → SharedLog D → Type 0
 log_goes device a b = IsNodeHeld device a.node → IsNodeHeld device b.node
 
--- `log_goes`, `shard_goes`: what stays true of a node under its wrapper: of a coordinator, that its disk holds its journal, if it did; of a shard,
--- what its type keeps
+-- what stays true of a shard under its wrapper, whatever is asked of it: what its type keeps
 abbrev pub shard_goes : {S : Type 0} → (S → S → Type 0) → SharedShard S → SharedShard S → Type 0
 shard_goes goes a b = goes a.node b.node
 

@@ -31,11 +31,11 @@ HoldsFirst device first old new = OfTold old (λ was. OfTold new (λ now. IsSome
 abbrev pub LeavesBut : {D : Type 0} → Ghosts D → ((List ℕ → Type 0) → List ℕ → Type 0) → Option D → Option D → Type 0
 LeavesBut device P old new = OfTold old (λ was. OfTold new (λ now. IsSome (device.content was) → (c : List ℕ) → device.images now c → P (device.images was) c))
 
--- the node's disk tells that it is in use, or that it is not
+-- the node's disk, where its content is told, is in use
 abbrev pub ToldInUse : {D : Type 0} → Ghosts D → (ℕ → Option D) → ℕ → Type 0
 ToldInUse device held n = OfTold (held n) (λ was. Tells (device.content was) (IsInUse n))
 
--- `ToldInUse`, `ToldUnused`: the node's disk tells that it is in use, or that it is not
+-- the node's disk, where its content is told, is not in use
 abbrev pub ToldUnused : {D : Type 0} → Ghosts D → (ℕ → Option D) → ℕ → Type 0
 ToldUnused device held n = OfTold (held n) (λ was. Tells (device.content was) (IsUnused n))
 

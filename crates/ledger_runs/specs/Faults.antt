@@ -102,9 +102,7 @@ IsCauseOf K lane next E X failed may_hold node (NoRoom used need capacity) = Has
 IsCauseOf K lane next E X failed may_hold node (NoStamp stamp) = HasNoStampFor K lane next E X node stamp
 IsCauseOf K lane next E X failed may_hold node NoMemory = IsBeforeLocks K lane X
 
--- `IsCauseOf`, `IsLaneCause`, `IsOpenCause`: the cause of a lane's fault, by its kind: a node that the lane asks has a disk that failed; no room;
--- no stamp; memory ran out, and the lane is before the Locks of a batch (`IsBeforeLocks`); the same where an open batch is brought to its end, and
--- where memory ran out the lane may wait (`LaneWaits`), too
+-- the cause of a lane's fault, by its node and its kind (`IsCauseOf`)
 abbrev pub IsLaneCause : Shape → ℕ → (List Compact → Type 0) → (ℕ → List Record) → (ℕ → List Record) → (ℕ → Type 0) → (ℕ → ℕ → Type 0) → LaneFault → Type 0
 IsLaneCause K lane next E X failed may_hold e = IsCauseOf K lane next E X failed may_hold e.node e.fault
 
@@ -115,7 +113,7 @@ IsSomeCauseOf K next E X failed may_hold node (NoRoom used need capacity) = (lan
 IsSomeCauseOf K next E X failed may_hold node (NoStamp stamp) = (lane : ℕ) × IsLaneOf K lane × HasNoStampFor K lane (next lane) E X node stamp
 IsSomeCauseOf K next E X failed may_hold node NoMemory = Unit {0}
 
--- `IsSomeCauseOf`, `IsRunCause`: the same of some lane
+-- the cause of a fault of some lane, by its node and its kind (`IsSomeCauseOf`)
 abbrev pub IsRunCause : Shape → (ℕ → List Compact → Type 0) → (ℕ → List Record) → (ℕ → List Record) → (ℕ → Type 0) → (ℕ → ℕ → Type 0) → LaneFault → Type 0
 IsRunCause K next E X failed may_hold e = IsSomeCauseOf K next E X failed may_hold e.node e.fault
 
@@ -135,7 +133,7 @@ Nothing txs = ⊥
 abbrev pub LaneRests : Shape → ℕ → (ℕ → List Record) → (ℕ → Type 0) → Type 0
 LaneRests K lane X failed = IsBeforeLocks K lane X ⊎ ((node : ℕ) × HasNoDiskFor K lane Nothing X failed node)
 
--- `LaneRests`, `LanesRest`: where a lane, or each, stands: `IsBeforeLocks`, or the disk of a node that it asks for its open batch has failed
+-- where each lane stands (`LaneRests`)
 abbrev pub LanesRest : Shape → (ℕ → List Record) → (ℕ → Type 0) → Type 0
 LanesRest K X failed = (lane : ℕ) → IsLaneOf K lane → LaneRests K lane X failed
 
@@ -155,16 +153,15 @@ IsOpenCause K lane E X failed may_hold e = ((e.fault ≡ NoMemory) × LaneWaits 
 abbrev pub RestsOrWaits : Shape → ℕ → (ℕ → List Record) → (ℕ → List Record) → (ℕ → Type 0) → Type 0 → Type 0
 RestsOrWaits K lane E X failed wanting = LaneRests K lane X failed ⊎ (wanting × LaneWaits K lane E X)
 
--- `RestsOrWaits`, `AllRestOrWait`, `RestsSince`, `AllRestSince`: a lane, or each, rests, or memory ran out for it and it waits; the same where
--- nothing reports that memory ran out
+-- each lane rests, or memory ran out for it and it waits
 abbrev pub AllRestOrWait : Shape → (ℕ → List Record) → (ℕ → List Record) → (ℕ → Type 0) → (ℕ → Type 0) → Type 0
 AllRestOrWait K E X failed wanting = (lane : ℕ) → IsLaneOf K lane → RestsOrWaits K lane E X failed (wanting lane)
 
--- the same where nothing reports that memory ran out
+-- the lane rests or waits, where nothing reports whether memory ran out for it
 abbrev pub RestsSince : Shape → ℕ → (ℕ → List Record) → (ℕ → List Record) → (ℕ → Type 0) → Type 0
 RestsSince K lane E X failed = LaneRests K lane X failed ⊎ LaneWaits K lane E X
 
--- so does each lane, or nothing was written
+-- each lane rests or waits so, or nothing was written from journals E to X
 abbrev pub AllRestSince : Shape → (ℕ → List Record) → (ℕ → List Record) → (ℕ → Type 0) → Type 0
 AllRestSince K E X failed = ((n : ℕ) → X n ≡ E n) ⊎ ((lane : ℕ) → IsLaneOf K lane → RestsSince K lane E X failed)
 

@@ -14,5 +14,6 @@ pub record LaneOf : Type 0 where
   pub batches : ℕ
   pub fault : Option LaneFault
 
+-- a lane's result: what was decided, how many batches, and its fault, if it met one
 abbrev pub came_of : LaneOf → Lane
 came_of x = record { decided = x.decided; batches = x.batches; fault = x.fault }

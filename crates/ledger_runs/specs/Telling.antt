@@ -27,8 +27,7 @@ pub record TellsResumed (K : Shape) (lane : ℕ) (E X : ℕ → List Record) (r 
   pub phase_is : phase_of r.phase ≡ lane_phase K E lane
   pub outcomes_are : r.outcomes ≡ outcomes_of (X (home_of K lane)) r.batch
 
--- `TellsResumed`, `IsResumedAt`: a lane's batch that was open in journals E: which it is, the phase in which it stood, and what is decided of it in
--- journals X
+-- what is told of a lane from journals E to X: nothing where it was idle, else its open batch (`TellsResumed`)
 abbrev pub IsResumedAt : Shape → ℕ → (ℕ → List Record) → (ℕ → List Record) → Option ResumedBatch → Type 0
 IsResumedAt K lane E X None = lane_phase K E lane ≡ Idle
 IsResumedAt K lane E X (Some r) = TellsResumed K lane E X r

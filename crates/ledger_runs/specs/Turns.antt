@@ -33,10 +33,11 @@ TurnsLaunchNone t old new = Launches (t.shape old) (λ _. Nothing) (t.journals o
 abbrev pub TurnPreparesNone : {L : Type 0} → Ghosts L → ℕ → L → L → Type 0
 TurnPreparesNone t lane old new = HasPreparedPieces (t.shape old) lane [] (t.journals old) (t.journals new)
 
--- `TookUpIn`, `TakesUpIn`: where the journals were kept, the lane's open batch was brought to its end, and its result is kept behind the others'
+-- where the journals were kept, the lane's open batch was brought to its end, and its result is kept behind the others'
 abbrev pub TookUpIn : {L : Type 0} → Ghosts L → ℕ → L → L → List ResumedBatch → List ResumedBatch → Type 0
 TookUpIn t lane old new before after = OfKept (t.shape old) (t.journals old) (λ _ _. TookUpOne (t.shape old) lane (t.journals old) (t.journals new) before after)
 
+-- where the journals were kept, the lane's open batch was brought to its end, and its result, which names that batch, is kept behind the others'
 abbrev pub TakesUpIn : {L : Type 0} → Ghosts L → ℕ → L → L → List ResumedBatch → List ResumedBatch → Type 0
 TakesUpIn t lane old new before after = OfKept (t.shape old) (t.journals old) (λ _ _. TakesUp (t.shape old) lane (t.journals old) (t.journals new) before after)
 

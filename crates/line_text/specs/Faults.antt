@@ -9,8 +9,7 @@ use Rattle.cbdc_types.specs.declared.answer.UnsoundKind.{UnsoundKind}
 use Rattle.cbdc_types.specs.declared.answer.UnsoundKind.TheVariants as unsound
 use Rattle.line_text.specs.Lines.{Text, line}
 
--- `fault_text`, `input_word`, `unsound_words`, `status_of`: the line of each answer, none of Ok and of a write fault; its words; the status with
--- which the program ends
+-- the word for what is wrong with an input
 abbrev pub input_word : InputKind → Text
 input_word input.Cut = codes "cut"
 input_word input.TooMany = codes "too-many"
@@ -21,13 +20,14 @@ input_word input.Large = codes "large"
 input_word input.Form = codes "form"
 input_word input.Repeated = codes "repeated"
 
+-- the words for what an audit found wrong: of an unknown or unfunded transaction with its id
 abbrev pub unsound_words : UnsoundKind → List Text
 unsound_words unsound.Cause = codes "cause" ∷ []
 unsound_words (unsound.Unknown id) = codes "unknown" ∷ encode_lower id ∷ []
 unsound_words (unsound.Unfunded id) = codes "unfunded" ∷ encode_lower id ∷ []
 unsound_words unsound.Unfinished = codes "unfinished" ∷ []
 
--- what is printed of an answer; the name is that of the file that it speaks of
+-- the line that is printed of an answer, none of Ok and of a write fault; the name is that of the file that it speaks of
 abbrev pub fault_text : Answer → Text → Text
 fault_text Ok name = []
 fault_text BadWords name = line (codes "fault" ∷ codes "words" ∷ [])
@@ -48,7 +48,7 @@ fault_text WriteFault name = []
 fault_text (DiskFault node) name = line (codes "fault" ∷ codes "disk" ∷ decimal node ∷ [])
 fault_text Memory name = line (codes "fault" ∷ codes "memory" ∷ [])
 
--- the process ends with this status
+-- the status with which the process ends, by its answer
 abbrev pub status_of : Answer → ℕ
 status_of Ok = 0
 status_of BadWords = 2

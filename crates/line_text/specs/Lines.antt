@@ -8,8 +8,7 @@ use Rattle.cbdc_types.specs.declared.batch.Outcome.{Outcome}
 use Rattle.cbdc_types.specs.declared.batch.Outcome.TheVariants as outcome
 use Rattle.base_types.specs.declared.ids.BatchId.{BatchId}
 
--- `Text`, `line`, `continued`, `Prints`: bytes; words with a space between them and a line feed; a sink has taken a text, or at a fault a front of
--- it
+-- a text: its bytes
 abbrev pub Text : Type 0
 Text = List ℕ
 
@@ -18,6 +17,7 @@ abbrev pub continued : Text → List Text → Text
 continued text [] = text ++ 10 ∷ []
 continued text (word ∷ rest) = continued (text ++ 32 ∷ word) rest
 
+-- the line of these words: a space between them, and a line feed at the end
 abbrev pub line : List Text → Text
 line [] = 10 ∷ []
 line (word ∷ rest) = continued word rest
@@ -29,7 +29,7 @@ Prints old new text (Err e) = Tells old (λ t. (n : ℕ) × (new ≡ Some (t ++ 
 
 -- ---- init
 
--- `init_text`, `confirmed_line`, `rejected_line`, `refused_line`, `refusal_words`, `summary_text`: the lines of `init` and `run`
+-- the lines of `init`: how many coins were minted, their value, and the id of the genesis
 abbrev pub init_text : ℕ → ℕ → Text → Text
 init_text coins minted genesis =
     (line (codes "coins" ∷ decimal coins ∷ []) ++ line (codes "minted" ∷ decimal minted ∷ []))
@@ -37,12 +37,13 @@ init_text coins minted genesis =
 
 -- ---- submissions
 
+-- the line of a confirmed submission: its file and place, its id, and the lane and number of its batch
 abbrev pub confirmed_line : ℕ → ℕ → Text → BatchId → Text
 confirmed_line file place id batch = line (
     decimal file ∷ decimal place ∷ encode_lower id ∷ codes "confirmed" ∷ decimal batch.lane ∷ decimal batch.number ∷ []
     )
 
--- what is told of an input that was missing or locked
+-- the line of a rejected submission: as that of a confirmed one, and which hash was missing or locked at which shard; a Held one has none
 abbrev pub rejected_line : ℕ → ℕ → Text → Outcome → BatchId → Text
 rejected_line file place id outcome.Held batch = []
 rejected_line file place id (outcome.Missing shard hash) batch = line (
@@ -54,6 +55,7 @@ rejected_line file place id (outcome.Locked shard hash by) batch = line (
     ∷ decimal batch.lane ∷ decimal batch.number ∷ codes "by" ∷ decimal by.lane ∷ decimal by.number ∷ []
     )
 
+-- the words for why a submission was refused
 abbrev pub refusal_words : Refusal → List Text
 refusal_words refusal.NoInputs = codes "no-inputs" ∷ []
 refusal_words refusal.NoOutputs = codes "no-outputs" ∷ []
@@ -67,6 +69,7 @@ refusal_words (refusal.Unbalanced ins outs) = codes "unbalanced" ∷ decimal ins
 refusal_words (refusal.BadWitness i) = codes "bad-witness" ∷ decimal i ∷ []
 refusal_words (refusal.Unverified i) = codes "unverified" ∷ decimal i ∷ []
 
+-- the line of a refused submission: its file and place, its id, and why it was refused
 abbrev pub refused_line : ℕ → ℕ → Text → Refusal → Text
 refused_line file place id why = line (
     decimal file ∷ decimal place ∷ encode_lower id ∷ codes "refused" ∷ refusal_words why
@@ -78,6 +81,8 @@ refused_line file place id why = line (
 abbrev pub counted_line : Text → ℕ → Text
 counted_line name n = line (name ∷ decimal n ∷ [])
 
+-- the six lines that end what `run` prints: how many batches were resumed, how many are new, how many submissions were confirmed, rejected and
+-- refused, and how many hashes are unspent
 abbrev pub summary_text : ℕ → ℕ → ℕ → ℕ → ℕ → ℕ → Text
 summary_text resumed batches confirmed rejected refused unspent =
     ((((counted_line (codes "resumed") resumed ++ counted_line (codes "batches") batches) ++ counted_line (codes "confirmed") confirmed)

@@ -8,29 +8,34 @@ use Rattle.cbdc_types.specs.declared.batch.Status.TheVariants.{Unspent, Locked, 
 use Rattle.base_types.specs.declared.ids.BatchId.{BatchId}
 use Rattle.line_text.specs.Lines.{Text, line, counted_line}
 
--- `status_line`, `status_words`, `resumed_line`, `phase_word`, `recovery_text`, `audit_text`: the lines of `status`, `recover` and `audit`
+-- the words for the status of a hash: unspent, locked by this batch, or absent
 abbrev pub status_words : Status → List Text
 status_words Unspent = codes "unspent" ∷ []
 status_words (Locked batch) = codes "locked" ∷ decimal batch.lane ∷ decimal batch.number ∷ []
 status_words Absent = codes "absent" ∷ []
 
+-- the line that `status` prints of a hash: the hash, and its status
 abbrev pub status_line : Text → Status → Text
 status_line hash status = line (encode_lower hash ∷ status_words status)
 
+-- the word for the phase in which an open batch stood
 abbrev pub phase_word : Phase → Text
 phase_word Prepared = codes "prepare"
 phase_word Committed = codes "commit"
 phase_word Discarded = codes "discard"
 
+-- the line that `recover` prints of a resumed batch: its lane and number, the phase in which it stood, how many were confirmed, how many rejected
 abbrev pub resumed_line : BatchId → Phase → ℕ → ℕ → Text
 resumed_line batch phase confirmed rejected = line (
     codes "batch" ∷ decimal batch.lane ∷ decimal batch.number ∷ phase_word phase ∷ codes "confirmed" ∷ decimal confirmed
     ∷ codes "rejected" ∷ decimal rejected ∷ []
     )
 
+-- the two lines that end what `recover` prints: how many batches were resumed, and how many hashes are unspent
 abbrev pub recovery_text : ℕ → ℕ → Text
 recovery_text resumed unspent = counted_line (codes "resumed") resumed ++ counted_line (codes "unspent") unspent
 
+-- the lines of a sound audit: how many coins there are, their value, the value minted, and how many transactions were committed
 abbrev pub audit_text : ℕ → ℕ → ℕ → ℕ → Text
 audit_text coins value minted committed =
     ((counted_line (codes "coins") coins ++ counted_line (codes "value") value) ++ counted_line (codes "minted") minted)

@@ -10,10 +10,12 @@ abbrev pub total : {A : Type 0} → (A → ℕ) → List A → ℕ
 total f [] = 0
 total f (x ∷ xs) = f x + total f xs
 
+-- 1 where it is so, else 0
 abbrev pub one_if : Bool → ℕ
 one_if true = 1
 one_if false = 0
 
+-- 1 where the two numbers are the same, else 0
 abbrev pub is_at : ℕ → ℕ → ℕ
 is_at x y = one_if (eqb x y)
 
@@ -82,8 +84,7 @@ pub record HandOk (start : List Record) (log : List Record) (flight : Option Rec
   pub below : h.faults ≤ faults
   pub stuck : (r : Record) → h.left ≡ Some r → (flight ≡ Some r) × (rest ≡ [])
 
--- `HandOk`, `AllHands`: what a hand has seen is a beginning of the journal; the records of its lane behind the opening are those that it made, each
--- once, in its order, and it has seen them; what it left in flight is so still, with nothing behind it
+-- each of these hands knows so of the journal (`HandOk`)
 abbrev pub AllHands : List Record → List Record → Option Record → ℕ → List Hand → Type 0
 AllHands start log flight faults [] = Unit {0}
 AllHands start log flight faults (h ∷ hs) = HandOk start log flight faults h × AllHands start log flight faults hs

@@ -18,7 +18,7 @@ use Rattle.port_sets.specs.declared.coordinators.LogCall.TheVariants.{Prepare, D
 use Rattle.port_sets.specs.declared.coordinators.LogReply.{LogReply}
 use Rattle.port_sets.specs.declared.coordinators.LogReply.TheVariants.{Prepared, Stamped}
 
--- of a call at a shard, and of one at a coordinator: its lane
+-- the lane of a call at a coordinator
 abbrev pub log_call_lane : LogCall → ℕ
 log_call_lane (Prepare lane txs) = lane
 log_call_lane (Decide lane replies out) = lane
@@ -29,31 +29,34 @@ log_call_lane (Done lane cause) = lane
 abbrev pub txs_at : List Record → ℕ → List Compact
 txs_at J lane = txs_of J (open_batch J lane)
 
--- whether it may be made where this is seen of the node
+-- a call may be made at a coordinator of which this is seen
 abbrev pub log_may_be_asked : LogCall → Sight → Type 0
 log_may_be_asked (Prepare lane txs) s = IsLane s.header lane × ((slot s.seen lane).phase ≡ Idle) × HasSize s.header.shape txs.now × All IsCompact txs.now
 log_may_be_asked (Decide lane replies out) s = IsLane s.header lane × ((slot s.seen lane).phase ≡ InPrepare) × AreReplies s.header.shape replies.now × (length (txs_at s.seen lane) ≤ vec_capacity out.now)
 log_may_be_asked (Discard lane cause) s = IsLane s.header lane × ((slot s.seen lane).phase ≡ InCommit) × IsStamp cause
 log_may_be_asked (Done lane cause) s = IsLane s.header lane × ((slot s.seen lane).phase ≡ InDiscard) × IsStamp cause
 
--- `prepare_owed`, `discard_owed`, `done_owed`: what a coordinator owes a call, by its header
+-- what a coordinator with this header and capacity owes a call to prepare
 abbrev pub prepare_owed : ℕ → List Compact → Header → ℕ → Option ℕ → List Record → Due (Batch × ℕ)
 prepare_owed lane txs h capacity = prepare_due h.shape capacity lane txs
 
+-- what a coordinator owes a call to discard, whatever its header and capacity
 abbrev pub discard_owed : ℕ → ℕ → Header → ℕ → Option ℕ → List Record → Due ℕ
 discard_owed lane cause h capacity = discard_due lane cause
 
+-- what a coordinator owes a call to end a batch, whatever its header and capacity
 abbrev pub done_owed : ℕ → ℕ → Header → ℕ → Option ℕ → List Record → Due ℕ
 done_owed lane cause h capacity = done_due lane cause
 
--- `good_prepare`, `good_discard`, `good_done`: what is good of a coordinator's answers: stamps, hashes and batches within their limits, and the
--- phase in which the lane is then
+-- a good answer to a call to prepare: a batch and a stamp within their limits, and the lane is then in InPrepare with these transactions
 abbrev pub good_prepare : ℕ → List Compact → Header → List Record → Batch × ℕ → Type 0
 good_prepare lane txs h J p = IsPreparedBatch h.shape lane p × ((slot J lane).phase ≡ InPrepare) × (txs_at J lane ≡ txs)
 
+-- a good answer to a call to discard: a stamp below 2^63, and the lane is then in InDiscard
 abbrev pub good_discard : ℕ → Header → List Record → ℕ → Type 0
 good_discard lane h J t = IsStamp t × ((slot J lane).phase ≡ InDiscard)
 
+-- a good answer to a call to end a batch: a stamp below 2^63, and the lane is then idle
 abbrev pub good_done : ℕ → Header → List Record → ℕ → Type 0
 good_done lane h J t = IsStamp t × ((slot J lane).phase ≡ Idle)
 

@@ -4,9 +4,10 @@ use Rattle.node_journal.specs.Nodes.{sight as log_seen}
 use Rattle.port_sets.specs.declared.locking.SharedShard.{SharedShard}
 use Rattle.port_sets.specs.declared.coordinators.SharedLog.{SharedLog}
 
--- `shard_sight`, `log_sight`: what contracts see of a shard and of a coordinator under their wrappers
+-- what contracts see of a shard under its wrapper
 abbrev pub shard_sight : {S : Type 0} → (S → Sight) → SharedShard S → Sight
 shard_sight sight n = sight n.node
 
+-- what contracts see of a coordinator under its wrapper
 abbrev pub log_sight : {D : Type 0} → SharedLog D → Sight
 log_sight n = log_seen n.node

@@ -65,10 +65,11 @@ pub record IsPhaseMade {P C A : Type 0} (makes : C → P → P → A → Type 0)
   pub each : AllZip (IsMade makes first old new) calls answers
   pub others : (n : ℕ) → NotAmong shard calls (first + n) → slice_get new n ≡ slice_get old n
 
--- a shard that was seen so replies by hashes and batches of its shape
+-- where a shard that was seen so answers a call to lock without a fault, its stamp is below 2^63, and its replies are hashes and batches of its shape
 abbrev pub IsRepliesAnswer : Sight → Result Replied NodeFault → Type 0
 IsRepliesAnswer s answer = IfOk answer (λ a. IsStamp a.stamp × All (IsReply s.header.shape) a.replies)
 
+-- where a shard answers a call to finish or to forget without a fault, its stamp is below 2^63
 abbrev pub IsStampAnswer : Sight → Result ℕ NodeFault → Type 0
 IsStampAnswer s answer = IfOk answer IsStamp
 
@@ -94,22 +95,28 @@ pub record IsToldAtOnce {P C A : Type 0} (makes : C → P → P → A → Type 0
   pub capacity : vec_capacity out' ≡ vec_capacity out
 
 module _ {P : Type 0} (sight : P → Sight) (serves : P → ℕ → Type 0) where
+  -- calls to lock, as a set of ports is asked for them
   abbrev pub AsksLocks : List (ℕ × LockCall) → Vec (Result Replied NodeFault) → List P → Type 0
   AsksLocks = IsPhaseAsked IsLockCall (λ c. c.batch.lane) sight serves
 
+  -- calls to finish, as a set of ports is asked for them
   abbrev pub AsksFinishes : List (ℕ × FinishCall) → Vec (Result ℕ NodeFault) → List P → Type 0
   AsksFinishes = IsPhaseAsked IsFinishCall (λ c. c.batch.lane) sight serves
 
+  -- calls to forget, as a set of ports is asked for them
   abbrev pub AsksForgets : List (ℕ × ForgetCall) → Vec (Result ℕ NodeFault) → List P → Type 0
   AsksForgets = IsPhaseAsked IsForgetCall (λ c. c.batch.lane) sight serves
 
   module _ (alone : Bool) (at : P → ℕ) (faults : P → ℕ) (holds : P → Type 0) where
+    -- what a port tells of a call to lock, and what it keeps
     abbrev pub Locks : LockCall → P → P → Result Replied NodeFault → Type 0
     Locks = Answered (LockAnswer alone) IsRepliesAnswer at sight faults holds serves
 
+    -- what a port tells of a call to finish, and what it keeps
     abbrev pub Finishes : FinishCall → P → P → Result ℕ NodeFault → Type 0
     Finishes = Answered (FinishAnswer alone) IsStampAnswer at sight faults holds serves
 
+    -- what a port tells of a call to forget, and what it keeps
     abbrev pub Forgets : ForgetCall → P → P → Result ℕ NodeFault → Type 0
     Forgets = Answered (ForgetAnswer alone) IsStampAnswer at sight faults holds serves
 

@@ -16,32 +16,35 @@ use Rattle.port_sets.specs.declared.locking.ShardCall.TheVariants.{Lock, Finish,
 use Rattle.port_sets.specs.declared.locking.ShardReply.{ShardReply}
 use Rattle.port_sets.specs.declared.locking.ShardReply.TheVariants.{Locked, Stamped}
 
--- of a call at a shard, and of one at a coordinator: its lane
+-- the lane of a call at a shard
 abbrev pub shard_call_lane : ShardCall → ℕ
 shard_call_lane (Lock c) = c.now.batch.lane
 shard_call_lane (Finish c) = c.now.batch.lane
 shard_call_lane (Forget c) = c.now.batch.lane
 
--- whether it may be made where this is seen of the node
+-- a call may be made at a shard with this header
 abbrev pub shard_may_be_asked : Header → ShardCall → Type 0
 shard_may_be_asked h (Lock c) = IsLockCall h c.now
 shard_may_be_asked h (Finish c) = IsFinishCall h c.now
 shard_may_be_asked h (Forget c) = IsForgetCall h c.now
 
--- `lock_owed`, `finish_owed`, `forget_owed`: what a shard owes a call, by its header
+-- what a shard with this header and capacity owes a call to lock
 abbrev pub lock_owed : LockCall → Header → ℕ → Option ℕ → List Record → Due Replied
 lock_owed c h capacity = lock_due h.shape capacity c
 
+-- what a shard owes a call to finish, whatever its header and capacity
 abbrev pub finish_owed : FinishCall → Header → ℕ → Option ℕ → List Record → Due ℕ
 finish_owed c h capacity = finish_due c
 
+-- what a shard owes a call to forget, whatever its header and capacity
 abbrev pub forget_owed : ForgetCall → Header → ℕ → Option ℕ → List Record → Due ℕ
 forget_owed c h capacity = forget_due c
 
--- `good_reply`, `good_stamp`: what is good of a shard's answers: stamps, hashes and batches within their limits
+-- a good answer to a call to lock: a stamp below 2^63, and replies of hashes and batches of the shape
 abbrev pub good_reply : Header → List Record → Replied → Type 0
 good_reply h J a = IsStamp a.stamp × All (IsReply h.shape) a.replies
 
+-- a good answer to a call to finish or to forget: a stamp below 2^63
 abbrev pub good_stamp : Header → List Record → ℕ → Type 0
 good_stamp h J t = IsStamp t
 

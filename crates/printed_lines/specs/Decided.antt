@@ -18,11 +18,11 @@ decided_there J (Some p) = option_map (λ o. (p.batch, o)) (outcome_in J p)
 abbrev pub decided_at : Shape → (ℕ → List Record) → (ℕ → List Record) → ℕ → ℕ → Option (Batch × Outcome)
 decided_at K E X lane q = decided_there (X (home_of K lane)) (place_of (sized_onto lane (added (E (home_of K lane)) (X (home_of K lane))) []) q)
 
--- how many Prepares the lanes below n have got, and how many all have
+-- how many new Prepares the lanes below n have, from journals E to X
 abbrev pub batches_below : Shape → (ℕ → List Record) → (ℕ → List Record) → ℕ → ℕ
 batches_below K E X zero = 0
 batches_below K E X (suc lane) = batches_below K E X lane + length (prepared lane (added (E (home_of K lane)) (X (home_of K lane))))
 
--- how many new Prepares all lanes have
+-- how many new Prepares all lanes have, from journals E to X
 abbrev pub new_batches : Shape → (ℕ → List Record) → (ℕ → List Record) → ℕ
 new_batches K E X = batches_below K E X (K.coordinators * K.lanes)

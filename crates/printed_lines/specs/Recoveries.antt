@@ -19,11 +19,11 @@ open_phase InPrepare = Some Prepared
 open_phase InCommit = Some Committed
 open_phase InDiscard = Some Discarded
 
--- how many of the outcomes commit their transactions, and how many do not
+-- how many of a batch's outcomes commit their transactions
 abbrev pub won_in : List Outcome → ℕ
 won_in os = length (filter is_won os)
 
--- `won_in`, `lost_in`: how many of a batch's outcomes commit their transactions, and how many do not
+-- how many of a batch's outcomes do not commit their transactions
 abbrev pub lost_in : List Outcome → ℕ
 lost_in os = length (filter (λ o. not (is_won o)) os)
 
@@ -45,12 +45,12 @@ resumed_below K E X (suc lane) = resumed_below K E X lane ++ lane_line lane (E (
 abbrev pub resumed_lines : Shape → (ℕ → List Record) → (ℕ → List Record) → Text
 resumed_lines K E X = resumed_below K E X (K.coordinators * K.lanes)
 
--- how many of the lanes below n are open, and how many of all
+-- how many of the lanes below n are open at E
 abbrev pub open_below : Shape → (ℕ → List Record) → ℕ → ℕ
 open_below K E zero = 0
 open_below K E (suc lane) = open_below K E lane + (if is_some (open_phase (slot (E (home_of K lane)) lane).phase) then 1 else 0)
 
--- how many lanes are open at E
+-- how many of all lanes are open at E
 abbrev pub resumed_count : Shape → (ℕ → List Record) → ℕ
 resumed_count K E = open_below K E (K.coordinators * K.lanes)
 

@@ -72,14 +72,17 @@ files_lines n [] all = []
 files_lines n (file ∷ files) [] = []
 files_lines n (file ∷ files) (rs ∷ all) = file_lines n 0 file rs ++ files_lines (suc n) files all
 
+-- whether the submission was confirmed: decided, and its transaction is committed
 abbrev pub is_confirmed : Report → Bool
 is_confirmed (Refused why) = false
 is_confirmed (Decided batch outcome) = is_won outcome
 
+-- whether the submission was rejected: decided, and its transaction is not committed
 abbrev pub is_rejected : Report → Bool
 is_rejected (Refused why) = false
 is_rejected (Decided batch outcome) = not (is_won outcome)
 
+-- whether the submission was refused
 abbrev pub is_refused : Report → Bool
 is_refused (Refused why) = true
 is_refused (Decided batch outcome) = false

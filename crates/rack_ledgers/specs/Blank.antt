@@ -27,8 +27,7 @@ abbrev pub IsInUse : ℕ → List ℕ → Type 0
 IsInUse zero bytes = HasFirst bytes
 IsInUse (suc n) bytes = HasSecond bytes
 
--- `HasFirst`, `HasSecond`, `IsInUse`, `IsUnused`, `IsNoBlank`: a whole first record; a second one that its header allows; node 0 is in use from its
--- first on, another from its second; why a disk may not become a node
+-- a disk with these bytes is not in use as this node
 abbrev pub IsUnused : ℕ → List ℕ → Type 0
 IsUnused node bytes = IsInUse node bytes → ⊥
 

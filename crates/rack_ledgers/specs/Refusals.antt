@@ -26,10 +26,10 @@ abbrev pub NoRefusal : (Header → List Record → List ℕ → Type 0) → (ℕ
 NoRefusal Is IsNo = (h : Header) (J : List Record) (limit : ℕ) (bytes : List ℕ) (e : NodeOpenFault) → IsRefusalOfBytes e → Is h J bytes
     → used_of J + kept_room h.shape J ≤ limit → IsNo limit bytes e → ⊥
 
--- of shards and of coordinators
+-- a disk is refused in one way at most as a shard, and in one way at most as a coordinator (`OneRefusal`)
 abbrev pub OneRefusalLaw : Type 0
 OneRefusalLaw = OneRefusal IsNoShard × OneRefusal IsNoCoord
 
--- `OneRefusalLaw`, `NoRefusalLaw`: these of shards, and of coordinators
+-- a disk with a shard's journal, and the room that it needs, is not refused as a shard, and so of coordinators (`NoRefusal`)
 abbrev pub NoRefusalLaw : Type 0
 NoRefusalLaw = NoRefusal IsShardJournal IsNoShard × NoRefusal IsCoordJournal IsNoCoord

@@ -15,23 +15,25 @@ abbrev pub IsWaitingSlot : {D N : Type 0} → Slot D N → Type 0
 IsWaitingSlot (slots.Waiting n d) = Unit {0}
 IsWaitingSlot other = ⊥
 
--- `nodes_in`, `AreNodesOpen`: the nodes that are open; and whether all are
+-- the nodes that are open, in order
 abbrev pub nodes_in : {D N : Type 0} → List (Slot D N) → List N
 nodes_in [] = []
 nodes_in (slots.Opened x ∷ more) = x ∷ nodes_in more
 nodes_in (other ∷ more) = nodes_in more
 
+-- each place has an open node
 abbrev pub AreNodesOpen : {D N : Type 0} → List (Slot D N) → Type 0
 AreNodesOpen [] = Unit {0}
 AreNodesOpen (slots.Opened x ∷ more) = AreNodesOpen more
 AreNodesOpen (other ∷ more) = ⊥
 
--- `AreNotRefused`, `IsFirstNodeRefusal`: none was refused; and else why the first was
+-- no disk was refused
 abbrev pub AreNotRefused : {D N : Type 0} → List (Slot D N) → Type 0
 AreNotRefused [] = Unit {0}
 AreNotRefused (slots.Refused d e ∷ more) = ⊥
 AreNotRefused (other ∷ more) = AreNotRefused more
 
+-- why the first disk that was refused was refused
 abbrev pub IsFirstNodeRefusal : {D N : Type 0} → List (Slot D N) → Answer → Type 0
 IsFirstNodeRefusal [] answer = ⊥
 IsFirstNodeRefusal (slots.Refused d e ∷ more) answer = answer ≡ e
@@ -114,9 +116,10 @@ module _ {D N : Type 0} (device : Ghosts D) (disk_of : N → D) (opens : N → L
     pub taken : IsTakenDisk device held before n disk
     pub came : SlotResult (slots.Waiting n disk) slot
 
-  -- `OpensAt`, `FailsAt`: what is known of the node of a place that is open; and of an answer where it can't be opened
+  -- what is known of the node of a place that is open
   abbrev pub OpensAt : (ℕ → Option D) → (ℕ → ℕ) → ℕ → N → Type 0
   OpensAt held before n x = (fits n (Some h) x × (before n ≤ device.count (disk_of x))) × OfTold (held n) (λ was. IsNodeOpened device disk_of opens was x)
 
+  -- what is known of the answer where the node of a place can't be opened
   abbrev pub FailsAt : (ℕ → Option D) → (ℕ → ℕ) → (ℕ → ℕ) → ℕ → Answer → Type 0
   FailsAt held before now n e = (refusals e × IsOpening n (before n) (now n) e) × OfTold (held n) (λ was. Tells (device.content was) (λ c. refused n (Some h) (device.limit was) c e))

@@ -23,7 +23,7 @@ answer_at node (NoRoom used need capacity) = answers.Full node used need capacit
 answer_at node (NoStamp stamp) = answers.ClockEnd node stamp
 answer_at node NoMemory = answers.Memory
 
--- `answer_at`, `answer_to`: what a lane's fault answers: its kind, with its node and its numbers
+-- the answer to a lane's fault, by its node and its kind
 abbrev pub answer_to : LaneFault → Answer
 answer_to e = answer_at e.node e.fault
 

@@ -13,21 +13,21 @@ use Rattle.record_log.specs.declared.reading.Head.{Head}
 use Rattle.record_log.specs.Bodies.{magic}
 use Rattle.cbdc_model.specs.Records.{genesis_kind, lock_kind, finish_kind, forget_kind, start_kind, prepare_kind, commit_kind, discard_kind, done_kind}
 
--- `magic_at`, `is_to`, `is_shape`, `sizes_at`, `shape_at`, `header_at`, `zero_at`, `head_at`, `genesis_at`, `lock_at`, `finish_at`, `forget_at`,
--- `start_at`, `prepare_at`, `commit_at`, `discard_at`, `done_at`, `body_at`: a record's body read from left to right, whatever the journal: its
--- kind first, lists within the greatest limits of any ledger
+-- the eight bytes HAMJRNL1 at the front; any others are out of form
 unfoldable pub magic_at : List ℕ → Result (List ℕ × List ℕ) Fault
 magic_at bytes = do
   m ← field_at 8 (λ b. b) bytes
   if bytes_eq m.0 magic then Ok (m.0, m.1) else Err (fault Form bytes)
 
+-- whether a number is from 1 to a limit
 abbrev pub is_to : ℕ → ℕ → Bool
 is_to limit n = nat_le 1 n && nat_le n limit
 
--- whether each number of a shape is within its limit
+-- whether each number of a shape is within the greatest limit of any ledger
 abbrev pub is_shape : ShapeOf → Bool
 is_shape s = is_to 64 s.shards && (is_to 16 s.coordinators && (is_to 16 s.lanes && is_to 1024 s.batch))
 
+-- the four numbers of a shape at the front, each below 2^32
 unfoldable pub sizes_at : List ℕ → Result (ShapeOf × List ℕ) Fault
 sizes_at bytes = do
   shards ← small_at bytes
@@ -36,11 +36,13 @@ sizes_at bytes = do
   batch ← small_at lanes.1
   Ok (record { shards = shards.0; coordinators = coordinators.0; lanes = lanes.0; batch = batch.0 }, batch.1)
 
+-- a shape at the front; out of form where one of its numbers is not within its limit
 unfoldable pub shape_at : List ℕ → Result (ShapeOf × List ℕ) Fault
 shape_at bytes = do
   s ← sizes_at bytes
   if is_shape s.0 then Ok (s.0, s.1) else Err (fault Form bytes)
 
+-- a header at the front: the magic, the node's number, the shape, and the id of the genesis
 unfoldable pub header_at : List ℕ → Result (Header × List ℕ) Fault
 header_at bytes = do
   m ← magic_at bytes
@@ -49,19 +51,20 @@ header_at bytes = do
   genesis ← hash_at shape.1
   Ok (record { node = node.0; shape = shape.0; genesis = genesis.0 }, genesis.1)
 
--- the stamp of a first record
+-- the stamp of a first record at the front, which is 0
 unfoldable pub zero_at : List ℕ → Result (ℕ × List ℕ) Fault
 zero_at bytes = do
   n ← number_at bytes
   if nat_eq n.0 0 then Ok (n.0, n.1) else Err (fault Form bytes)
 
--- the stamp and the batch of another
+-- the stamp and the batch at the front, of a record that is no first one
 unfoldable pub head_at : List ℕ → Result (Head × List ℕ) Fault
 head_at bytes = do
   stamp ← number_at bytes
   b ← batch_at stamp.1
   Ok (record { stamp = stamp.0; batch = b.0 }, b.1)
 
+-- a Genesis behind the byte of its kind: the stamp, the header, and at most 1,000,000 hashes
 unfoldable pub genesis_at : List ℕ → Result (Record × List ℕ) Fault
 genesis_at bytes = do
   stamp ← zero_at bytes
@@ -69,52 +72,60 @@ genesis_at bytes = do
   hs ← list_at 1000000 hash_at h.1
   Ok (Genesis h.0 hs.0, hs.1)
 
+-- a Start behind the byte of its kind: the stamp and the header
 unfoldable pub start_at : List ℕ → Result (Record × List ℕ) Fault
 start_at bytes = do
   stamp ← zero_at bytes
   h ← header_at stamp.1
   Ok (Start h.0, h.1)
 
+-- a Lock behind the byte of its kind: its stamp and batch, and at most 1,024 answered entries
 unfoldable pub lock_at : List ℕ → Result (Record × List ℕ) Fault
 lock_at bytes = do
   h ← head_at bytes
   es ← list_at 1024 answered_at h.1
   Ok (Lock h.0.stamp h.0.batch es.0, es.1)
 
+-- a Finish behind the byte of its kind: its stamp and batch, and at most 1,024 decisions
 unfoldable pub finish_at : List ℕ → Result (Record × List ℕ) Fault
 finish_at bytes = do
   h ← head_at bytes
   ds ← list_at 1024 decision_at h.1
   Ok (Finish h.0.stamp h.0.batch ds.0, ds.1)
 
+-- a Forget behind the byte of its kind: its stamp and batch
 unfoldable pub forget_at : List ℕ → Result (Record × List ℕ) Fault
 forget_at bytes = do
   h ← head_at bytes
   Ok (Forget h.0.stamp h.0.batch, h.1)
 
+-- a Prepare behind the byte of its kind: its stamp and batch, and at most 1,024 transactions
 unfoldable pub prepare_at : List ℕ → Result (Record × List ℕ) Fault
 prepare_at bytes = do
   h ← head_at bytes
   txs ← list_at 1024 compact_at h.1
   Ok (Prepare h.0.stamp h.0.batch txs.0, txs.1)
 
+-- a Commit behind the byte of its kind: its stamp and batch, and at most 1,024 outcomes
 unfoldable pub commit_at : List ℕ → Result (Record × List ℕ) Fault
 commit_at bytes = do
   h ← head_at bytes
   os ← list_at 1024 outcome_field_at h.1
   Ok (Commit h.0.stamp h.0.batch os.0, os.1)
 
+-- a Discard behind the byte of its kind: its stamp and batch
 unfoldable pub discard_at : List ℕ → Result (Record × List ℕ) Fault
 discard_at bytes = do
   h ← head_at bytes
   Ok (Discard h.0.stamp h.0.batch, h.1)
 
+-- a Done behind the byte of its kind: its stamp and batch
 unfoldable pub done_at : List ℕ → Result (Record × List ℕ) Fault
 done_at bytes = do
   h ← head_at bytes
   Ok (Done h.0.stamp h.0.batch, h.1)
 
--- the first byte tells which record it is
+-- a record's body at the front, whatever the journal: its first byte tells which record it is
 unfoldable pub body_at : List ℕ → Result (Record × List ℕ) Fault
 body_at bytes = do
   kind ← byte_at bytes

@@ -56,12 +56,12 @@ pub record IsLaneOpen (h : Header) (phase : ℕ → Phase) (open_txs : ℕ → L
 abbrev pub IsOpenThrough : {L : Type 0} → LogGhosts L → L → OpenLane → Type 0
 IsOpenThrough log port o = IsLaneOpen (log.header port) (log.phase port) (log.open_txs port) o
 
--- the lanes rise
+-- the lanes of the open batches are above this one
 abbrev pub LanesAbove : ℕ → List OpenLane → Type 0
 LanesAbove n [] = Unit {0}
 LanesAbove n (o ∷ os) = (n < o.batch.lane) × LanesAbove n os
 
--- `LanesAbove`, `LanesRise`: the lanes of the open batches rise
+-- the lanes of the open batches rise along the list
 abbrev pub LanesRise : List OpenLane → Type 0
 LanesRise [] = Unit {0}
 LanesRise (o ∷ os) = LanesAbove o.batch.lane os × LanesRise os
@@ -86,10 +86,11 @@ IsBatchUnfinished Prepared K o log shards = IsPreparedAt K o.batch o.txs o.stamp
 IsBatchUnfinished Committed K o log shards = (prepared : ℕ) × IsCommittedAt K o.batch o.txs prepared o.stamp o.outcomes log shards
 IsBatchUnfinished Discarded K o log shards = (prepared : ℕ) × IsDiscardedAt K o.batch o.txs prepared o.stamp log shards
 
--- `StandsOpen`, `AreUnfinished`: that of an open batch in its phase, and of all of them
+-- the journals have of an open batch what is told of it, in the phase that it names (`IsBatchUnfinished`)
 abbrev pub StandsOpen : Shape → OpenLane → Sight → (ℕ → Sight) → Type 0
 StandsOpen K o log shards = IsBatchUnfinished o.phase K o log shards
 
+-- the journals have of each open batch what is told of it, in the phase that it names (`IsBatchUnfinished`)
 abbrev pub AreUnfinished : Shape → List OpenLane → Sight → (ℕ → Sight) → Type 0
 AreUnfinished K os log shards = All (λ o. IsBatchUnfinished o.phase K o log shards) os
 

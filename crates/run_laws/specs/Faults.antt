@@ -85,15 +85,15 @@ IsStopBy K lane next J opened faults capacity node (Full used need limit) = HasN
 IsStopBy K lane next J opened faults capacity node DiskFault = HasFailed K lane next J opened faults node
 IsStopBy K lane next J opened faults capacity node Memory = Unit {0}
 
--- of each node, the coordinators first: how often its disk had failed when it was opened, how often it has by now, and how many bytes it may hold
+-- how often the disk of each node had failed when the node was opened, the coordinators first
 abbrev pub opened_by : Shape → (ℕ → Sight) → (ℕ → Sight) → ℕ → ℕ
 opened_by K logs shards n = if nat_lt n K.coordinators then (logs n).opened else (shards (n - K.coordinators)).opened
 
--- `opened_by`, `faults_by`, `capacity_by`: of each node: how often its disk had failed when it was opened, how often it has by now, how many bytes
--- it may hold
+-- how often the disk of each node has failed by now, the coordinators first
 abbrev pub faults_by : Shape → (ℕ → Sight) → (ℕ → Sight) → ℕ → ℕ
 faults_by K logs shards n = if nat_lt n K.coordinators then (logs n).faults else (shards (n - K.coordinators)).faults
 
+-- how many bytes the disk of each node may hold, the coordinators first
 abbrev pub capacity_by : Shape → (ℕ → Sight) → (ℕ → Sight) → ℕ → ℕ
 capacity_by K logs shards n = if nat_lt n K.coordinators then (logs n).capacity else (shards (n - K.coordinators)).capacity
 

@@ -13,11 +13,11 @@ use Rattle.cbdc_model.specs.Places.{PlaceIn, sized_onto, place_of, outcome_in}
 abbrev pub IsAlone : (FullTx → Bool) → FullTx → List FullTx → Type 0
 IsAlone sound t others = All (λ u. sound u ≡ true → (x : Digest) → has (compact t).inputs x ≡ true → has (compact u).inputs x ≡ false) others
 
--- the lane of the submission behind these, and the number of sound ones that the lane has of these
+-- the lane of the submission behind these
 abbrev pub lane_behind : Shape → List FullTx → ℕ
 lane_behind K before = length before % (K.coordinators * K.lanes)
 
--- `lane_behind`, `sound_behind`: the lane of the submission behind these, and the number of sound ones that the lane has of these
+-- how many of these submissions are sound and of the lane of the one behind them
 abbrev pub sound_behind : Shape → (FullTx → Bool) → List FullTx → ℕ
 sound_behind K sound before = length (filter sound (share (K.coordinators * K.lanes) (lane_behind K before) 0 before))
 

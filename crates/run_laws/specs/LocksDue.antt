@@ -23,7 +23,7 @@ abbrev pub locks_due : Shape → (ℕ → List Record) → ℕ → ℕ → ℕ
 locks_due K J s zero = 0
 locks_due K J s (suc n) = (if lacks_lock K J s n then 1 else 0) + locks_due K J s n
 
--- a Lock's stamp is one more than the greater of the shard's last stamp and the Prepare's
+-- the stamp of the Prepare of a lane's last batch, which causes its Locks
 abbrev pub lock_cause : Shape → (ℕ → List Record) → ℕ → ℕ
 lock_cause K J lane = stamp_in (record_of prepare_kind (J (home_of K lane)) (open_batch (J (home_of K lane)) lane))
 
@@ -44,16 +44,17 @@ pub record IsStuck (K : Shape) (J : ℕ → List Record) : Type 0 where
   pub lacks : lacks_lock K J shard lane ≡ true
   pub needs : 2 ^ 62 < suc (before_lock K J shard lane)
 
--- the events begin Locks alone
+-- the record is a Lock
 abbrev pub IsLock : Record → Type 0
 IsLock (Lock stamp b es) = Unit {0}
 IsLock other = ⊥
 
--- `IsLock`, `BeginsLock`, `BeginLocks`: the events begin Locks alone
+-- the event begins no record but a Lock
 abbrev pub BeginsLock : Event → Type 0
 BeginsLock (Begin n r) = IsLock r
 BeginsLock other = Unit {0}
 
+-- the events begin no records but Locks
 abbrev pub BeginLocks : List Event → Type 0
 BeginLocks [] = Unit {0}
 BeginLocks (e ∷ es) = BeginsLock e × BeginLocks es

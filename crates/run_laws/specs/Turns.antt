@@ -70,7 +70,7 @@ OpenTurnLaw = (K : Shape) (mint : List Output) (submissions : List FullTx) (lane
     → IsTurn K [] lane logs shards logs' shards'
     → Adds (λ c. c ≡ open_batch (logs (home_of K lane)).seen lane) (seen_by K logs shards) (seen_by K logs' shards')
 
--- `OpenTurnLaw`, `ResumedTurnLaw`: what a turn makes without a new Prepare is of the lane's open batch
+-- a turn that takes a lane's open batch to its end does nothing else, where the other coordinators are as before (`ResumesBatch`)
 abbrev pub ResumedTurnLaw : Type 0
 ResumedTurnLaw = (K : Shape) (mint : List Output) (submissions : List FullTx) (lane : ℕ) (logs shards logs' shards' : ℕ → Sight)
     → 0 < K.shards → home_of K lane < K.coordinators → Elsewhere K lane logs logs'

@@ -19,10 +19,10 @@ files_of seed n = splits_of seed n ∷ joins_of seed n ∷ []
 abbrev pub all_submissions : ℕ → ℕ → List FullTx
 all_submissions seed n = splits_of seed n ++ (joins_of seed n ++ [])
 
--- a first record at each node of the ledger that a mint begins, and that of a workload
+-- the journals of the ledger that a mint begins: a first record at each node
 abbrev pub mint_journals : Shape → List Output → ℕ → List Record
 mint_journals K mint node = journal node (first_rows K (minted mint))
 
--- `mint_journals` of the workload's mint
+-- the journals of the ledger that the workload's mint begins: a first record at each node
 abbrev pub made_for : Shape → ℕ → ℕ → ℕ → List Record
 made_for K seed n = mint_journals K (mint_of seed n)

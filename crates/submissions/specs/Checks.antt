@@ -34,6 +34,7 @@ abbrev pub IsRefusal : VerdictsOf → FullTx → Option Refusal → Type 0
 IsRefusal verdicts t None = IsSoundTx t (verdicts (tx_id t))
 IsRefusal verdicts t (Some r) = IsFirstRefusal t (verdicts (tx_id t)) r
 
+-- what a sentinel says of a transaction, with the transaction's id
 abbrev pub IsJudged : VerdictsOf → FullTx → Judged → Type 0
 IsJudged verdicts t j = (j.id ≡ tx_id t) × IsRefusal verdicts t j.refusal
 
@@ -42,22 +43,20 @@ abbrev pub IsRuling : VerdictsOf → FullTx → Ruling → Type 0
 IsRuling verdicts t (ruling.Refused r) = IsFirstRefusal t (verdicts (tx_id t)) r
 IsRuling verdicts t (ruling.Sound k) = IsSoundTx t (verdicts (tx_id t)) × (k ≡ compact t)
 
--- `IsRuling`, `IsRuled`: what a sentinel makes of a transaction by itself: its id, and the first reason to refuse it or, where it is sound, its
--- compact form
+-- what a sentinel makes of a transaction by itself, with the transaction's id
 abbrev pub IsRuled : VerdictsOf → FullTx → Ruled → Type 0
 IsRuled verdicts t r = (r.id ≡ tx_id t) × IsRuling verdicts t r.ruling
 
--- what is kept of it: why it is refused; or where it is sound its compact form at the end of a lane's list, and its place there
+-- what is kept of a ruling: why the transaction is refused; or where it is sound its place at the end of a lane's list, which gets its compact form
 abbrev pub IsDealtBy : Ruling → ℕ → List CompactTx → List CompactTx → Judgement → Type 0
 IsDealtBy (ruling.Refused why) at before after j = (j ≡ Refused why) × (after ≡ before)
 IsDealtBy (ruling.Sound k) at before after j = (j ≡ Sound at (length before)) × (after ≡ before ++ k ∷ [])
 
--- `IsDealtBy`, `IsDealt`, `IsDealtAt`: what is kept of that: the reason, or a place at the end of a lane's list, which gets the compact form; the
--- lists of the others stay
+-- what is kept of a ruling in a lane's list, with the transaction's id
 abbrev pub IsDealt : Ruled → ℕ → List CompactTx → List CompactTx → Checked → Type 0
 IsDealt r at before after c = (c.id ≡ r.id) × IsDealtBy r.ruling at before after c.judgement
 
--- the same in the list of one lane, with those of the others as before
+-- what is kept of a ruling in the list of one lane, with the lists of the others as before
 pub record IsDealtAt (r : Ruled) (at : ℕ) (old new : List (Vec CompactTx)) (c : Checked) : Type 0 where
   pub count : length new ≡ length old
   pub own : (was list : Vec CompactTx) → slice_get old at ≡ Some was → slice_get new at ≡ Some list → IsDealt r at was.items list.items c

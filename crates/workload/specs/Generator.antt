@@ -19,11 +19,11 @@ coin_value seed i = 2 + (seed % 100 + i) % 100
 abbrev pub coin : ℕ → ℕ → Output
 coin seed i = record { program = program i; value = coin_value seed i }
 
--- how many coins are minted for n transactions, and how many pairs are joined again
+-- how many coins are minted for n transactions
 abbrev pub minted_of : ℕ → ℕ
 minted_of n = n - n / 2
 
--- `minted_of`, `joined_of`: how many coins are minted for n transactions, and how many pairs are joined again
+-- how many pairs of halves are joined again, of n transactions
 abbrev pub joined_of : ℕ → ℕ
 joined_of n = n / 2
 
@@ -35,15 +35,15 @@ mint_of seed n = map (coin seed) (range_with_len 0 (minted_of n))
 abbrev pub zero_witness : List ℕ
 zero_witness = replicate 64 0
 
--- the two halves of coin i, the second the greater where they differ
+-- the first half of coin i, the smaller one where they differ
 abbrev pub low_half : ℕ → ℕ → ℕ → Output
 low_half seed n i = record { program = program (n + 2 * i); value = coin_value seed i / 2 }
 
--- `low_half`, `high_half`, `split_of`, `splits_of`: the two halves of a coin, the transaction that splits it, and the first client file
+-- the second half of coin i, the greater one where they differ
 abbrev pub high_half : ℕ → ℕ → ℕ → Output
 high_half seed n i = record { program = program (n + 2 * i + 1); value = coin_value seed i - coin_value seed i / 2 }
 
--- splits coin i of the mint with this id
+-- the transaction that splits coin i of the mint with this id
 abbrev pub split_of : ℕ → ℕ → Digest → ℕ → FullTx
 split_of seed n genesis i = record {
   inputs = record { point = record { tx = genesis; index = i }; output = coin seed i } ∷ [];
@@ -51,10 +51,11 @@ split_of seed n genesis i = record {
   witnesses = zero_witness ∷ [];
 }
 
+-- the first client file: each coin of the mint is split
 abbrev pub splits_of : ℕ → ℕ → List FullTx
 splits_of seed n = map (split_of seed n (genesis_id (mint_of seed n))) (range_with_len 0 (minted_of n))
 
--- joins the two halves that split number i, whose id this is, made
+-- the transaction that joins the two halves of coin i, which the split with this id made
 abbrev pub join_by : ℕ → ℕ → ℕ → Digest → FullTx
 join_by seed n i split = record {
   inputs = record { point = record { tx = split; index = 0 }; output = low_half seed n i }
@@ -63,10 +64,11 @@ join_by seed n i split = record {
   witnesses = zero_witness ∷ zero_witness ∷ [];
 }
 
--- `join_by`, `join_of`, `joins_of`: the transaction that joins the halves of a coin again, and the second client file
+-- the transaction that joins the two halves of coin i of the mint with this id
 abbrev pub join_of : ℕ → ℕ → Digest → ℕ → FullTx
 join_of seed n genesis i = join_by seed n i (tx_id (split_of seed n genesis i))
 
+-- the second client file: the halves of the first coins are joined again
 abbrev pub joins_of : ℕ → ℕ → List FullTx
 joins_of seed n = map (join_of seed n (genesis_id (mint_of seed n))) (range_with_len 0 (joined_of n))
 
@@ -74,14 +76,15 @@ joins_of seed n = map (join_of seed n (genesis_id (mint_of seed n))) (range_with
 abbrev pub good_line : Digest → ℕ → List ℕ
 good_line id index = spelled (record { tx = id; index = index; good = true }) ++ 10 ∷ []
 
--- the verdict lines of a transaction of one input, and of two
+-- the verdict line of a transaction that splits: of its one input
 abbrev pub split_lines : FullTx → List ℕ
 split_lines t = good_line (tx_id t) 0
 
--- `good_line`, `split_lines`, `join_lines`, `verdicts_of`: the verdict lines: each input's witness is good
+-- the verdict lines of a transaction that joins: of its two inputs
 abbrev pub join_lines : FullTx → List ℕ
 join_lines t = good_line (tx_id t) 0 ++ good_line (tx_id t) 1
 
+-- the file of the verdicts: the lines of all splits, and of all joins
 abbrev pub verdicts_of : ℕ → ℕ → List ℕ
 verdicts_of seed n = flat_map split_lines (splits_of seed n) ++ flat_map join_lines (joins_of seed n)
 
