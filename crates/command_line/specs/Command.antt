@@ -54,8 +54,8 @@ abbrev pub client_rule : Rule
 client_rule = one_or_more (codes "client")
 
 -- the rule by which clap reads the client files of `audit`, words that may be left out
-abbrev pub rest_rule : Rule
-rest_rule = record (one_or_more (codes "client")) { required = false }
+abbrev pub audit_client_rule : Rule
+audit_client_rule = record (one_or_more (codes "client")) { required = false }
 
 -- the rule by which clap reads the hashes of `status`, one word or more
 abbrev pub hash_rule : Rule
@@ -92,12 +92,12 @@ abbrev pub init_shape : Shape
 init_shape = with_arg (sized_shape (nodes_shape (codes "init") (codes "1") (codes "1")) (codes "1") (codes "16")) mint_rule
 
 -- the command `gen` with the options of a ledger's shape, and nothing behind them yet
-abbrev pub gen_sizes : Shape
-gen_sizes = sized_shape (nodes_shape (codes "gen") (codes "4") (codes "2")) (codes "2") (codes "16")
+abbrev pub sized_gen_shape : Shape
+sized_gen_shape = sized_shape (nodes_shape (codes "gen") (codes "4") (codes "2")) (codes "2") (codes "16")
 
 -- the command `gen`: the options of a ledger's shape, the seed, and how many transactions
 abbrev pub gen_shape : Shape
-gen_shape = with_arg (with_arg gen_sizes seed_rule) count_rule
+gen_shape = with_arg (with_arg sized_gen_shape seed_rule) count_rule
 
 -- the command `run`: the file of the verdicts, how often calls are repeated, and the client files
 abbrev pub run_shape : Shape
@@ -113,7 +113,7 @@ status_shape = (with_rule (new_app (codes "status")) hash_rule).top
 
 -- the command `audit`: the file of the mint, and the client files
 abbrev pub audit_shape : Shape
-audit_shape = (with_rule (with_rule (new_app (codes "audit")) mint_rule) rest_rule).top
+audit_shape = (with_rule (with_rule (new_app (codes "audit")) mint_rule) audit_client_rule).top
 
 -- the command `help`: the command that it is asked about
 abbrev pub help_shape : Shape
@@ -130,20 +130,20 @@ with_settings a = record a {
 }
 
 -- the command line with its first two commands, `init` and `run`
-abbrev pub main : App
-main = with_subcommand (with_subcommand (with_settings (new_app (codes "hamilton"))) init_shape) run_shape
+abbrev pub with_run : App
+with_run = with_subcommand (with_subcommand (with_settings (new_app (codes "hamilton"))) init_shape) run_shape
 
 -- the command line with its first four commands: those, `recover` and `status`
-abbrev pub looks : App
-looks = with_subcommand (with_subcommand main recover_shape) status_shape
+abbrev pub with_status : App
+with_status = with_subcommand (with_subcommand with_run recover_shape) status_shape
 
 -- the command line with its first six commands: those, `audit` and `gen`
-abbrev pub checks : App
-checks = with_subcommand (with_subcommand looks audit_shape) gen_shape
+abbrev pub with_gen : App
+with_gen = with_subcommand (with_subcommand with_status audit_shape) gen_shape
 
 -- the whole command line: those six commands, and `help`
 abbrev pub hamilton : App
-hamilton = with_subcommand checks help_shape
+hamilton = with_subcommand with_gen help_shape
 
 -- an argument with this rule, of one level
 pub record IsArg (a : Arg) (r : Rule) : Type 0 where

@@ -2,7 +2,7 @@
 
 ghost use Rattle.std.specs.Prelude.{◌≡◌, codes, IfOk};
 ghost use Rattle.clap.specs.Words.{app_of, new_app};
-ghost use Rattle.command_line.specs.Command.{IsArg, IsLeaf, IsTop, with_settings, shards_rule, coordinators_rule, lanes_rule, batch_rule, mint_rule, verdicts_rule, repeats_rule, client_rule, rest_rule, hash_rule, topic_rule, seed_rule, count_rule, nodes_shape, sized_shape, init_shape, run_shape, recover_shape, status_shape, audit_shape, gen_sizes, gen_shape, help_shape, main, looks, checks, hamilton};
+ghost use Rattle.command_line.specs.Command.{IsArg, IsLeaf, IsTop, with_settings, shards_rule, coordinators_rule, lanes_rule, batch_rule, mint_rule, verdicts_rule, repeats_rule, client_rule, audit_client_rule, hash_rule, topic_rule, seed_rule, count_rule, nodes_shape, sized_shape, init_shape, run_shape, recover_shape, status_shape, audit_shape, sized_gen_shape, gen_shape, help_shape, with_run, with_status, with_gen, hamilton};
 
 use crate::help;
 use clap::{Arg, Command};
@@ -88,7 +88,7 @@ fn client_arg<'a>(alloc: Global) -> Arg<'a>
 }
 
 fn rest_arg<'a>(alloc: Global) -> Arg<'a>
-    ensures { IsArg result rest_rule }
+    ensures { IsArg result audit_client_rule }
 {
     Arg::new(alloc, "client")
         .num_args(1..)
@@ -188,7 +188,7 @@ fn init_command<'a>(alloc: Global) -> Result<Command<'a>, AllocError>
 
 // `gen` with its options.
 fn gen_with_sizes<'a>(alloc: Global) -> Result<Command<'a>, AllocError>
-    ensures { IfOk result (λ c. IsLeaf c gen_sizes) }
+    ensures { IfOk result (λ c. IsLeaf c sized_gen_shape) }
 {
     let sizes = Sizes {
         shards: "4",
@@ -274,7 +274,7 @@ fn top<'a>(alloc: Global) -> Command<'a>
 
 // The command with those below it that make a ledger and run transactions.
 fn with_main<'a>(alloc: Global) -> Result<Command<'a>, AllocError>
-    ensures { IfOk result (λ c. IsTop c main) }
+    ensures { IfOk result (λ c. IsTop c with_run) }
 {
     let init = init_command(alloc)?;
     let run = run_command(alloc)?;
@@ -283,7 +283,7 @@ fn with_main<'a>(alloc: Global) -> Result<Command<'a>, AllocError>
 
 // The command with those below it that look at a ledger, too.
 fn with_looks<'a>(alloc: Global) -> Result<Command<'a>, AllocError>
-    ensures { IfOk result (λ c. IsTop c looks) }
+    ensures { IfOk result (λ c. IsTop c with_status) }
 {
     let status = status_command(alloc)?;
     let main = with_main(alloc)?;
@@ -292,7 +292,7 @@ fn with_looks<'a>(alloc: Global) -> Result<Command<'a>, AllocError>
 
 // The command with those below it that check a ledger, too.
 fn with_checks<'a>(alloc: Global) -> Result<Command<'a>, AllocError>
-    ensures { IfOk result (λ c. IsTop c checks) }
+    ensures { IfOk result (λ c. IsTop c with_gen) }
 {
     let audit = audit_command(alloc)?;
     let generate = gen_command(alloc)?;

@@ -14,14 +14,14 @@ use Rattle.client_files.specs.declared.fault.FileFault.TheVariants.{Bad, Memory}
 use Rattle.sentinel.specs.Files.{ReadsVerdicts}
 use Rattle.sentinel.specs.declared.file.VerdictFault.{VerdictFault}
 use Rattle.sentinel.specs.declared.file.VerdictFault.TheVariants as verdict_fault
-use Rattle.input_files.specs.Contents.{front, goes_on, IsNotRead, IsFaultOf, IsStreamFaultOf, IsVerdictFaultOf, IsNoVerdicts, IsUnfetched, AreRead, FirstNotRead, txs_of_file, all_txs}
+use Rattle.input_files.specs.Contents.{front, goes_on, IsNotRead, IsFileFaultOf, IsStreamFaultOf, IsVerdictFaultOf, IsNoVerdicts, IsUnfetched, AreRead, FirstNotRead, txs_of_file, all_txs}
 use Rattle.std.proofs.Common.{suc, add-one}
 use Rattle.std.proofs.Math.Seq.{take-suc, drop-cons}
 use Rattle.std.proofs.lemmas.List.{take-append-drop}
 use Rattle.requests.specs.declared.FileWord.{FileWord}
 
 pub not_read : {X : Type 0} (place : ℕ) (told : Option (List ℕ)) (read : Bool → List ℕ → Result X BadFile) (before now : ℕ) (more : Bool) (bytes : List ℕ) (fault : FileFault) (answer : Answer)
-    → IsFaultOf place fault answer → Tells told (λ c. (bytes ≡ front c) × (more ≡ goes_on c)) → GivesFile {X = X} (Err fault) (read more bytes)
+    → IsFileFaultOf place fault answer → Tells told (λ c. (bytes ≡ front c) × (more ≡ goes_on c)) → GivesFile {X = X} (Err fault) (read more bytes)
     → IsNotRead place told (λ c. read (goes_on c) (front c)) before now answer
 not_read place told read before now more bytes (Bad bad) answer is had gives =
     subst (λ a. IsNotRead place told (λ c. read (goes_on c) (front c)) before now a) (sym is)

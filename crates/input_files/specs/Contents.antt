@@ -78,9 +78,9 @@ IsUnfetched place before now answers.Memory = Unit {0}
 IsUnfetched place before now other = ⊥
 
 -- what a fault of the file at this place of the words is answered with: its bad place, or that memory ran out
-abbrev pub IsFaultOf : ℕ → FileFault → Answer → Type 0
-IsFaultOf place (Bad bad) answer = answer ≡ answers.BadInput place bad.at bad.kind
-IsFaultOf place Memory answer = answer ≡ answers.Memory
+abbrev pub IsFileFaultOf : ℕ → FileFault → Answer → Type 0
+IsFileFaultOf place (Bad bad) answer = answer ≡ answers.BadInput place bad.at bad.kind
+IsFileFaultOf place Memory answer = answer ≡ answers.Memory
 
 -- what a fault of a client file, which is read piece by piece, is answered with: its bad place, a fault of its reading, or that memory ran out
 abbrev pub IsStreamFaultOf : ℕ → StreamFault → Answer → Type 0

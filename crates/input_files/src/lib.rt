@@ -8,7 +8,7 @@ ghost use Rattle.std.specs.Prelude.{◌≡◌, ◌-◌, ◌≤◌, length, All, 
 ghost use Rattle.outside.specs.Images.{Tells};
 ghost use Rattle.clap.specs.Words.{Text};
 ghost use Rattle.input_files.specs.Limits.{IsShort};
-ghost use Rattle.input_files.specs.Contents.{txs_of_file, mint_of_file, IsNotRead, AreRead, FirstNotRead, IsFaultOf, IsStreamFaultOf, IsVerdictFaultOf, all_txs};
+ghost use Rattle.input_files.specs.Contents.{txs_of_file, mint_of_file, IsNotRead, AreRead, FirstNotRead, IsFileFaultOf, IsStreamFaultOf, IsVerdictFaultOf, all_txs};
 
 use crate::fetched::bytes_of;
 use cbdc_types::{Answer, FullTx, InputKind, List, Mint};
@@ -22,7 +22,7 @@ use std::alloc::Global;
 
 // What a fault of a file answers.
 fn answer_of(file: &FileWord, fault: FileFault) -> Answer
-    ensures { IsFaultOf file.now.place fault result }
+    ensures { IsFileFaultOf file.now.place fault result }
 {
     match fault {
         FileFault::Bad(bad) => Answer::BadInput {

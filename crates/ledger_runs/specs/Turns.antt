@@ -38,8 +38,8 @@ abbrev pub TookUpIn : {L : Type 0} → Ghosts L → ℕ → L → L → List Res
 TookUpIn t lane old new before after = OfKept (t.shape old) (t.journals old) (λ _ _. TookUpOne (t.shape old) lane (t.journals old) (t.journals new) before after)
 
 -- where the journals were kept, the lane's open batch was brought to its end, and its result, which names that batch, is kept behind the others'
-abbrev pub TakesUpIn : {L : Type 0} → Ghosts L → ℕ → L → L → List ResumedBatch → List ResumedBatch → Type 0
-TakesUpIn t lane old new before after = OfKept (t.shape old) (t.journals old) (λ _ _. TakesUp (t.shape old) lane (t.journals old) (t.journals new) before after)
+abbrev pub TakesUpNamedIn : {L : Type 0} → Ghosts L → ℕ → L → L → List ResumedBatch → List ResumedBatch → Type 0
+TakesUpNamedIn t lane old new before after = OfKept (t.shape old) (t.journals old) (λ _ _. TakesUp (t.shape old) lane (t.journals old) (t.journals new) before after)
 
 -- the fault of a lane whose open batch was taken up has its cause
 abbrev pub IsTurnCaused : {L : Type 0} → Ghosts L → ℕ → L → L → LaneFault → Type 0

@@ -11,7 +11,7 @@ ghost use Rattle.ledger_runs.specs.Planning.{IsFound, IsPlanOf, KeepsOpens};
 ghost use Rattle.ledger_runs.specs.Least.{IsUnbegunForMemory};
 ghost use Rattle.ledger_runs.specs.Telling.{SamePrepared};
 ghost use Rattle.ledger_runs.specs.Faults.{GrowBy, TakesInOrder};
-ghost use Rattle.ledger_runs.specs.Turns.{TurnsStayKept, TurnsFlyOn, TurnsLaunchNone, TurnPreparesNone, TookUpIn, TakesUpIn, IsTurnCaused, AreTurnsCaused, IsTurnsLeast, TurnsRest, TurnsResume, TurnsTell};
+ghost use Rattle.ledger_runs.specs.Turns.{TurnsStayKept, TurnsFlyOn, TurnsLaunchNone, TurnPreparesNone, TookUpIn, TakesUpNamedIn, IsTurnCaused, AreTurnsCaused, IsTurnsLeast, TurnsRest, TurnsResume, TurnsTell};
 
 use crate::Turns;
 use crate::openings::{open_lanes, plan_lanes};
@@ -46,7 +46,7 @@ fn resume_next<L: Turns, G: Gate>(
     ensures took { OnOk result
         (TookUpIn L.Turns lane ledger.old ledger.new batches.old.items batches.new.items) }
     ensures told { OnOk result
-        (TakesUpIn L.Turns lane ledger.old ledger.new batches.old.items batches.new.items) }
+        (TakesUpNamedIn L.Turns lane ledger.old ledger.new batches.old.items batches.new.items) }
     ensures quiet { OnOk result (L.quiet ledger.old → L.quiet ledger.new) }
     ensures flies { TurnsFlyOn L.Turns ledger.old ledger.new }
     ensures launches { TurnsLaunchNone L.Turns ledger.old ledger.new }

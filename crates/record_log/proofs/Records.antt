@@ -23,7 +23,7 @@ use Rattle.byte_fields.proofs.Readers.{one_read, two_read, three_read, four_read
 use Rattle.byte_fields.proofs.Parts.{FitsByte, FitsSmall, FitsBatch, FitsCompact, FitsAnswered, FitsOutcome, FitsDecision, number_read, hash_read, small_read, batch_read, compact_read, answered_read, outcome_read, decision_read, tagged_read}
 use Rattle.record_log.specs.declared.reading.Head.{Head}
 use Rattle.record_log.specs.Bodies.{magic, header_bytes, body_of}
-use Rattle.record_log.specs.Reading.{is_to, is_shape, magic_at, sizes_at, shape_at, header_at, zero_at, head_at, genesis_at, lock_at, finish_at, forget_at, start_at, prepare_at, commit_at, discard_at, done_at, body_at}
+use Rattle.record_log.specs.Reading.{is_from_one_to, is_shape, magic_at, sizes_at, shape_at, header_at, zero_at, head_at, genesis_at, lock_at, finish_at, forget_at, start_at, prepare_at, commit_at, discard_at, done_at, body_at}
 
 -- ---- what fits its fields
 
@@ -68,10 +68,10 @@ both : (a b : Bool) → (a && b) ≡ true → (a ≡ true) × (b ≡ true)
 both true b e = (refl, e)
 both false b e = absurd (cc)
 
-within : (limit n : ℕ) → is_to limit n ≡ true → (1 ≤ n) × (n ≤ limit)
+within : (limit n : ℕ) → is_from_one_to limit n ≡ true → (1 ≤ n) × (n ≤ limit)
 within limit n e = let p = both (leb 1 n) (leb n limit) e in (leb-true 1 n p.0, leb-true n limit p.1)
 
-is_within : (limit n : ℕ) → 1 ≤ n → n ≤ limit → is_to limit n ≡ true
+is_within : (limit n : ℕ) → 1 ≤ n → n ≤ limit → is_from_one_to limit n ≡ true
 is_within limit n some few = rw (le-leb 1 n some, le-leb n limit few) refl
 
 sizes_is : ℕ → ℕ → ℕ → ℕ → ShapeOf
@@ -92,9 +92,9 @@ sizes_read = four_read small_at number FitsSmall small_read small_at number Fits
 
 shape_within : (s : ShapeOf) → is_shape s ≡ true → IsWithinLimits s
 shape_within s e =
-    let a = both (is_to 64 s.shards) (is_to 16 s.coordinators && (is_to 16 s.lanes && is_to 1024 s.batch)) e in
-    let b = both (is_to 16 s.coordinators) (is_to 16 s.lanes && is_to 1024 s.batch) a.1 in
-    let c = both (is_to 16 s.lanes) (is_to 1024 s.batch) b.1 in
+    let a = both (is_from_one_to 64 s.shards) (is_from_one_to 16 s.coordinators && (is_from_one_to 16 s.lanes && is_from_one_to 1024 s.batch)) e in
+    let b = both (is_from_one_to 16 s.coordinators) (is_from_one_to 16 s.lanes && is_from_one_to 1024 s.batch) a.1 in
+    let c = both (is_from_one_to 16 s.lanes) (is_from_one_to 1024 s.batch) b.1 in
     let p = within 64 s.shards a.0 in
     let q = within 16 s.coordinators b.0 in
     let r = within 16 s.lanes c.0 in

@@ -20,12 +20,12 @@ magic_at bytes = do
   if bytes_eq m.0 magic then Ok (m.0, m.1) else Err (fault Form bytes)
 
 -- whether a number is from 1 to a limit
-abbrev pub is_to : ℕ → ℕ → Bool
-is_to limit n = nat_le 1 n && nat_le n limit
+abbrev pub is_from_one_to : ℕ → ℕ → Bool
+is_from_one_to limit n = nat_le 1 n && nat_le n limit
 
 -- whether each number of a shape is within the greatest limit of any ledger
 abbrev pub is_shape : ShapeOf → Bool
-is_shape s = is_to 64 s.shards && (is_to 16 s.coordinators && (is_to 16 s.lanes && is_to 1024 s.batch))
+is_shape s = is_from_one_to 64 s.shards && (is_from_one_to 16 s.coordinators && (is_from_one_to 16 s.lanes && is_from_one_to 1024 s.batch))
 
 -- the four numbers of a shape at the front, each below 2^32
 unfoldable pub sizes_at : List ℕ → Result (ShapeOf × List ℕ) Fault

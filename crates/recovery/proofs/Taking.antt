@@ -25,7 +25,7 @@ use Rattle.lane_driver.specs.Wanting.{IsLockWant}
 use Rattle.lane_driver.specs.Showing.{LaneSights}
 use Rattle.lane_driver.specs.Outcomes.{IsStop, TakesNone}
 use Rattle.lane_driver.proofs.Wanting.{fault_want}
-use Rattle.recovery.specs.Open.{IsBatchUnfinished, StandsOpen, IsResumeStopped, IsToldFrom, TakesAtLock, IsResumeStop}
+use Rattle.recovery.specs.Open.{IsBatchUnfinished, IsUnfinished, IsResumeStopped, IsToldFrom, TakesAtLock, IsResumeStop}
 
 -- a batch's Commit under its Done and its Discard
 commit_below : (b : Batch) (ended discarded committed : ℕ) (os : List Outcome) (J : List Record) → record_of 7 (Done ended b ∷ Discard discarded b ∷ Commit committed b os ∷ J) b ≡ Some (Commit committed b os)
@@ -83,7 +83,7 @@ module _ (K : Shape) (alone : Bool) (o : OpenLane) (parts : List (ℕ × List En
   StopsFrom = IsStop K new (IsToldFrom o.phase K alone o parts old new) (TakesAtLock K alone o parts old new) e
 
   -- no shard refused
-  pub resume_granted : StopsFrom → StandsOpen K o old.home old.shards → IsNoRefusal e.fault
+  pub resume_granted : StopsFrom → IsUnfinished K o old.home old.shards → IsNoRefusal e.fault
   resume_granted stop stands = (told_left K alone o parts are old new e.node e.fault o.phase stop.told_so stands).granted
 
   pub prepared_from : o.phase ≡ Prepared → IsStop K new (PreparedStopped K alone o.batch o.stamp 0 parts old.home new.home old.shards new.shards)

@@ -87,8 +87,8 @@ IsBatchUnfinished Committed K o log shards = (prepared : ℕ) × IsCommittedAt K
 IsBatchUnfinished Discarded K o log shards = (prepared : ℕ) × IsDiscardedAt K o.batch o.txs prepared o.stamp log shards
 
 -- the journals have of an open batch what is told of it, in the phase that it names (`IsBatchUnfinished`)
-abbrev pub StandsOpen : Shape → OpenLane → Sight → (ℕ → Sight) → Type 0
-StandsOpen K o log shards = IsBatchUnfinished o.phase K o log shards
+abbrev pub IsUnfinished : Shape → OpenLane → Sight → (ℕ → Sight) → Type 0
+IsUnfinished K o log shards = IsBatchUnfinished o.phase K o log shards
 
 -- the journals have of each open batch what is told of it, in the phase that it names (`IsBatchUnfinished`)
 abbrev pub AreUnfinished : Shape → List OpenLane → Sight → (ℕ → Sight) → Type 0
@@ -119,7 +119,7 @@ TakesAtLock K alone o parts old new node = (o.phase ≡ Prepared) × IsLockWant 
 
 -- it stood open, cut into its parts, and stopped at a call, with the answer of the node that was called
 pub record IsResumeStop (K : Shape) (alone : Bool) (o : OpenLane) (old new : LaneSights) (e : LaneFault) : Type 0 where
-  pub stands : StandsOpen K o old.home old.shards
+  pub stands : IsUnfinished K o old.home old.shards
   pub parts : List (ℕ × List Entry)
   pub are_parts : AreParts K o.txs parts
   pub stop : Stop

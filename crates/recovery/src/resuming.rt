@@ -5,7 +5,7 @@ ghost use Rattle.cbdc_types.specs.declared.batch.Phase.TheVariants.{Prepared, Co
 ghost use Rattle.lane_driver.specs.Showing.{PortsShow, PortsTell, KeepsLanePorts};
 ghost use Rattle.lane_driver.specs.Told.{AreShardsOf};
 ghost use Rattle.lane_driver.specs.Readied.{IsReadied};
-ghost use Rattle.recovery.specs.Open.{IsOpenThrough, StandsOpen, ResumeResult};
+ghost use Rattle.recovery.specs.Open.{IsOpenThrough, IsUnfinished, ResumeResult};
 ghost use Rattle.recovery.specs.Planned.{IsRoomToResume};
 
 use crate::planning::LaneRoom;
@@ -32,7 +32,7 @@ fn resume_prepared<S: PortSet<G>, L: LogPort, G: Gate>(
     requires same { S.alone ≡ L.alone }
     requires at { L.at ports.old.log ≡ (L.header ports.old.log).node }
     requires is_open { IsOpenThrough L.LogPort ports.old.log unfinished.now }
-    requires stands { PortsShow L.LogPort S.PortSet ports.old (StandsOpen shape.now unfinished.now) }
+    requires stands { PortsShow L.LogPort S.PortSet ports.old (IsUnfinished shape.now unfinished.now) }
     requires shape { (L.header ports.old.log).shape ≡ shape.now }
     requires count { S.count ports.old.shards ≡ shape.now.shards }
     requires ledger { AreShardsOf shape.now (S.sights ports.old.shards) }
@@ -74,7 +74,7 @@ fn resume_committed<S: PortSet<G>, L: LogPort, G: Gate>(
     requires same { S.alone ≡ L.alone }
     requires at { L.at ports.old.log ≡ (L.header ports.old.log).node }
     requires is_open { IsOpenThrough L.LogPort ports.old.log unfinished.now }
-    requires stands { PortsShow L.LogPort S.PortSet ports.old (StandsOpen shape.now unfinished.now) }
+    requires stands { PortsShow L.LogPort S.PortSet ports.old (IsUnfinished shape.now unfinished.now) }
     requires shape { (L.header ports.old.log).shape ≡ shape.now }
     requires count { S.count ports.old.shards ≡ shape.now.shards }
     requires ledger { AreShardsOf shape.now (S.sights ports.old.shards) }
@@ -130,7 +130,7 @@ fn resume_discarded<S: PortSet<G>, L: LogPort, G: Gate>(
     requires same { S.alone ≡ L.alone }
     requires at { L.at ports.old.log ≡ (L.header ports.old.log).node }
     requires is_open { IsOpenThrough L.LogPort ports.old.log unfinished.now }
-    requires stands { PortsShow L.LogPort S.PortSet ports.old (StandsOpen shape.now unfinished.now) }
+    requires stands { PortsShow L.LogPort S.PortSet ports.old (IsUnfinished shape.now unfinished.now) }
     requires shape { (L.header ports.old.log).shape ≡ shape.now }
     requires count { S.count ports.old.shards ≡ shape.now.shards }
     requires ledger { AreShardsOf shape.now (S.sights ports.old.shards) }
@@ -189,7 +189,7 @@ pub(crate) fn resume_lane<S: PortSet<G>, L: LogPort, G: Gate>(
     requires same { S.alone ≡ L.alone }
     requires at { L.at ports.old.log ≡ (L.header ports.old.log).node }
     requires is_open { IsOpenThrough L.LogPort ports.old.log unfinished.now }
-    requires stands { PortsShow L.LogPort S.PortSet ports.old (StandsOpen shape.now unfinished.now) }
+    requires stands { PortsShow L.LogPort S.PortSet ports.old (IsUnfinished shape.now unfinished.now) }
     requires shape { (L.header ports.old.log).shape ≡ shape.now }
     requires count { S.count ports.old.shards ≡ shape.now.shards }
     requires ledger { AreShardsOf shape.now (S.sights ports.old.shards) }

@@ -11,7 +11,7 @@ use Rattle.cbdc_model.specs.Ranges.{shard_node, part, is_no_part, Concerned}
 use Rattle.cbdc_model.specs.Grammar.{IsInGrammar}
 use Rattle.cbdc_model.specs.History.{Minted, minted, header_of, first_rows}
 use Rattle.cbdc_model.specs.World.{World, Event, Begin, End, Crash, Reopen, Repeat, journals, KeptWorld}
-use Rattle.ledger_laws.specs.Resumed.{IsNoPrepare, BeginsNone, openings, BeginNoPrepare, Recovers}
+use Rattle.ledger_laws.specs.Resumed.{IsNoPrepare, BeginsNoPrepare, openings, BeginNoPrepare, Recovers}
 use Rattle.ledger_laws.proofs.Next.{has_lock, Steady}
 use Rattle.ledger_laws.proofs.FirstWorld.{to_steady, to_kept}
 use Rattle.ledger_laws.proofs.Reaching.{run-append}
@@ -22,7 +22,7 @@ use Rattle.ledger_laws.proofs.Found.{found_grammar}
 use Rattle.ledger_laws.proofs.Writing.{AllLocked, Open, begin-append}
 use Rattle.ledger_laws.proofs.LanePhases.{Rests, lanes_rest}
 use Rattle.run_laws.specs.Laws.{late_records, WorldRecoveryLaw, StuckLaw}
-use Rattle.run_laws.specs.LocksDue.{opened, lacks_lock, LocksFit, IsStuck, IsLock, BeginsLock, BeginLocks, Sticks}
+use Rattle.run_laws.specs.LocksDue.{opened, lacks_lock, LocksFit, IsStuck, IsLock, BeginsOnlyLock, BeginLocks, Sticks}
 use Rattle.run_laws.proofs.Few.{low, few_enough}
 use Rattle.ledger_laws.proofs.Openings.{IsQuiet, Opened, open_all}
 use Rattle.run_laws.proofs.LockWrites.{HasPrepare}
@@ -85,7 +85,7 @@ lock_no_prepare : (r : Record) → IsLock r → IsNoPrepare r
 lock_no_prepare (Prepare stamp b txs) h = absurd h
 lock_no_prepare other h = tt
 
-of_event : (e : Event) → BeginsLock e → BeginsNone e
+of_event : (e : Event) → BeginsOnlyLock e → BeginsNoPrepare e
 of_event (Begin n r) h = lock_no_prepare r h
 of_event (End n) h = tt
 of_event (Crash n kept) h = tt

@@ -50,14 +50,14 @@ IsLock (Lock stamp b es) = Unit {0}
 IsLock other = ⊥
 
 -- the event begins no record but a Lock
-abbrev pub BeginsLock : Event → Type 0
-BeginsLock (Begin n r) = IsLock r
-BeginsLock other = Unit {0}
+abbrev pub BeginsOnlyLock : Event → Type 0
+BeginsOnlyLock (Begin n r) = IsLock r
+BeginsOnlyLock other = Unit {0}
 
 -- the events begin no records but Locks
 abbrev pub BeginLocks : List Event → Type 0
 BeginLocks [] = Unit {0}
-BeginLocks (e ∷ es) = BeginsLock e × BeginLocks es
+BeginLocks (e ∷ es) = BeginsOnlyLock e × BeginLocks es
 
 -- the nodes are opened again, and then Locks alone lead to a kept world in which one more would need a stamp above 2^62
 pub record Sticks (K : Shape) (mint : List Output) (submissions : List FullTx) (kept_at : ℕ → Bool) (w : World) : Type 0 where
