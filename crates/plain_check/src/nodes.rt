@@ -96,8 +96,12 @@ fn write_flight(alloc: Global, own: &mut Node) -> Result<(), AllocError>
 /// nodes are as before.
 pub fn land(alloc: Global, nodes: &mut [Node], node: NodeId, up: bool) -> Result<(), AllocError>
     requires { node < length nodes.old }
-    ensures ok { OnOk result (nodes.new ≡ slice_set nodes.old node (record { journal = flushed
-        (node_at nodes.old node).flight (journals nodes.old node); up = up; flight = None })) }
+    ensures ok { OnOk result (nodes.new ≡ slice_set nodes.old node (record {
+      journal = flushed
+          (node_at nodes.old node).flight (journals nodes.old node);
+      up = up;
+      flight = None;
+    })) }
     ensures err { OnErr result (nodes.new ≡ nodes.old) }
 {
     let own = &mut nodes[node.0 as usize];

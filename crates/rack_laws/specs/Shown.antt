@@ -52,4 +52,3 @@ NodeHasRoom n = used_of n.journal + kept_room n.header.shape n.journal ≤ n.cap
 -- a record in flight there had the room that it needs
 abbrev pub NodeFits : {D : Type 0} → NodeOf D → Type 0
 NodeFits n = IfSome n.flight (λ r. used_of n.journal + need_of n.header.shape n.journal r ≤ n.capacity)
-

@@ -40,8 +40,13 @@ fn memory_ahead<D: Disk>(
 ) -> Result<Vec<Vec<bool>>, AllocError>
     requires { IsShardOpened opened.old }
     ensures shard { IfOk result (λ decisions. (count : ℕ) → count ≤ D.count (disk_of opened.new.log.journal)
-        → IsShardOf (record { log = opened.new.log;
-        core = opened.new.core; decisions = decisions; flight = None; opened = count })) }
+        → IsShardOf (record {
+          log = opened.new.log;
+          core = opened.new.core;
+          decisions = decisions;
+          flight = None;
+          opened = count;
+        })) }
     ensures untouched { IsUntouched opened.old.log opened.new.log }
     ensures records { opened.new.log.records.items ≡ opened.old.log.records.items }
     ensures header { opened.new.log.header ≡ opened.old.log.header }
