@@ -1,6 +1,4 @@
-//! Opens a journal on a real file, and appends records to another one. It prints to standard error how long that took,
-//! and how long a bare loop of the same writes and syncs took. With a word it does so with many records.
-#![tactic(auto)]
+// How long it takes to open a journal on a real file and to append records to another one, and a bare loop of the same writes and syncs.
 
 use cbdc_types::NodeId;
 use gate_journal::Journal;
@@ -8,7 +6,6 @@ use host_devices::{FileDisk, FileRack};
 use mem_devices::PlainDisk;
 use outside::{Disk, Rack};
 use std::alloc::Global;
-use std::env;
 use std::fs::{self, File};
 use std::io::{self, ErrorKind};
 use std::os::unix::fs::FileExt;
@@ -107,11 +104,10 @@ fn measure_loop(rt: &HostRuntime, count: u32) -> io::Result<()> {
     eprintln!(rt; "bare loop of {count}: {seconds} s")
 }
 
-fn main(rt: HostRuntime) -> io::Result<()> {
+/// Opens a journal of so many records, and appends so many to another one and in a bare loop, all in files of the folder `rack`.
+pub fn measure(rt: &HostRuntime, records: u32, appends: u32) -> io::Result<()> {
     let alloc = rt.alloc();
-    let many = env::args(&rt)?.count() > 1;
-    let (records, appends) = if many { (100_000, 2_000) } else { (100, 10) };
-    measure_opening(&rt, alloc, records)?;
-    measure_appends(&rt, alloc, appends)?;
-    measure_loop(&rt, appends)
+    measure_opening(rt, alloc, records)?;
+    measure_appends(rt, alloc, appends)?;
+    measure_loop(rt, appends)
 }

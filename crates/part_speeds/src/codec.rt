@@ -1,6 +1,4 @@
-//! Reads the client files `one` and `eight`, whose transactions have one input each and eight, and writes their
-//! transactions again. It prints to standard error how long that took.
-#![tactic(auto)]
+// How long it takes to read client files, and to write their transactions again.
 
 use cbdc_types::FullTx;
 use client_files::read_clients;
@@ -41,7 +39,8 @@ fn measure(rt: &HostRuntime, name: &str) -> io::Result<()> {
     }
 }
 
-fn main(rt: HostRuntime) -> io::Result<()> {
-    measure(&rt, "one")?;
-    measure(&rt, "eight")
+/// Reads the client files `one` and `eight`, whose transactions have one input each and eight, and writes their transactions again.
+pub fn measure_files(rt: &HostRuntime) -> io::Result<()> {
+    measure(rt, "one")?;
+    measure(rt, "eight")
 }

@@ -1,12 +1,9 @@
-//! Puts hashes into a shard's table and into std's hash map, finds them there and takes them out. It prints to standard error how long
-//! each took, for as many hashes as each word says (100,000 where there is none).
-#![tactic(auto)]
+// How long it takes to put hashes into a shard's table and into std's hash map, to find them there and to take them out.
 
 use cbdc_types::Hash;
 use shard_table::Table;
 use std::alloc::{AllocError, Global};
 use std::collections::HashMap;
-use std::env;
 use std::io::{self, ErrorKind};
 use std::time::Instant;
 
@@ -121,7 +118,8 @@ fn tell(rt: &HostRuntime, name: &str, count: usize, times: &Times) -> io::Result
     Ok(())
 }
 
-fn measure(rt: &HostRuntime, count: u64) -> io::Result<()> {
+/// Measures both with so many hashes.
+pub fn measure(rt: &HostRuntime, count: u64) -> io::Result<()> {
     let hashes = hashes_of(rt.alloc(), count)?;
     let table = measure_table(rt, hashes.as_slice())?;
     tell(rt, "a table", hashes.len(), &table)?;
@@ -137,11 +135,10 @@ fn number(word: &str) -> io::Result<u64> {
     }
 }
 
-fn main(rt: HostRuntime) -> io::Result<()> {
-    let mut asked = false;
-    for word in env::args(&rt)?.skip(1) {
-        measure(&rt, number(word.as_str())?)?;
-        asked = true;
+/// Measures both with as many hashes as each word says.
+pub fn measure_each(rt: &HostRuntime, counts: &[String]) -> io::Result<()> {
+    for count in counts {
+        measure(rt, number(count.as_str())?)?;
     }
-    if asked { Ok(()) } else { measure(&rt, 100_000) }
+    Ok(())
 }
