@@ -1,5 +1,5 @@
 //! Each device once on a real file, and what a gate finds of calls by a clock of its own.
-use crate::{CallTimes, FileInbox, FileRack, StdoutSink};
+use crate::{CallTimes, FileDisk, FileInbox, FileRack, StdoutSink};
 use base_types::{LaneId, NodeId};
 use outside::{Disk, Gate, Inbox, Point, Rack, Sink, When};
 use std::sync::Wait;
@@ -8,30 +8,51 @@ use std::test::Fail;
 use std::time::{Clock, Duration};
 use std::{fs, io};
 
-#[test]
-fn real_files(rt: HostRuntime) -> Result<(), Fail> {
-    let alloc = rt.alloc();
-    let mut rack = FileRack::new(&rt, alloc);
+// The disk of node 987, with three bytes that were written to it and synced.
+fn write_three(rack: &mut FileRack<&HostRuntime>) -> Result<FileDisk, Fail> {
     let mut disk = rack.take(NodeId(987)).ok().ok_or("take")?;
     disk.write_at(0, b"abc").ok().ok_or("write")?;
     disk.sync().ok().ok_or("sync")?;
+    Ok(disk)
+}
+
+// Whether the disk reads as those three bytes.
+fn has_three(disk: &mut FileDisk) -> bool {
     let mut buf = [0u8; 3];
-    assert_eq!(rt; disk.read(0, &mut buf).ok(), Some(3));
-    assert_eq!(rt; &buf, b"abc");
-    assert_eq!(rt; disk.len(), 3);
-    assert_eq!(rt; disk.capacity(), 1 << 40);
-    assert_eq!(rt; disk.faults(), 0);
-    let mut other = FileRack::new(&rt, alloc);
-    assert!(rt; other.take(NodeId(987)).is_err());
+    disk.read(0, &mut buf).ok() == Some(3) && &buf == b"abc" && disk.len() == 3
+}
+
+// Whether another rack is refused the disk until the first has put it back, and then counts that fault.
+fn is_taken_in_turn(
+    rack: &mut FileRack<&HostRuntime>,
+    other: &mut FileRack<&HostRuntime>,
+    disk: FileDisk,
+) -> Result<bool, Fail> {
+    let is_kept_out = other.take(NodeId(987)).is_err();
     rack.put(NodeId(987), disk);
     let disk = other.take(NodeId(987)).ok().ok_or("take again")?;
-    assert_eq!(rt; disk.len(), 3);
-    assert_eq!(rt; disk.faults(), 1);
+    let is_same = disk.len() == 3 && disk.faults() == 1;
     other.put(NodeId(987), disk);
-    let mut inbox = FileInbox::new(&rt);
-    assert_eq!(rt; inbox.read("rack/node-987", 1, &mut buf).ok(), Some(2));
-    assert_eq!(rt; &buf, b"bcc");
-    assert!(rt; inbox.read("rack/none", 0, &mut buf).is_err());
+    Ok(is_kept_out && is_same)
+}
+
+// Whether an inbox reads the last two of its bytes, and nothing of a file that is not there.
+fn is_read_as_file(rt: &HostRuntime) -> bool {
+    let mut inbox = FileInbox::new(rt);
+    let mut buf = [b'a', b'b', b'c'];
+    let two = inbox.read("rack/node-987", 1, &mut buf).ok() == Some(2) && &buf == b"bcc";
+    two && inbox.read("rack/none", 0, &mut buf).is_err()
+}
+
+#[test]
+fn real_files(rt: HostRuntime) -> Result<(), Fail> {
+    let mut rack = FileRack::new(&rt, rt.alloc());
+    let mut other = FileRack::new(&rt, rt.alloc());
+    let mut disk = write_three(&mut rack)?;
+    assert!(rt; has_three(&mut disk));
+    assert_eq!(rt; (disk.capacity(), disk.faults()), (1 << 40, 0));
+    assert!(rt; is_taken_in_turn(&mut rack, &mut other, disk)?);
+    assert!(rt; is_read_as_file(&rt));
     fs::remove_file(&rt, "rack/node-987")?;
     let _ = fs::remove_dir(&rt, "rack");
     let mut sink = StdoutSink::new(&rt);
