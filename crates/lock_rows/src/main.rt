@@ -12,91 +12,137 @@ mod phases;
 mod rows;
 mod shards;
 
+use std::alloc::Global;
 use std::io;
 use std::process::ExitCode;
+use std::sync::Wait;
+use std::thread::Threads;
 
-// Prints whether a row comes to what it should, and tells it.
-fn tell<R: Print>(rt: &R, row: &str, held: Option<bool>) -> io::Result<u32> {
-    let should_hold = !row.starts_with("differs ");
-    if held == Some(should_hold) {
-        println!(rt; "ok {row}")?;
-        Ok(1)
-    } else {
-        println!(rt; "NOT {row}")?;
-        Ok(0)
+/// The rows that were told.
+#[derive(Clone, Copy)]
+struct Tally {
+    /// How many.
+    told: u32,
+    /// How many came to what they should, and were printed.
+    held: u32,
+}
+
+impl Tally {
+    // Prints whether a row comes to what it should, and counts it.
+    fn tell<R: Print>(&mut self, rt: &R, row: &str, held: Option<bool>) {
+        self.told = self.told.saturating_add(1);
+        let should_hold = !row.starts_with("differs ");
+        let is_so = held == Some(should_hold);
+        let word = if is_so { "ok" } else { "NOT" };
+        if println!(rt; "{word} {row}").is_ok() && is_so {
+            self.held = self.held.saturating_add(1);
+        }
     }
+}
+
+// The lock round a node.
+fn tell_locks<R: Print + Threads + Wait + Sync>(rt: &R, alloc: Global, tally: &mut Tally) {
+    tally.tell(
+        rt,
+        "row two lanes on a thread each make 100 calls: 201 records, 100 of each lane, each in its order",
+        rows::two_threads(rt, alloc),
+    );
+    tally.tell(
+        rt,
+        "row a lane that wrote looks and sees what it wrote, and so does one that only looks",
+        rows::looks(rt, alloc),
+    );
+    tally.tell(
+        rt,
+        "row each of two lanes waits before its call until the other has made its own",
+        rows::beside_each_other(rt, alloc),
+    );
+    tally.tell(
+        rt,
+        "row a lane waits for its turn while another keeps the node for long",
+        rows::waits(rt, alloc),
+    );
+    tally.tell(
+        rt,
+        "row while a lane has the node another that waits for it does not pass the gate inside it",
+        rows::keeps_out(rt, alloc),
+    );
+    tally.tell(
+        rt,
+        "row a call passes the gate before it has the node, while it has it, and after",
+        rows::three_points(rt, alloc),
+    );
+}
+
+// A shard behind its lock.
+fn tell_shards<R: Print + Threads + Wait + Sync>(rt: &R, alloc: Global, tally: &mut Tally) {
+    tally.tell(
+        rt,
+        "row a lane that made a Finish looks and sees the output unspent, and so does another then; before the Finish it is absent",
+        shards::shows_output(rt, alloc, true),
+    );
+    tally.tell(
+        rt,
+        "differs a Finish that commits nothing makes an output",
+        shards::shows_output(rt, alloc, false),
+    );
+    tally.tell(
+        rt,
+        "row two lanes at a shard that stands on no disk and takes no batch: a Lock and a Finish are not done, and both lanes look and see the output absent",
+        shards::takes_none(rt, alloc),
+    );
+}
+
+// A sentinel ahead of a lane.
+fn tell_sentinels<R: Print + Threads + Wait + Sync>(rt: &R, alloc: Global, tally: &mut Tally) {
+    tally.tell(
+        rt,
+        "row a sentinel ahead of a lane sends three messages for three submissions, in their order, the second with its refusal, and then no more",
+        feeding::sends_three(rt, alloc),
+    );
+    tally.tell(
+        rt,
+        "row the sentinels ahead of two lanes send those of three submissions that go to their lane: the first and the third, and the second",
+        feeding::send_their_own(rt, alloc),
+    );
+    tally.tell(
+        rt,
+        "row a lane whose sentinel sends, one whose sentinel was dropped before its first message and one that has none get the same transactions",
+        feeding::has_the_same(rt, alloc),
+    );
+    tally.tell(
+        rt,
+        "row the sentinel of a lane that has let go of it ends at its first message, and passes its gate three times for three where the lane has not",
+        feeding::ends_with_its_lane(rt, alloc),
+    );
+}
+
+// The calls of a phase.
+fn tell_phases<R: Print + Threads + Wait + Sync>(rt: &R, alloc: Global, tally: &mut Tally) {
+    tally.tell(
+        rt,
+        "row three lock calls at once, the second at a shard without room and the third at one without the coin: held, full, missing, in the order of the shards, and the first and third have a Lock",
+        phases::second_is_full(rt, alloc),
+    );
+    tally.tell(
+        rt,
+        "row a phase of no call: nothing is answered, and no shard has a record more",
+        phases::asks_none(rt, alloc),
+    );
 }
 
 fn main(rt: HostRuntime) -> io::Result<ExitCode> {
     let alloc = rt.alloc();
-    let told = [
-        (
-            "row two lanes on a thread each make 100 calls: 201 records, 100 of each lane, each in its order",
-            rows::two_threads(&rt, alloc),
-        ),
-        (
-            "row a lane that wrote looks and sees what it wrote, and so does one that only looks",
-            rows::looks(&rt, alloc),
-        ),
-        (
-            "row each of two lanes waits before its call until the other has made its own",
-            rows::beside_each_other(&rt, alloc),
-        ),
-        (
-            "row a lane waits for its turn while another keeps the node for long",
-            rows::waits(&rt, alloc),
-        ),
-        (
-            "row while a lane has the node another that waits for it does not pass the gate inside it",
-            rows::keeps_out(&rt, alloc),
-        ),
-        (
-            "row a call passes the gate before it has the node, while it has it, and after",
-            rows::three_points(&rt, alloc),
-        ),
-        (
-            "row a lane that made a Finish looks and sees the output unspent, and so does another then; before the Finish it is absent",
-            shards::shows_output(&rt, alloc, true),
-        ),
-        (
-            "differs a Finish that commits nothing makes an output",
-            shards::shows_output(&rt, alloc, false),
-        ),
-        (
-            "row two lanes at a shard that stands on no disk and takes no batch: a Lock and a Finish are not done, and both lanes look and see the output absent",
-            shards::takes_none(&rt, alloc),
-        ),
-        (
-            "row a sentinel ahead of a lane sends three messages for three submissions, in their order, the second with its refusal, and then no more",
-            feeding::sends_three(&rt, alloc),
-        ),
-        (
-            "row the sentinels ahead of two lanes send those of three submissions that go to their lane: the first and the third, and the second",
-            feeding::send_their_own(&rt, alloc),
-        ),
-        (
-            "row a lane whose sentinel sends, one whose sentinel was dropped before its first message and one that has none get the same transactions",
-            feeding::has_the_same(&rt, alloc),
-        ),
-        (
-            "row the sentinel of a lane that has let go of it ends at its first message, and passes its gate three times for three where the lane has not",
-            feeding::ends_with_its_lane(&rt, alloc),
-        ),
-        (
-            "row three lock calls at once, the second at a shard without room and the third at one without the coin: held, full, missing, in the order of the shards, and the first and third have a Lock",
-            phases::second_is_full(&rt, alloc),
-        ),
-        (
-            "row a phase of no call: nothing is answered, and no shard has a record more",
-            phases::asks_none(&rt, alloc),
-        ),
-    ];
-    let mut held = 0u32;
-    for (row, holds) in told {
-        held = held.saturating_add(tell(&rt, row, holds)?);
-    }
-    println!(&rt; "{held} of 15 rows came to what they should")?;
-    if held == 15 {
+    let mut tally = Tally { told: 0, held: 0 };
+    tell_locks(&rt, alloc, &mut tally);
+    tell_shards(&rt, alloc, &mut tally);
+    tell_sentinels(&rt, alloc, &mut tally);
+    tell_phases(&rt, alloc, &mut tally);
+    println!(&rt;
+        "{} of {} rows came to what they should",
+        tally.held, tally.told
+    )?;
+    if tally.held == tally.told {
         Ok(ExitCode::from(0))
     } else {
         Ok(ExitCode::from(1))
