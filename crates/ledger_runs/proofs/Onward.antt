@@ -47,7 +47,7 @@ waits_stay K lane turn apart E J L grown (phase, none) =
 -- or from an earlier entry, since which nothing of it was written
 waits_since : (K : Shape) (lane : ℕ) (E J L : ℕ → List Record) → IsLaneUntouched lane E J → LaneWaits K lane J L → LaneWaits K lane E L
 waits_since K lane E J L none (phase, still) =
-    (phase, still ∙ (prepared_own lane (J (home_of K lane)) ∙ ap batches.prepared (none (home_of K lane)) ∙ sym (prepared_own lane (E (home_of K lane)))))
+    (phase, still ∙ (prepared_own lane (J (home_of K lane)) ∙ ap batches.prepares_txs (none (home_of K lane)) ∙ sym (prepared_own lane (E (home_of K lane)))))
 
 -- a lane rests while another goes on
 rests_stay : (K : Shape) (lane turn : ℕ) → turn ≢ lane → (J L : ℕ → List Record) (failed fails : ℕ → Type 0) → GrowBy turn J L → ((n : ℕ) → failed n → fails n) → LaneRests K lane J failed → LaneRests K lane L fails

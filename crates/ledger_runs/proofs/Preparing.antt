@@ -16,7 +16,7 @@ use Rattle.ledger_runs.proofs.Others.{own_same}
 
 pub same_prepared : (lane other : ℕ) → other ≢ lane → (J X : ℕ → List Record) → GrowBy other J X → (n : ℕ) → prepared lane (X n) ≡ prepared lane (J n)
 same_prepared lane other apart J X grown n =
-    prepared_own lane (X n) ∙ ap batches.prepared (own_same lane other apart J X grown n) ∙ sym (prepared_own lane (J n))
+    prepared_own lane (X n) ∙ ap batches.prepares_txs (own_same lane other apart J X grown n) ∙ sym (prepared_own lane (J n))
 
 -- a lane that resumed has prepared nothing, and no other lane has
 pub resumed_none : (K H : Shape) (lane : ℕ) (E J L : ℕ → List Record) → H ≡ K → SamePrepared K E J → GrowBy lane J L → HasPreparedPieces H lane [] J L → SamePrepared K E L

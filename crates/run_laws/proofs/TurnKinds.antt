@@ -42,22 +42,22 @@ prepared_out : (lane : ℕ) (r : Record) (J : List Record) → is_in_lane lane r
 prepared_out lane (Prepare stamp b txs) J h = rw h
 prepared_out lane other J h = refl
 
-prepared_here : (lane : ℕ) (r : Record) (I J : List Record) → is_in_lane lane r ≡ true → prepared lane J ≡ batches.prepared I → prepared lane (r ∷ J) ≡ batches.prepared (r ∷ I)
+prepared_here : (lane : ℕ) (r : Record) (I J : List Record) → is_in_lane lane r ≡ true → prepared lane J ≡ batches.prepares_txs I → prepared lane (r ∷ J) ≡ batches.prepares_txs (r ∷ I)
 prepared_here lane (Prepare stamp b txs) I J l h = rw l (ap (λ x. txs ∷ x) h)
 prepared_here lane other I J l h = h
 
 pub prepared_own : (lane : ℕ) (J : List Record) → prepared lane J ≡ prepared_of lane J
 prepared_own lane [] = refl
 prepared_own lane (r ∷ J) = elim (is_in_lane lane r) as (λ t. is_in_lane lane r ≡ t → prepared lane (r ∷ J) ≡ prepared_of lane (r ∷ J)) [
-  | true ↦ λ t. prepared_here lane r (own lane J) J t (prepared_own lane J) ∙ ap batches.prepared (sym (own_in lane r J t))
-  | false ↦ λ t. prepared_out lane r J t ∙ prepared_own lane J ∙ ap batches.prepared (sym (own_out lane r J t))
+  | true ↦ λ t. prepared_here lane r (own lane J) J t (prepared_own lane J) ∙ ap batches.prepares_txs (sym (own_in lane r J t))
+  | false ↦ λ t. prepared_out lane r J t ∙ prepared_own lane J ∙ ap batches.prepares_txs (sym (own_out lane r J t))
 ] refl
 
 module _ (K : Shape) (lane : ℕ) (logs shards logs' shards' : ℕ → Sight) (home : home_of K lane < K.coordinators) where
   prepared_done : (k : ℕ) (txs : List Compact) (b : Batch) (os : List Outcome) → BatchDone K true lane k txs (logs (home_of K lane)) shards (logs' (home_of K lane)) shards' b os
       → prepared lane (logs' (home_of K lane)).seen ≡ txs ∷ prepared lane (logs (home_of K lane)).seen
   prepared_done k txs b os d =
-      prepared_own lane (logs' (home_of K lane)).seen ∙ ap batches.prepared d.grew.log_is ∙ ap (λ x. txs ∷ x) (sym (prepared_own lane (logs (home_of K lane)).seen))
+      prepared_own lane (logs' (home_of K lane)).seen ∙ ap batches.prepares_txs d.grew.log_is ∙ ap (λ x. txs ∷ x) (sym (prepared_own lane (logs (home_of K lane)).seen))
 
   prepared_stopped : (txs : List Compact) (node : ℕ) (f : NodeFault) → BatchStopped K true lane txs (logs (home_of K lane)) shards (logs' (home_of K lane)) shards' node f
       → (prepared lane (logs' (home_of K lane)).seen ≡ prepared lane (logs (home_of K lane)).seen)
