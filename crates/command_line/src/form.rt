@@ -2,59 +2,78 @@
 
 ghost use Rattle.std.specs.Prelude.{◌≡◌, codes, IfOk};
 ghost use Rattle.clap.specs.Words.{app_of, new_app};
-ghost use Rattle.command_line.specs.Command.{IsArg, IsLeaf, IsTop, with_settings, shards_rule, coordinators_rule, lanes_rule, batch_rule, mint_rule, verdicts_rule, repeats_rule, client_rule, audit_client_rule, hash_rule, topic_rule, seed_rule, count_rule, nodes_shape, sized_shape, init_shape, run_shape, recover_shape, status_shape, audit_shape, sized_gen_shape, gen_shape, help_shape, with_run, with_status, with_gen, hamilton};
+ghost use Rattle.command_line.specs.Command.{required, one_or_more, option, IsArg, IsLeaf, IsTop, with_settings, shards_rule, coordinators_rule, lanes_rule, batch_rule, mint_rule, verdicts_rule, repeats_rule, client_rule, audit_client_rule, hash_rule, topic_rule, seed_rule, count_rule, nodes_shape, sized_shape, init_shape, run_shape, recover_shape, status_shape, audit_shape, sized_gen_shape, gen_shape, help_shape, with_run, with_status, with_gen, hamilton};
 
 use crate::help;
 use clap::{Arg, Command};
 use std::alloc::{AllocError, Global};
 
+// An option with a value, and its value where it is left out.
+fn option_arg<'a>(
+    alloc: Global,
+    name: &'a str,
+    value: &'a str,
+    default: &'a str,
+    help: &'a str,
+) -> Arg<'a>
+    ensures { IsArg result (option name.now default.now) }
+{
+    Arg::new(alloc, name)
+        .long(name)
+        .value_name(value)
+        .default_value(default)
+        .help(help)
+}
+
+// A word that has to be there.
+fn required_arg<'a>(alloc: Global, name: &'a str, value: &'a str, help: &'a str) -> Arg<'a>
+    ensures { IsArg result (required name.now) }
+{
+    Arg::new(alloc, name)
+        .required(true)
+        .value_name(value)
+        .help(help)
+}
+
+// One word or more.
+fn words_arg<'a>(alloc: Global, name: &'a str, value: &'a str, help: &'a str) -> Arg<'a>
+    ensures { IsArg result (one_or_more name.now) }
+{
+    Arg::new(alloc, name)
+        .required(true)
+        .num_args(1..)
+        .value_name(value)
+        .help(help)
+}
+
 fn shards_arg<'a>(alloc: Global, default: &'a str) -> Arg<'a>
     ensures { IsArg result (shards_rule default.now) }
 {
-    Arg::new(alloc, "shards")
-        .long("shards")
-        .value_name("N")
-        .default_value(default)
-        .help("How many shards, 1 to 64")
+    option_arg(alloc, "shards", "N", default, help::shards())
 }
 
 fn coordinators_arg<'a>(alloc: Global, default: &'a str) -> Arg<'a>
     ensures { IsArg result (coordinators_rule default.now) }
 {
-    Arg::new(alloc, "coordinators")
-        .long("coordinators")
-        .value_name("N")
-        .default_value(default)
-        .help("How many coordinators, 1 to 16")
+    option_arg(alloc, "coordinators", "N", default, help::coordinators())
 }
 
 fn lanes_arg<'a>(alloc: Global, default: &'a str) -> Arg<'a>
     ensures { IsArg result (lanes_rule default.now) }
 {
-    Arg::new(alloc, "lanes")
-        .long("lanes")
-        .value_name("N")
-        .default_value(default)
-        .help("How many lanes each coordinator has, 1 to 16")
+    option_arg(alloc, "lanes", "N", default, help::lanes())
 }
 
 fn batch_arg<'a>(alloc: Global, default: &'a str) -> Arg<'a>
     ensures { IsArg result (batch_rule default.now) }
 {
-    Arg::new(alloc, "batch")
-        .long("batch")
-        .value_name("N")
-        .default_value(default)
-        .help("How many transactions a batch has at most, 1 to 1024")
+    option_arg(alloc, "batch", "N", default, help::batch())
 }
 
 fn mint_arg<'a>(alloc: Global) -> Arg<'a>
     ensures { IsArg result mint_rule }
 {
-    Arg::new(alloc, "mint")
-        .required(true)
-        .value_name("MINT")
-        .help("The file of the outputs to begin with")
+    required_arg(alloc, "mint", "MINT", help::mint())
 }
 
 fn verdicts_arg<'a>(alloc: Global) -> Arg<'a>
@@ -64,27 +83,19 @@ fn verdicts_arg<'a>(alloc: Global) -> Arg<'a>
         .long("verdicts")
         .required(true)
         .value_name("FILE")
-        .help("The file of the verdicts on witnesses")
+        .help(help::verdicts())
 }
 
 fn repeats_arg<'a>(alloc: Global) -> Arg<'a>
     ensures { IsArg result repeats_rule }
 {
-    Arg::new(alloc, "repeats")
-        .long("repeats")
-        .value_name("K")
-        .default_value("0")
-        .help("How many times more each call of a new batch at a shard is made, 0 to 3")
+    option_arg(alloc, "repeats", "K", "0", help::repeats())
 }
 
 fn client_arg<'a>(alloc: Global) -> Arg<'a>
     ensures { IsArg result client_rule }
 {
-    Arg::new(alloc, "client")
-        .required(true)
-        .num_args(1..)
-        .value_name("CLIENT")
-        .help("The files of the transactions to run, one after another")
+    words_arg(alloc, "client", "CLIENT", help::clients())
 }
 
 fn rest_arg<'a>(alloc: Global) -> Arg<'a>
@@ -93,35 +104,25 @@ fn rest_arg<'a>(alloc: Global) -> Arg<'a>
     Arg::new(alloc, "client")
         .num_args(1..)
         .value_name("CLIENT")
-        .help("The files of the transactions that were run")
+        .help(help::audit_clients())
 }
 
 fn hash_arg<'a>(alloc: Global) -> Arg<'a>
     ensures { IsArg result hash_rule }
 {
-    Arg::new(alloc, "hash")
-        .required(true)
-        .num_args(1..)
-        .value_name("HASH")
-        .help("The hashes to look up, each of 64 hexadecimal digits")
+    words_arg(alloc, "hash", "HASH", help::hashes())
 }
 
 fn seed_arg<'a>(alloc: Global) -> Arg<'a>
     ensures { IsArg result seed_rule }
 {
-    Arg::new(alloc, "seed")
-        .required(true)
-        .value_name("SEED")
-        .help("The number that the workload is made from, 0 to 18446744073709551615")
+    required_arg(alloc, "seed", "SEED", help::seed())
 }
 
 fn count_arg<'a>(alloc: Global) -> Arg<'a>
     ensures { IsArg result count_rule }
 {
-    Arg::new(alloc, "count")
-        .required(true)
-        .value_name("N")
-        .help("How many transactions the workload has, 1 to 10000")
+    required_arg(alloc, "count", "N", help::count())
 }
 
 fn topic_arg<'a>(alloc: Global) -> Arg<'a>
@@ -129,7 +130,7 @@ fn topic_arg<'a>(alloc: Global) -> Arg<'a>
 {
     Arg::new(alloc, "command")
         .value_name("COMMAND")
-        .help("The command to print the help of")
+        .help(help::topic())
 }
 
 // What the options of a ledger's shape are where they are left out.
@@ -218,7 +219,7 @@ fn run_command<'a>(alloc: Global) -> Result<Command<'a>, AllocError>
     ensures { IfOk result (λ c. IsLeaf c run_shape) }
 {
     Command::new(alloc, "run")
-        .about("Finishes what is open, and runs the transactions of files")
+        .about(help::about_run())
         .after_help(help::of_run())
         .arg(verdicts_arg(alloc))?
         .arg(repeats_arg(alloc))?
@@ -229,7 +230,7 @@ fn recover_command<'a>(alloc: Global) -> Command<'a>
     ensures { IsLeaf result recover_shape }
 {
     Command::new(alloc, "recover")
-        .about("Finishes the batches that are open")
+        .about(help::about_recover())
         .after_help(help::of_recover())
 }
 
@@ -237,7 +238,7 @@ fn status_command<'a>(alloc: Global) -> Result<Command<'a>, AllocError>
     ensures { IfOk result (λ c. IsLeaf c status_shape) }
 {
     Command::new(alloc, "status")
-        .about("Tells whether hashes are unspent, locked or absent")
+        .about(help::about_status())
         .after_help(help::of_status())
         .arg(hash_arg(alloc))
 }
@@ -246,7 +247,7 @@ fn audit_command<'a>(alloc: Global) -> Result<Command<'a>, AllocError>
     ensures { IfOk result (λ c. IsLeaf c audit_shape) }
 {
     Command::new(alloc, "audit")
-        .about("Checks the journals and what they commit from the first record on")
+        .about(help::about_audit())
         .after_help(help::of_audit())
         .arg(mint_arg(alloc))?
         .arg(rest_arg(alloc))
@@ -256,7 +257,7 @@ fn help_command<'a>(alloc: Global) -> Result<Command<'a>, AllocError>
     ensures { IfOk result (λ c. IsLeaf c help_shape) }
 {
     Command::new(alloc, "help")
-        .about("Prints this text, or that of a command")
+        .about(help::about_help())
         .arg(topic_arg(alloc))
 }
 
@@ -265,7 +266,7 @@ fn top<'a>(alloc: Global) -> Command<'a>
     ensures { IsTop result (with_settings (new_app (codes "hamilton"))) }
 {
     Command::new(alloc, "hamilton")
-        .about("Keeps a ledger of unspent outputs, and runs transactions on it")
+        .about(help::about_all())
         .after_help(help::of_all())
         .version("0.1.0")
         .subcommand_required(true)

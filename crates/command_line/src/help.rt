@@ -104,3 +104,98 @@ Exit status:
   11  standard output cannot be written
   13  out of memory"
 }
+
+// What stands beside this argument in a help text.
+pub(crate) fn shards<'a>() -> &'a str {
+    "How many shards, 1 to 64"
+}
+
+// What stands beside this argument in a help text.
+pub(crate) fn coordinators<'a>() -> &'a str {
+    "How many coordinators, 1 to 16"
+}
+
+// What stands beside this argument in a help text.
+pub(crate) fn lanes<'a>() -> &'a str {
+    "How many lanes each coordinator has, 1 to 16"
+}
+
+// What stands beside this argument in a help text.
+pub(crate) fn batch<'a>() -> &'a str {
+    "How many transactions a batch has at most, 1 to 1024"
+}
+
+// What stands beside this argument in a help text.
+pub(crate) fn mint<'a>() -> &'a str {
+    "The file of the outputs to begin with"
+}
+
+// What stands beside this argument in a help text.
+pub(crate) fn verdicts<'a>() -> &'a str {
+    "The file of the verdicts on witnesses"
+}
+
+// What stands beside this argument in a help text.
+pub(crate) fn repeats<'a>() -> &'a str {
+    "How many times more each call of a new batch at a shard is made, 0 to 3"
+}
+
+// What stands beside this argument in a help text.
+pub(crate) fn clients<'a>() -> &'a str {
+    "The files of the transactions to run, one after another"
+}
+
+// What stands beside this argument in a help text.
+pub(crate) fn audit_clients<'a>() -> &'a str {
+    "The files of the transactions that were run"
+}
+
+// What stands beside this argument in a help text.
+pub(crate) fn hashes<'a>() -> &'a str {
+    "The hashes to look up, each of 64 hexadecimal digits"
+}
+
+// What stands beside this argument in a help text.
+pub(crate) fn seed<'a>() -> &'a str {
+    "The number that the workload is made from, 0 to 18446744073709551615"
+}
+
+// What stands beside this argument in a help text.
+pub(crate) fn count<'a>() -> &'a str {
+    "How many transactions the workload has, 1 to 10000"
+}
+
+// What stands beside this argument in a help text.
+pub(crate) fn topic<'a>() -> &'a str {
+    "The command to print the help of"
+}
+
+// What the command does, in the first line of its help text.
+pub(crate) fn about_run() -> &'static str {
+    "Finishes what is open, and runs the transactions of files"
+}
+
+// What the command does, in the first line of its help text.
+pub(crate) fn about_recover() -> &'static str {
+    "Finishes the batches that are open"
+}
+
+// What the command does, in the first line of its help text.
+pub(crate) fn about_status() -> &'static str {
+    "Tells whether hashes are unspent, locked or absent"
+}
+
+// What the command does, in the first line of its help text.
+pub(crate) fn about_audit() -> &'static str {
+    "Checks the journals and what they commit from the first record on"
+}
+
+// What the command does, in the first line of its help text.
+pub(crate) fn about_help() -> &'static str {
+    "Prints this text, or that of a command"
+}
+
+// What the command does, in the first line of its help text.
+pub(crate) fn about_all() -> &'static str {
+    "Keeps a ledger of unspent outputs, and runs transactions on it"
+}
