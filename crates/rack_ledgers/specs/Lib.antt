@@ -1,6 +1,7 @@
 pub mod Once
 pub mod Refusals
 pub mod Places
+pub mod Others
 pub mod Asked
 pub mod Refused
 pub mod Blank

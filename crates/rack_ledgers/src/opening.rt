@@ -4,6 +4,7 @@ ghost use Rattle.std.specs.Option.{option_copied};
 ghost use Rattle.cbdc_types.specs.Limits.{IsWithinLimits};
 ghost use Rattle.coord_log.specs.Opening.{IsCoord};
 ghost use Rattle.rack_ledgers.specs.Places.{EachFrom, MayReturn};
+ghost use Rattle.rack_ledgers.specs.Others.{KeepsOthers};
 ghost use Rattle.rack_ledgers.specs.Racked.{OfTold, IsDiskBack, AreBack};
 ghost use Rattle.rack_ledgers.specs.Refused.{IsNodeRefusal};
 ghost use Rattle.rack_ledgers.specs.Ledgers.{ByPlace, IsNodeAt, AreOpened, IsMintOf, IsOtherMint, IsUnledBy, IsUnopened, IsUnopenedBy};
@@ -53,11 +54,9 @@ fn open_lead<R: Rack>(
     ensures kind { IfErr result IsNodeRefusal }
     ensures held { OnErr result (IsDiskBack R.Disk.Disk
         (R.count rack.old 0) (R.count rack.new 0) (R.held rack.old 0) (R.held rack.new 0)) }
-    ensures others_held { (n : ℕ) → n ≢ 0 → R.held rack.new n ≡ R.held rack.old n }
     ensures out { IfOk result (MayReturn (λ x. R.Disk.count x.disk) (R.can_put rack.new) 0) }
     ensures back { OnErr result (R.can_take rack.new 0) }
-    ensures others_in { (n : ℕ) → n ≢ 0 → R.can_take rack.old n → R.can_take rack.new n }
-    ensures later { (n : ℕ) → R.count rack.old n ≤ R.count rack.new n }
+    ensures others { KeepsOthers R.Rack 0 1 rack.old rack.new }
 {
     let lead: CoordLog<R::Disk> = match open_one(alloc, rack, NodeId(0), None) {
         Ok(lead) => lead,
@@ -82,12 +81,10 @@ fn lead_alone<R: Rack>(
     ensures memory { IfErr result (λ e. e ≡ Answer.Memory) }
     ensures alone { IfOk result (λ v. v.items ≡ lead ∷ []) }
     ensures closed { OnErr result (OfTold (R.held rack.new 0) (λ now. now ≡ lead.disk)) }
-    ensures others_held { (n : ℕ) → 1 ≤ n → R.held rack.new n ≡ R.held rack.old n }
     ensures out { IfOk result
         (λ v. EachFrom (MayReturn (λ x. R.Disk.count x.disk) (R.can_put rack.new)) 0 v.items) }
     ensures back { OnErr result (R.can_take rack.new 0) }
-    ensures others_in { (n : ℕ) → 1 ≤ n → R.can_take rack.old n → R.can_take rack.new n }
-    ensures later { (n : ℕ) → R.count rack.old n ≤ R.count rack.new n }
+    ensures others { KeepsOthers R.Rack 0 1 rack.old rack.new }
 {
     let mut logs = Vec::new(alloc);
     match logs.push(lead) {

@@ -19,14 +19,14 @@ close_all-requires-clause-out g c =
     let P = MayReturn (λ x. g.R.Disk.Disk.count x.disk) (g.R.Rack.can_put c.open_logs.new.rack) in
     let Q = MayReturn (λ x. g.R.Disk.Disk.count x.disk) (g.R.Rack.can_put c.open_at_once.new.rack) in
     each_weaker P Q 0 c.in-Ok.opened.1.items
-    (λ k d ge lt may m le. c.open_at_once.ensures.others_out k m (inl (omega (arith, lt, c.in-Ok.ensures.logs.0, c.coordinators-first.ensures.value))) (may m le)) c.in-Ok.ensures.logs.1
+    (λ k d ge lt may m le. c.open_at_once.ensures.others.puts k m (inl (omega (arith, lt, c.in-Ok.ensures.logs.0, c.coordinators-first.ensures.value))) (may m le)) c.in-Ok.ensures.logs.1
 
 pub returns-in-Ok-open_at_once-clause-logs : goal.returns-in-Ok-open_at_once-clause-logs
 returns-in-Ok-open_at_once-clause-logs g c =
     let P = MayReturn (λ x. g.R.Disk.Disk.count x.disk) (g.R.Rack.can_put c.open_logs.new.rack) in
     let Q = MayReturn (λ x. g.R.Disk.Disk.count x.disk) (g.R.Rack.can_put c.open_at_once.new.rack) in
     each_weaker P Q 0 c.in-Ok.opened.1.items
-    (λ k d ge lt may m le. c.open_at_once.ensures.others_out k m (inl (omega (arith, lt, c.in-Ok.ensures.logs.0, c.coordinators-first.ensures.value))) (may m le)) c.in-Ok.ensures.logs.1
+    (λ k d ge lt may m le. c.open_at_once.ensures.others.puts k m (inl (omega (arith, lt, c.in-Ok.ensures.logs.0, c.coordinators-first.ensures.value))) (may m le)) c.in-Ok.ensures.logs.1
 
 pub returns-in-Ok-open_at_once-clause-shards : goal.returns-in-Ok-open_at_once-clause-shards
 returns-in-Ok-open_at_once-clause-shards g c =
@@ -35,16 +35,16 @@ returns-in-Ok-open_at_once-clause-shards g c =
 
 pub returns-in-Ok-open_at_once-clause-others_in : goal.returns-in-Ok-open_at_once-clause-others_in
 returns-in-Ok-open_at_once-clause-others_in g c = λ n ge.
-    c.in-Ok-open_at_once.ensures.others_in n (inr (omega (arith, ge, c.in-Ok-open_at_once.ensures.all, c.in-Ok.ensures.logs.0, c.coordinators-first.ensures.value)))
+    c.in-Ok-open_at_once.ensures.others.takes n (inr (omega (arith, ge, c.in-Ok-open_at_once.ensures.all, c.in-Ok.ensures.logs.0, c.coordinators-first.ensures.value)))
     (c.in-Ok.ensures.others_in n (omega (arith, ge, c.in-Ok.ensures.logs.0)))
 
 pub returns-in-Ok-open_at_once-clause-others_held : goal.returns-in-Ok-open_at_once-clause-others_held
 returns-in-Ok-open_at_once-clause-others_held g c = λ n ge.
-    c.in-Ok-open_at_once.ensures.others_held n (inr (omega (arith, ge, c.in-Ok-open_at_once.ensures.all, c.in-Ok.ensures.logs.0, c.coordinators-first.ensures.value)))
+    c.in-Ok-open_at_once.ensures.others.held n (inr (omega (arith, ge, c.in-Ok-open_at_once.ensures.all, c.in-Ok.ensures.logs.0, c.coordinators-first.ensures.value)))
     ∙ c.in-Ok.ensures.others_held n (omega (arith, ge, c.in-Ok.ensures.logs.0))
 
 pub returns-in-Ok-open_at_once-clause-later : goal.returns-in-Ok-open_at_once-clause-later
-returns-in-Ok-open_at_once-clause-later g c = λ n. omega (arith, c.open_logs.ensures.later n, c.open_at_once.ensures.later n)
+returns-in-Ok-open_at_once-clause-later g c = λ n. omega (arith, c.open_logs.ensures.later n, c.open_at_once.ensures.others.later n)
 
 pub returns-in-Ok-open_at_once-clause-opened : goal.returns-in-Ok-open_at_once-clause-opened
 returns-in-Ok-open_at_once-clause-opened g c =
@@ -67,7 +67,7 @@ returns-in-Err-open_at_once-clause-refusal g c =
     (g.R.Rack.count c.args.rack.now) (g.R.Rack.count c.open_logs.new.rack) (g.R.Rack.count c.open_at_once.new.rack) (g.R.Rack.count c.close_all.new.rack)
     c.in-Ok.opened.0 c.in-Ok.opened.1.items (option_copied c.args.id) (c.coordinators-first.result + length c.new.result.items) (c.coordinators-first.result + c.shards-count.result) c.in-Err-open_at_once.fault
     (omega (arith, ap length c.new.ensures.items, c.coordinators-first.ensures.value)) (omega (arith, c.coordinators-first.ensures.value, c.shards-count.ensures.value))
-    c.in-Ok.ensures.others_held (λ n. c.in-Ok.ensures.later n) (λ n. c.close_all.ensures.later n)
+    c.in-Ok.ensures.others_held (λ n. c.in-Ok.ensures.later n) (λ n. c.close_all.ensures.others.later n)
     c.in-Ok.ensures.first.0 c.in-Ok.ensures.first.1 c.in-Ok.ensures.minted c.in-Ok.ensures.logs.0 c.in-Ok.ensures.opened
     c.in-Err-open_at_once.ensures.refusal)
 
@@ -80,15 +80,15 @@ returns-in-Err-open_at_once-clause-held g c =
     let after = g.R.Rack.count c.close_all.new.rack in
     back_parts g.R.Disk.Disk before after (g.R.Rack.count c.open_logs.new.rack) (g.R.Rack.count c.open_at_once.new.rack) (g.R.Rack.held c.args.rack.now) (g.R.Rack.held c.open_logs.new.rack) (g.R.Rack.held c.close_all.new.rack)
     c.in-Ok.opened.0.shape.coordinators (c.coordinators-first.result + c.shards-count.result)
-    c.in-Ok.ensures.later c.close_all.ensures.later
+    c.in-Ok.ensures.later c.close_all.ensures.others.later
     c.in-Ok.ensures.others_held
     (λ n small. by_two (IsNodeAt g.R.Disk.Disk (g.R.Rack.held c.args.rack.now) IsCoord c.in-Ok.opened.0) Q
     (λ k. IsDiskBack g.R.Disk.Disk (before k) (after k) (g.R.Rack.held c.args.rack.now k) (g.R.Rack.held c.close_all.new.rack k)) c.in-Ok.opened.1.items
     (λ k x is put. node_back g.R.Disk.Disk IsCoord (g.R.Rack.held c.args.rack.now) (g.R.Rack.held c.close_all.new.rack) (before k) (after k) c.in-Ok.opened.0 k x is put)
     c.in-Ok.ensures.opened (by_place Q c.in-Ok.opened.1.items c.close_all.ensures.closed) n (omega (arith, small, count)))
     (λ n ge lt was is now is_now. c.in-Err-open_at_once.ensures.held n (omega (arith, ge, first, ap length c.new.ensures.items)) lt was is now
-    (sym (c.close_all.ensures.others_held n (inr (omega (arith, ge, count)))) ∙ is_now))
-    (λ n ge above. c.close_all.ensures.others_held n (inr (omega (arith, ge, count))) ∙ c.in-Err-open_at_once.ensures.others_held n (inr (omega (arith, above))))
+    (sym (c.close_all.ensures.others.held n (inr (omega (arith, ge, count)))) ∙ is_now))
+    (λ n ge above. c.close_all.ensures.others.held n (inr (omega (arith, ge, count))) ∙ c.in-Err-open_at_once.ensures.others.held n (inr (omega (arith, above))))
 
 pub returns-in-Err-clause-refusal : goal.returns-in-Err-clause-refusal
 returns-in-Err-clause-refusal g c = inl c.in-Err.ensures.refusal
