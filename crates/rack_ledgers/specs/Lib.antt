@@ -9,6 +9,7 @@ pub mod Racked
 pub mod First
 pub mod Fresh
 pub mod Ledgers
+pub mod Opened
 pub mod Slots
 pub mod Caused
 pub mod RefusalLaws

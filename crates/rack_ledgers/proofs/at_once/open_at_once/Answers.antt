@@ -69,8 +69,8 @@ returns-in-Err-clause-held g c = λ k ge lt was is now is_now.
     back_later d {before = before} {mid = before} {now = g.R.Rack.count c.open_behind.new.rack k} {later = g.R.Rack.count c.close_all.new.rack k}
     (g.R.Rack.held c.args.rack.now k) (g.R.Rack.held c.open_behind.new.rack k) (omega arith) (c.close_all.ensures.others.later k) here was is now (sym (c.close_all.ensures.others.held k (inr behind)) ∙ is_now)
 
-pub returns-then-from-eqcount-clause-others : goal.returns-then-from-eqcount-clause-others
-returns-then-from-eqcount-clause-others g c = kept_same
+pub returns-then-from-count-clause-others : goal.returns-then-from-count-clause-others
+returns-then-from-count-clause-others g c = kept_same
 
 pub returns-in-Ok-clause-others : goal.returns-in-Ok-clause-others
 returns-in-Ok-clause-others g c =

@@ -45,7 +45,7 @@ returns-clause-back g c n =
     ]
 
 pub returns-clause-later : goal.returns-clause-later
-returns-clause-later g c = λ n. omega (arith, c.close_all.ensures.others.later n, c.close_all-2.ensures.others.later n)
+returns-clause-later g c = λ n. le_trans (c.close_all.ensures.others.later n) (c.close_all-2.ensures.others.later n)
 
 pub returns-clause-counted_logs : goal.returns-clause-counted_logs
 returns-clause-counted_logs g c n l is =

@@ -7,12 +7,12 @@ use Rattle.rack_ledgers.proofs.Each.{each_push, each_weaker}
 use Rattle.rack_ledgers.proofs.Range.{opening_later}
 use Rattle.rack_ledgers.proofs.Others.{outside_one, kept_same, kept_but, kept_wider, kept_then}
 use Rattle.rack_ledgers.proofs.Told.{of_told, back_opened, back_later}
-use Rattle.rack_ledgers.proofs.Closing.{goes_push, goes_front}
+use Rattle.rack_ledgers.proofs.Closing.{closed_none, goes_push, goes_front}
 use Rattle.rack_ledgers.proofs.Backs.{all_back}
 use Rattle.rack_ledgers.proofs.open.open_all.Goals as goal
 
 pub open_one-requires : goal.open_one-requires
-open_one-requires g c κs within =
+open_one-requires g c =
     let so_far = c.places.invariant.opened in
     let node = c.args.first + c.places.place in
     let long : length c.places.nodes.items ≡ length c.args.nodes.items + length so_far.more = ap length so_far.parts ∙ length-append c.args.nodes.items so_far.more in
@@ -147,8 +147,13 @@ places-preserved g c =
           (kept_wider (omega (arith, long, place)) (omega (arith, longer)) c.open_one.ensures.others);
     }
 
-pub places-init-clause-others : goal.places-init-clause-others
-places-init-clause-others g c = kept_same
+pub places-init : goal.places-init
+places-init g c = record {
+  place = omega (arith, c.len-from.ensures, c.args.nodes.ok);
+  opened = closed_none _ c.args.first c.args.nodes.items;
+  out = c.requires.out;
+  others = kept_same;
+}
 
 pub returns-in-Err-push-clause-others : goal.returns-in-Err-push-clause-others
 returns-in-Err-push-clause-others g c =
@@ -202,4 +207,4 @@ returns-in-Err-clause-back g c = λ n ge lt.
     (cases_lt n node)
 
 pub returns-clause-others : goal.returns-clause-others
-returns-clause-others g c = kept_wider (omega arith) ? c.places.invariant.others
+returns-clause-others g c = kept_wider (omega arith) (omega (arith, c.places.invariant.place, c.places.auto.place-end (omega (arith, c.len-from.ensures, c.args.nodes.ok, c.requires.some)))) c.places.invariant.others
