@@ -1,5 +1,5 @@
 // The check of causes ahead of all that resumes.
-ghost use Rattle.std.specs.Prelude.{◌≡◌, ◌+◌, ◌≤◌, ◌<◌, ◌^◌, ℕ, length, IfOk, IfErr, OnErr, MatchOption};
+ghost use Rattle.std.specs.Prelude.{◌+◌, ◌≤◌, ◌<◌, ◌^◌, ℕ, length, IfOk, IfErr, OnErr, MatchOption};
 ghost use Rattle.cbdc_model.specs.After.{IsJournal};
 ghost use Rattle.rack_ledgers.specs.Ledgers.{ByPlace};
 ghost use Rattle.rack_ledgers.specs.Opened.{IsLedgerOpenedFrom, AllBack};

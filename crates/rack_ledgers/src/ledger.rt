@@ -1,5 +1,5 @@
 // All nodes of a ledger, open, and putting their disks back.
-ghost use Rattle.std.specs.Prelude.{◌≡◌, ◌+◌, ◌≤◌, ◌<◌, ◌^◌, ℕ, length};
+ghost use Rattle.std.specs.Prelude.{◌≡◌, ◌+◌, ◌≤◌, ℕ, length};
 ghost use Rattle.rack_ledgers.specs.Racked.{OfTold};
 ghost use Rattle.rack_ledgers.specs.Ledgers.{ByPlace};
 ghost use Rattle.rack_ledgers.specs.Opened.{MayClose};

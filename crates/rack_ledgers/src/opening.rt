@@ -1,5 +1,5 @@
 // Opening all nodes of a ledger.
-ghost use Rattle.std.specs.Prelude.{◌≡◌, ◌≢◌, ◌∷◌, [], ◌+◌, ◌≤◌, ◌<◌, ◌^◌, ℕ, length, Some, IfOk, IfErr, OnErr, MatchOption};
+ghost use Rattle.std.specs.Prelude.{◌≡◌, ◌∷◌, [], ◌≤◌, ℕ, Some, IfOk, IfErr, OnErr, MatchOption};
 ghost use Rattle.std.specs.Option.{option_copied};
 ghost use Rattle.coord_log.specs.Opening.{IsCoord};
 ghost use Rattle.rack_ledgers.specs.Places.{EachFrom, MayReturn};

@@ -1,5 +1,5 @@
 -- A work over the ledger on a rack: from the opened nodes to all disks back.
-use Rattle.std.proofs.Common.{◌≡◌, ◌⊎◌, inr, ℕ, [], ◌+◌, ◌^◌, ◌<◌, ◌≤◌, List, length, Option, Result, Ok, Err, Some, sym, ap, ◌∙◌, subst, arith}
+use Rattle.std.proofs.Common.{◌≡◌, ◌⊎◌, inr, ℕ, [], ◌+◌, ◌<◌, ◌≤◌, List, length, Option, Result, Ok, Err, Some, sym, ap, ◌∙◌, subst, arith}
 use Rattle.std.specs.Prelude.{map, IfOk, IfErr}
 use Rattle.std.specs.Global.{Vec}
 use Rattle.outside.specs.declared.disk.Disk.{Ghosts}

@@ -1,4 +1,4 @@
-use Rattle.std.proofs.Common.{◌≡◌, ◌^◌, ◌+◌, ◌≤◌, ◌<◌, ℕ, length, vec_len}
+use Rattle.std.proofs.Common.{◌^◌, ◌+◌, ◌≤◌, ◌<◌, ℕ, length, vec_len}
 use Rattle.rack_ledgers.specs.Places.{EachFrom}
 use Rattle.rack_ledgers.specs.Others.{KeepsOthers}
 use Rattle.rack_ledgers.specs.Racked.{OfTold, ListGoesOn}

@@ -38,9 +38,9 @@ returns-in-Ok-verdict-clause-unchanged g c =
 pub returns-in-Ok-verdict-clause-back : goal.returns-in-Ok-verdict-clause-back
 returns-in-Ok-verdict-clause-back g c = record {
   held = λ n.
-          same_back g.R.Disk.Disk (g.R.Rack.count c.args.rack.now n) (g.R.Rack.count c.close_nodes.new.rack n) (g.R.Rack.held c.args.rack.now n) (g.R.Rack.held c.close_nodes.new.rack n)
-          (all_same g.R.Disk.Disk (g.R.Rack.held c.args.rack.now) (g.R.Rack.held c.open_minted.new.rack) (g.R.Rack.held c.close_nodes.new.rack) c.in-Ok-open_minted.nodes.header
-          c.in-Ok-open_minted.nodes.logs.items c.in-Ok-open_minted.nodes.shards.items c.in-Ok-open_minted.ensures.opened.nodes c.in-Ok-open_minted.ensures.opened.others_held c.close_nodes.ensures.closed_logs c.close_nodes.ensures.closed_shards c.close_nodes.ensures.others_held n);
+      same_back g.R.Disk.Disk (g.R.Rack.count c.args.rack.now n) (g.R.Rack.count c.close_nodes.new.rack n) (g.R.Rack.held c.args.rack.now n) (g.R.Rack.held c.close_nodes.new.rack n)
+      (all_same g.R.Disk.Disk (g.R.Rack.held c.args.rack.now) (g.R.Rack.held c.open_minted.new.rack) (g.R.Rack.held c.close_nodes.new.rack) c.in-Ok-open_minted.nodes.header
+      c.in-Ok-open_minted.nodes.logs.items c.in-Ok-open_minted.nodes.shards.items c.in-Ok-open_minted.ensures.opened.nodes c.in-Ok-open_minted.ensures.opened.others_held c.close_nodes.ensures.closed_logs c.close_nodes.ensures.closed_shards c.close_nodes.ensures.others_held n);
   takes = c.close_nodes.ensures.back;
 }
 
@@ -50,9 +50,9 @@ returns-in-Err-verdict-clause-refusal g c = inr refl
 pub returns-in-Err-verdict-clause-back : goal.returns-in-Err-verdict-clause-back
 returns-in-Err-verdict-clause-back g c = record {
   held = λ n.
-          same_back g.R.Disk.Disk (g.R.Rack.count c.args.rack.now n) (g.R.Rack.count c.close_nodes.new.rack n) (g.R.Rack.held c.args.rack.now n) (g.R.Rack.held c.close_nodes.new.rack n)
-          (all_same g.R.Disk.Disk (g.R.Rack.held c.args.rack.now) (g.R.Rack.held c.open_minted.new.rack) (g.R.Rack.held c.close_nodes.new.rack) c.in-Ok-open_minted.nodes.header
-          c.in-Ok-open_minted.nodes.logs.items c.in-Ok-open_minted.nodes.shards.items c.in-Ok-open_minted.ensures.opened.nodes c.in-Ok-open_minted.ensures.opened.others_held c.close_nodes.ensures.closed_logs c.close_nodes.ensures.closed_shards c.close_nodes.ensures.others_held n);
+      same_back g.R.Disk.Disk (g.R.Rack.count c.args.rack.now n) (g.R.Rack.count c.close_nodes.new.rack n) (g.R.Rack.held c.args.rack.now n) (g.R.Rack.held c.close_nodes.new.rack n)
+      (all_same g.R.Disk.Disk (g.R.Rack.held c.args.rack.now) (g.R.Rack.held c.open_minted.new.rack) (g.R.Rack.held c.close_nodes.new.rack) c.in-Ok-open_minted.nodes.header
+      c.in-Ok-open_minted.nodes.logs.items c.in-Ok-open_minted.nodes.shards.items c.in-Ok-open_minted.ensures.opened.nodes c.in-Ok-open_minted.ensures.opened.others_held c.close_nodes.ensures.closed_logs c.close_nodes.ensures.closed_shards c.close_nodes.ensures.others_held n);
   takes = c.close_nodes.ensures.back;
 }
 
