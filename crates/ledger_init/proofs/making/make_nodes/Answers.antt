@@ -1,9 +1,9 @@
-use Rattle.std.proofs.Common.{◌≡◌, ◌∙◌, ◌+◌, ◌≤◌, le_trans, ◌<◌, ℕ, length, subst, arith, ap, inl, inr, ⊎_elim}
+use Rattle.std.proofs.Common.{◌≡◌, ◌∙◌, ◌+◌, ◌≤◌, le_trans, ◌<◌, length, subst, arith, ap, inl, inr, ⊎_elim}
 use Rattle.std.proofs.lemmas.Bool.{cases_lt}
 use Rattle.cbdc_model.specs.History.{Minted}
 use Rattle.cbdc_model.specs.World.{first_record}
 use Rattle.rack_ledgers.specs.Places.{EachFrom}
-use Rattle.rack_ledgers.specs.Racked.{OfTold, FailsFirst}
+use Rattle.rack_ledgers.specs.Racked.{OfTold}
 use Rattle.rack_ledgers.proofs.Each.{each_weaker}
 use Rattle.rack_ledgers.proofs.Closing.{closed_whole}
 use Rattle.rack_ledgers.specs.declared.blank.Blank.{Blank}

@@ -1,12 +1,11 @@
-use Rattle.std.proofs.Common.{◌≡◌, ◌≢◌, ◌≤◌, le_trans, ◌+◌, ◌<◌, ◌∷◌, [], ℕ, suc, length, refl, sym, ◌∙◌, ap, subst, arith, ⊎_elim, inl, inr, length-append}
+use Rattle.std.proofs.Common.{◌≡◌, ◌≢◌, ◌≤◌, le_trans, ◌+◌, ◌<◌, ◌∷◌, [], ℕ, suc, length, sym, ◌∙◌, ap, subst, arith, ⊎_elim, inr, length-append}
 use Rattle.std.proofs.lemmas.Bool.{cases_eq, cases_lt}
 use Rattle.std.proofs.lemmas.List.{nil_from_length}
 use Rattle.cbdc_model.specs.World.{first_record}
 use Rattle.rack_ledgers.specs.Places.{EachFrom, MayReturn}
-use Rattle.rack_ledgers.specs.Racked.{ListGoesOn}
 use Rattle.rack_ledgers.proofs.Each.{each_front, each_last, each_weaker}
-use Rattle.rack_ledgers.proofs.Closing.{closed_more, closed_none, closed_whole}
-use Rattle.ledger_init.specs.Places.{minted_by, IsFirstWritten, IsStopped}
+use Rattle.rack_ledgers.proofs.Closing.{closed_more, closed_whole}
+use Rattle.ledger_init.specs.Places.{minted_by, IsFirstWritten}
 use Rattle.ledger_init.proofs.Written.{stops, done_still, stopped_still}
 use Rattle.ledger_init.proofs.writing.write_firsts.Goals as goal
 
