@@ -1,6 +1,5 @@
 -- What is on each node's disk behind the opening and the writing.
-use Rattle.std.proofs.Common.{◌≡◌, ◌≢◌, ◌⊎◌, inl, inr, ⊎_elim, ℕ, zero, suc, ◌+◌, ◌^◌, ◌≤◌, ◌<◌, List, [], ◌∷◌, ◌++◌, length, Option, Some, refl, sym, ◌∙◌, ap, ap₂, subst, arith, length-append}
-use Rattle.std.specs.Prelude.{IsSome}
+use Rattle.std.proofs.Common.{◌≡◌, ◌≢◌, inl, inr, ⊎_elim, ℕ, suc, ◌+◌, ◌^◌, ◌≤◌, ◌<◌, List, [], ◌∷◌, ◌++◌, length, Option, sym, ◌∙◌, ap, ap₂, subst, arith, length-append}
 use Rattle.std.proofs.lemmas.Bool.{cases_lt}
 use Rattle.outside.specs.Counts.{Rose}
 use Rattle.outside.specs.Images.{Tells}
@@ -12,19 +11,16 @@ use Rattle.cbdc_model.specs.Records.{Shape, Compact, Record}
 use Rattle.cbdc_model.specs.Coins.{Output, genesis_id, genesis_hashes}
 use Rattle.cbdc_model.specs.Clean.{value_out}
 use Rattle.cbdc_model.specs.History.{Minted, minted}
-use Rattle.cbdc_model.specs.World.{first_record}
-use Rattle.cbdc_model.specs.Room.{size_of}
 use Rattle.gate_journal.specs.Formatting.{IsEmptied}
 use Rattle.rack_ledgers.specs.Places.{EachFrom, IsOpening}
 use Rattle.rack_ledgers.specs.Racked.{OfTold, SameRoom, IsUnchanged, IsDiskBack, AreBack, IsNodeOpened, FailsFirst}
 use Rattle.rack_ledgers.specs.Blank.{IsUnused, IsNoBlank, IsBlankRefusal}
-use Rattle.rack_ledgers.specs.First.{IsBegun, IsUnwritten, first_need}
+use Rattle.rack_ledgers.specs.First.{IsBegun, IsUnwritten}
 use Rattle.rack_ledgers.proofs.Each.{each_two, each_weaker, each_split}
-use Rattle.rack_ledgers.proofs.Range.{opening_later}
 use Rattle.rack_ledgers.proofs.Told.{still_told, same_opened, back_same}
 use Rattle.cbdc_model.specs.Ranges.{node_count}
 use Rattle.ledger_init.specs.Made.{first_record_of, HoldsFirst, LeavesBut, ToldUnused, MayBeMade, IsFirstInUse, HasPlaceFor, IsLastFull, IsUnmade, IsOfNode, InitStoppedAt}
-use Rattle.ledger_init.specs.Places.{minted_by, HoldsOf, LeavesOf, IsFirstWritten, IsStopped, WritingStopsAt}
+use Rattle.ledger_init.specs.Places.{minted_by, LeavesOf, IsFirstWritten, IsStopped, WritingStopsAt}
 use Rattle.ledger_init.proofs.Sizes.{first_size}
 
 -- what first records say of a mint's transaction is what they say of the mint

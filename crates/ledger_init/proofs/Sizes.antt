@@ -5,13 +5,13 @@ use Rattle.std.specs.List.{AllByRecursion}
 use Rattle.sha2.proofs.Facts256.{length-sha256}
 use Rattle.byte_spelling.specs.Spelling.{FitsHash}
 use Rattle.cbdc_types.specs.Limits.{IsWithinLimits}
-use Rattle.cbdc_model.specs.Records.{Digest, Shape, Header, Record, Genesis, Start}
+use Rattle.cbdc_model.specs.Records.{Digest, Shape, Header, Genesis, Start}
 use Rattle.cbdc_model.specs.Coins.{Output, Coin, coin_hash, made_coins, id_of, genesis_id, genesis_hashes}
 use Rattle.cbdc_model.specs.Ranges.{shard_of, on_shard, node_count}
 use Rattle.cbdc_model.specs.History.{header_of}
 use Rattle.cbdc_model.specs.Room.{size_of}
 use Rattle.record_log.proofs.Lengths.{body_length}
-use Rattle.record_log.proofs.Records.{FitsHeader, FitsRecord}
+use Rattle.record_log.proofs.Records.{FitsHeader}
 use Rattle.rack_ledgers.specs.First.{first_need}
 use Rattle.ledger_init.specs.Made.{first_record_of}
 

@@ -1,5 +1,5 @@
 -- Nodes that are opened beside each other, by their places.
-use Rattle.std.proofs.Common.{◌≡◌, ◌≤◌, le_trans, ◌<◌, ◌+◌, ◌++◌, ◌∷◌, [], ℕ, suc, List, length, Option, Some, inl, inr, refl, sym, ap, subst, arith}
+use Rattle.std.proofs.Common.{◌≡◌, ◌≤◌, le_trans, ◌<◌, ◌+◌, ◌++◌, ◌∷◌, [], ℕ, suc, List, length, Option, Some, refl, sym, ap, subst, arith}
 use Rattle.std.specs.Prelude.{slice_index_or}
 use Rattle.std.specs.List.{All}
 use Rattle.std.proofs.lemmas.List.Elements.{All-nil, All-cons}
@@ -7,7 +7,7 @@ use Rattle.outside.specs.Images.{Tells}
 use Rattle.outside.specs.declared.disk.Disk.{Ghosts}
 use Rattle.cbdc_types.specs.declared.answer.Answer.{Answer}
 use Rattle.cbdc_model.specs.Records.{Header}
-use Rattle.rack_ledgers.specs.Places.{EachFrom, MayReturn, IsOutsideRange}
+use Rattle.rack_ledgers.specs.Places.{EachFrom, MayReturn}
 use Rattle.rack_ledgers.specs.Racked.{OfTold, IsNodeOpened, IsReturned, IsDiskBack, FailsFirst}
 use Rattle.rack_ledgers.proofs.Each.{each_two}
 use Rattle.rack_ledgers.proofs.Range.{opening_later}
@@ -29,11 +29,6 @@ each_came Goes P Q step first (s ∷ olds) (t ∷ news) same came all =
 pub each_append : {X : Type 0} (P : ℕ → X → Type 0) (first : ℕ) (xs ys : List X) → EachFrom P first xs → EachFrom P (first + length xs) ys → EachFrom P first (xs ++ ys)
 each_append P first [] ys front behind = subst (λ (k : ℕ). EachFrom P k ys) (omega arith) behind
 each_append P first (x ∷ xs) ys front behind = (front.0, each_append P (suc first) xs ys front.1 (subst (λ (k : ℕ). EachFrom P k ys) (omega arith) behind))
-
--- a place outside a range is outside a shorter one
-pub outside_less : (first end stop n : ℕ) → end ≤ stop → IsOutsideRange first stop n → IsOutsideRange first end n
-outside_less first end stop n le (inl below) = inl below
-outside_less first end stop n le (inr above) = inr (omega (arith, le, above))
 
 -- what two properties of each item say together
 pub each_both : {X : Type 0} (P Q : ℕ → X → Type 0) (first : ℕ) (xs : List X) → EachFrom P first xs → EachFrom Q first xs → EachFrom (λ n x. P n x × Q n x) first xs

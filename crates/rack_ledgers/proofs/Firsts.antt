@@ -1,5 +1,5 @@
 -- What a crash leaves while a first record is written.
-use Rattle.std.proofs.Common.{◌≡◌, inl, inr, ⊎_elim, ℕ, Bool, Option, List, [], ◌∷◌, sym, subst}
+use Rattle.std.proofs.Common.{◌≡◌, inl, inr, ⊎_elim, ℕ, Bool, List, [], ◌∷◌, sym, subst}
 use Rattle.gate_journal.specs.Rows.{IsShut, Opens, OpensWithOrWithout}
 use Rattle.gate_journal.specs.Formatting.{IsEmptied}
 use Rattle.gate_journal.specs.Stands.{HoldsRows}

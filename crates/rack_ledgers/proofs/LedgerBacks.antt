@@ -1,9 +1,14 @@
 -- Disks that are back.
-use Rattle.std.proofs.Common.{◌≡◌, ◌≢◌, ◌≤◌, ◌<◌, ℕ, List, Option, sym, ◌∙◌, subst, inl, inr, ⊎_elim}
+use Rattle.std.proofs.Common.{◌≡◌, ◌≢◌, ◌≤◌, ◌<◌, ℕ, zero, suc, Option, sym, ◌∙◌, subst, arith, inl, inr, ⊎_elim}
 use Rattle.std.proofs.lemmas.Bool.{cases_eq, cases_lt}
 use Rattle.outside.specs.declared.disk.Disk.{Ghosts}
 use Rattle.rack_ledgers.specs.Racked.{IsDiskBack, AreBack}
 use Rattle.rack_ledgers.proofs.Told.{back_same, back_later}
+
+-- what may be taken at place 0 and behind it
+pub taken_one : (can_take : ℕ → Type 0) → can_take 0 → ((n : ℕ) → 1 ≤ n → can_take n) → (n : ℕ) → can_take n
+taken_one can_take here others zero = here
+taken_one can_take here others (suc n) = others (suc n) (omega arith)
 
 module _ {D : Type 0} (device : Ghosts D) (before after : ℕ → ℕ) where
   -- that of node 0, where no other was touched

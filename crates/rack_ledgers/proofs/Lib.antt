@@ -3,6 +3,7 @@ pub mod Once
 pub mod OneRefusal
 pub mod Each
 pub mod Range
+pub mod Others
 pub mod Wholes
 pub mod Told
 pub mod Closing

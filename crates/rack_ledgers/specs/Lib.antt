@@ -1,6 +1,7 @@
 pub mod Once
 pub mod Refusals
 pub mod Places
+pub mod Others
 pub mod Asked
 pub mod Refused
 pub mod Blank
@@ -8,6 +9,7 @@ pub mod Racked
 pub mod First
 pub mod Fresh
 pub mod Ledgers
+pub mod Opened
 pub mod Slots
 pub mod Caused
 pub mod RefusalLaws

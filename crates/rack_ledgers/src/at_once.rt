@@ -2,7 +2,8 @@
 ghost use Rattle.std.specs.Prelude.{◌≡◌, ◌≤◌, ◌<◌, ◌+◌, ◌++◌, ◌^◌, ℕ, [], length, reverse, Some, All, IfOk, IfErr, OnErr, MatchOption, slice_index_or, vec_capacity};
 ghost use Rattle.outside.specs.Counts.{Rose};
 ghost use Rattle.outside.specs.Images.{Tells};
-ghost use Rattle.rack_ledgers.specs.Places.{EachFrom, MayReturn, IsOutsideRange, IsOpening, IsOpeningIn};
+ghost use Rattle.rack_ledgers.specs.Places.{EachFrom, MayReturn, IsOpening, IsOpeningIn};
+ghost use Rattle.rack_ledgers.specs.Others.{KeepsOthers, KeepsDisks};
 ghost use Rattle.rack_ledgers.specs.Racked.{OfTold, IsDiskBack, IsNodeOpened, ListGoesOn, FailsFirst};
 ghost use Rattle.rack_ledgers.specs.Slots.{IsWaitingSlot, SlotResult, SlotResultAt, IsTakenSlot, MayPut, IsDiskIn, faults_in, nodes_in, AreNodesOpen, AreNotRefused, IsFirstNodeRefusal, IsFirstNodeFault, IsListGrown, OpensAt, FailsAt};
 
@@ -45,14 +46,10 @@ fn take_disks<R: Rack, N: OnDisk<R::Disk>>(
         (IsTakenSlot R.Disk.Disk (R.held rack.old) (R.count rack.old)) first result.items }
     ensures failed { length result.items < count → Rose
         (R.count rack.old (first + length result.items)) (R.count rack.new (first + length result.items)) }
-    ensures others_held { (n : ℕ) → IsOutsideRange first (first + length result.items) n
-        → R.held rack.new n ≡ R.held rack.old n }
+    ensures untaken { KeepsDisks R.Rack
+        (first + length result.items) (first + count) rack.old rack.new }
     ensures out { EachFrom (MayPut R.Disk.Disk N.disk_of (R.can_put rack.new)) first result.items }
-    ensures others_in { (n : ℕ) → IsOutsideRange first (first + length result.items) n → R.can_take rack.old n
-        → R.can_take rack.new n }
-    ensures others_out { (n k : ℕ) → IsOutsideRange first (first + count) n → R.can_put rack.old n k
-        → R.can_put rack.new n k }
-    ensures later { (n : ℕ) → R.count rack.old n ≤ R.count rack.new n }
+    ensures others { KeepsOthers R.Rack first (first + count) rack.old rack.new }
 {
     let mut slots = room;
     'places: for place in 0..count {
@@ -139,14 +136,10 @@ where
         (R.held rack.old) (R.count rack.old)) first result.items }
     ensures failed { length result.items < count → Rose
         (R.count rack.old (first + length result.items)) (R.count rack.new (first + length result.items)) }
-    ensures others_held { (n : ℕ) → IsOutsideRange first (first + length result.items) n
-        → R.held rack.new n ≡ R.held rack.old n }
+    ensures untaken { KeepsDisks R.Rack
+        (first + length result.items) (first + count) rack.old rack.new }
     ensures out { EachFrom (MayPut R.Disk.Disk N.disk_of (R.can_put rack.new)) first result.items }
-    ensures others_in { (n : ℕ) → IsOutsideRange first (first + length result.items) n → R.can_take rack.old n
-        → R.can_take rack.new n }
-    ensures others_out { (n k : ℕ) → IsOutsideRange first (first + count) n → R.can_put rack.old n k
-        → R.can_put rack.new n k }
-    ensures later { (n : ℕ) → R.count rack.old n ≤ R.count rack.new n }
+    ensures others { KeepsOthers R.Rack first (first + count) rack.old rack.new }
 {
     let slots = take_disks(rack, first, count, room);
     open_list(rt, alloc, ledger, slots)
@@ -219,14 +212,8 @@ fn put_back<R: Rack, N: OnDisk<R::Disk>>(rack: &mut R, first: u32, slots: Vec<Sl
     ensures closed { EachFrom (λ n s. OfTold (R.held rack.new n) (IsDiskIn N.disk_of s)) first slots.items }
     ensures counted { EachFrom
         (λ n s. faults_in R.Disk.Disk N.disk_of s ≤ R.count rack.new n) first slots.items }
-    ensures others_held { (n : ℕ) → IsOutsideRange first (first + length slots.items) n
-        → R.held rack.new n ≡ R.held rack.old n }
     ensures back { (n : ℕ) → first ≤ n → n < first + length slots.items → R.can_take rack.new n }
-    ensures others_in { (n : ℕ) → IsOutsideRange first (first + length slots.items) n → R.can_take rack.old n
-        → R.can_take rack.new n }
-    ensures others_out { (n k : ℕ) → IsOutsideRange first (first + length slots.items) n
-        → R.can_put rack.old n k → R.can_put rack.new n k }
-    ensures later { (n : ℕ) → R.count rack.old n ≤ R.count rack.new n }
+    ensures others { KeepsOthers R.Rack first (first + length slots.items) rack.old rack.new }
 {
     let mut slots = slots;
     'slots: while let Some(slot) = slots.pop() {
@@ -260,14 +247,8 @@ where
         (R.held rack.old) (R.count rack.old) (R.count rack.new)) first (first + count) e.1) }
     ensures held { OnErr result ((n : ℕ) → first ≤ n → n < first + count → IsDiskBack R.Disk.Disk
         (R.count rack.old n) (R.count rack.new n) (R.held rack.old n) (R.held rack.new n)) }
-    ensures others_held { (n : ℕ) → IsOutsideRange first (first + count) n
-        → R.held rack.new n ≡ R.held rack.old n }
     ensures back { OnErr result ((n : ℕ) → first ≤ n → n < first + count → R.can_take rack.new n) }
-    ensures others_in { (n : ℕ) → IsOutsideRange first (first + count) n → R.can_take rack.old n
-        → R.can_take rack.new n }
-    ensures others_out { (n k : ℕ) → IsOutsideRange first (first + count) n → R.can_put rack.old n k
-        → R.can_put rack.new n k }
-    ensures later { (n : ℕ) → R.count rack.old n ≤ R.count rack.new n }
+    ensures others { KeepsOthers R.Rack first (first + count) rack.old rack.new }
 {
     let mut nodes = nodes;
     let room = match room_for(alloc, &mut nodes, count) {
@@ -319,19 +300,13 @@ where
         (EachFrom (λ n x. OfTold (R.held rack.new n) (λ now. now ≡ N.disk_of x)) first nodes.items) }
     ensures held { OnErr result ((n : ℕ) → first + length nodes.items ≤ n → n < first + count → IsDiskBack
         R.Disk.Disk (R.count rack.old n) (R.count rack.new n) (R.held rack.old n) (R.held rack.new n)) }
-    ensures others_held { (n : ℕ) → IsOutsideRange first (first + count) n
-        → R.held rack.new n ≡ R.held rack.old n }
 
     ensures all { IfOk result (λ v. length v.items ≡ count) }
     ensures out { IfOk result
         (λ v. EachFrom (MayReturn (λ n. R.Disk.count (N.disk_of n)) (R.can_put rack.new)) first v.items) }
     ensures back { OnErr result ((n : ℕ) → first ≤ n → n < first + count → R.can_take rack.new n) }
     ensures fault { IfErr result (IsOpeningIn first (first + count) (R.count rack.old) (R.count rack.new)) }
-    ensures others_in { (n : ℕ) → IsOutsideRange first (first + count) n → R.can_take rack.old n
-        → R.can_take rack.new n }
-    ensures others_out { (n k : ℕ) → IsOutsideRange first (first + count) n → R.can_put rack.old n k
-        → R.can_put rack.new n k }
-    ensures later { (n : ℕ) → R.count rack.old n ≤ R.count rack.new n }
+    ensures others { KeepsOthers R.Rack first (first + count) rack.old rack.new }
 {
     let from = nodes.len() as u32;
     if from == count {

@@ -2,9 +2,10 @@
 ghost use Rattle.std.specs.Prelude.{◌≡◌, ◌⊎◌, ◌+◌, ◌≤◌, ◌<◌, ◌^◌, ℕ, length, Some, IfOk, IfErr, OnOk};
 ghost use Rattle.cbdc_model.specs.After.{IsJournal};
 ghost use Rattle.cbdc_model.specs.Coins.{genesis_id as mint_id};
-ghost use Rattle.rack_ledgers.specs.Racked.{AreUnchanged, AreBack};
+ghost use Rattle.rack_ledgers.specs.Racked.{AreUnchanged};
 ghost use Rattle.rack_ledgers.specs.Refused.{IsNodeRefusal};
 ghost use Rattle.rack_ledgers.specs.Ledgers.{ByPlace, IsUnopenedBy};
+ghost use Rattle.rack_ledgers.specs.Opened.{AllBack};
 ghost use Rattle.rack_ledgers.specs.Caused.{listed_journals};
 ghost use Rattle.rack_ledgers.specs.Audited.{HasAuditVerdict, IsAudited, HistoryHasRoom, HistoryIsHeld, Accounts};
 
@@ -79,9 +80,7 @@ where
         (R.count rack.old) (R.count rack.new) (Some (mint_id mint.now)) a ⊎ (a ≡ Answer.Memory)) }
     ensures kind { IfErr result IsNodeRefusal }
     ensures unchanged { OnOk result (AreUnchanged R.Disk.Disk (R.held rack.old) (R.held rack.new)) }
-    ensures held { AreBack R.Disk.Disk
-        (R.count rack.old) (R.count rack.new) (R.held rack.old) (R.held rack.new) }
-    ensures back { (n : ℕ) → R.can_take rack.new n }
+    ensures back { AllBack R.Disk.Disk R.Rack rack.old rack.new }
     ensures later { (n : ℕ) → R.count rack.old n ≤ R.count rack.new n }
 {
     let Ok(id) = genesis_id(alloc, mint) else {

@@ -1,6 +1,7 @@
 // Putting disks back.
 ghost use Rattle.std.specs.Prelude.{◌≡◌, ◌^◌, ◌+◌, ◌≤◌, ◌<◌, ℕ, length};
-ghost use Rattle.rack_ledgers.specs.Places.{EachFrom, MayReturn, IsOutsideRange};
+ghost use Rattle.rack_ledgers.specs.Places.{EachFrom, MayReturn};
+ghost use Rattle.rack_ledgers.specs.Others.{KeepsOthers};
 ghost use Rattle.rack_ledgers.specs.Racked.{OfTold};
 
 use crate::OnDisk;
@@ -17,14 +18,8 @@ pub fn close_all<R: Rack, N: OnDisk<R::Disk>>(rack: &mut R, first: u32, nodes: V
     ensures closed { EachFrom
         (λ n x. OfTold (R.held rack.new n) (λ now. now ≡ N.disk_of x)) first nodes.items }
     ensures counted { EachFrom (λ n x. R.Disk.count (N.disk_of x) ≤ R.count rack.new n) first nodes.items }
-    ensures others_held { (n : ℕ) → IsOutsideRange first (first + length nodes.items) n
-        → R.held rack.new n ≡ R.held rack.old n }
     ensures back { (n : ℕ) → first ≤ n → n < first + length nodes.items → R.can_take rack.new n }
-    ensures others_in { (n : ℕ) → IsOutsideRange first (first + length nodes.items) n → R.can_take rack.old n
-        → R.can_take rack.new n }
-    ensures others_out { (n k : ℕ) → IsOutsideRange first (first + length nodes.items) n
-        → R.can_put rack.old n k → R.can_put rack.new n k }
-    ensures later { (n : ℕ) → R.count rack.old n ≤ R.count rack.new n }
+    ensures others { KeepsOthers R.Rack first (first + length nodes.items) rack.old rack.new }
 {
     let mut nodes = nodes;
     'nodes: while let Some(node) = nodes.pop() {

@@ -1,8 +1,8 @@
 // All nodes of a ledger, open, and putting their disks back.
-ghost use Rattle.std.specs.Prelude.{◌≡◌, ◌+◌, ◌≤◌, ◌<◌, ◌^◌, ℕ, length};
-ghost use Rattle.rack_ledgers.specs.Places.{EachFrom, MayReturn};
+ghost use Rattle.std.specs.Prelude.{◌≡◌, ◌+◌, ◌≤◌, ℕ, length};
 ghost use Rattle.rack_ledgers.specs.Racked.{OfTold};
 ghost use Rattle.rack_ledgers.specs.Ledgers.{ByPlace};
+ghost use Rattle.rack_ledgers.specs.Opened.{MayClose};
 
 use crate::close_all;
 use cbdc_types::Header;
@@ -20,12 +20,8 @@ pub struct Nodes<D: Disk> {
 
 /// Puts the disks of all nodes back.
 pub fn close_nodes<R: Rack>(rack: &mut R, nodes: Nodes<R::Disk>)
-    requires few { length nodes.logs.items + length nodes.shards.items < 2 ^ 32 }
-    requires logs { EachFrom (MayReturn (λ x. R.Disk.count x.disk) (R.can_put rack.old)) 0 nodes.logs.items }
-    requires shards { EachFrom (MayReturn (λ x. R.Disk.count x.disk) (R.can_put rack.old))
-        (length nodes.logs.items) nodes.shards.items }
-    requires others { (n : ℕ) → length nodes.logs.items + length nodes.shards.items ≤ n
-        → R.can_take rack.old n }
+    requires { MayClose R.Disk.Disk
+        (R.can_put rack.old) (R.can_take rack.old) nodes.logs.items nodes.shards.items }
     // What the rack then tells of each node is its disk.
     ensures closed_logs { ByPlace (λ n l. OfTold (R.held rack.new n) (λ now. now ≡ l.disk)) nodes.logs.items }
     ensures closed_shards { ByPlace (λ s x.

@@ -1,8 +1,9 @@
 // Opening nodes.
-ghost use Rattle.std.specs.Prelude.{◌≡◌, ◌≢◌, ◌^◌, ◌+◌, ◌≤◌, ◌<◌, ℕ, length, IfOk, IfErr, OnErr};
+ghost use Rattle.std.specs.Prelude.{◌≡◌, ◌^◌, ◌+◌, ◌≤◌, ◌<◌, ℕ, length, IfOk, IfErr, OnErr};
 ghost use Rattle.std.specs.Option.{option_copied};
 ghost use Rattle.outside.specs.Images.{Tells};
-ghost use Rattle.rack_ledgers.specs.Places.{EachFrom, MayReturn, IsOutsideRange, IsOpening, IsOpeningIn};
+ghost use Rattle.rack_ledgers.specs.Places.{EachFrom, MayReturn, IsOpening, IsOpeningIn};
+ghost use Rattle.rack_ledgers.specs.Others.{KeepsOthers};
 ghost use Rattle.rack_ledgers.specs.Racked.{OfTold, IsDiskBack, IsNodeOpened, ListGoesOn, FailsFirst};
 
 use crate::OnDisk;
@@ -31,14 +32,11 @@ pub fn open_one<R: Rack, N: OnDisk<R::Disk>>(
     ensures kind { IfErr result N.refusals }
     ensures held { OnErr result (IsDiskBack R.Disk.Disk
         (R.count rack.old node) (R.count rack.new node) (R.held rack.old node) (R.held rack.new node)) }
-    ensures others_held { (n : ℕ) → n ≢ node → R.held rack.new n ≡ R.held rack.old n }
 
     ensures out { IfOk result (λ n. MayReturn (λ n. R.Disk.count (N.disk_of n)) (R.can_put rack.new) node n) }
     ensures back { OnErr result (R.can_take rack.new node) }
     ensures fault { IfErr result (IsOpening node (R.count rack.old node) (R.count rack.new node)) }
-    ensures others_in { (n : ℕ) → n ≢ node → R.can_take rack.old n → R.can_take rack.new n }
-    ensures others_out { (n k : ℕ) → n ≢ node → R.can_put rack.old n k → R.can_put rack.new n k }
-    ensures later { (n : ℕ) → R.count rack.old n ≤ R.count rack.new n }
+    ensures others { KeepsOthers R.Rack node (node + 1) rack.old rack.new }
 {
     let disk = match rack.take(node) {
         Ok(disk) => disk,
@@ -84,19 +82,13 @@ pub fn open_all<R: Rack, N: OnDisk<R::Disk>>(
         (EachFrom (λ n x. OfTold (R.held rack.new n) (λ now. now ≡ N.disk_of x)) first nodes.items) }
     ensures held { OnErr result ((n : ℕ) → first + length nodes.items ≤ n → n < first + count → IsDiskBack
         R.Disk.Disk (R.count rack.old n) (R.count rack.new n) (R.held rack.old n) (R.held rack.new n)) }
-    ensures others_held { (n : ℕ) → IsOutsideRange first (first + count) n
-        → R.held rack.new n ≡ R.held rack.old n }
 
     ensures all { IfOk result (λ v. length v.items ≡ count) }
     ensures out { IfOk result
         (λ v. EachFrom (MayReturn (λ n. R.Disk.count (N.disk_of n)) (R.can_put rack.new)) first v.items) }
     ensures back { OnErr result ((n : ℕ) → first ≤ n → n < first + count → R.can_take rack.new n) }
     ensures fault { IfErr result (IsOpeningIn first (first + count) (R.count rack.old) (R.count rack.new)) }
-    ensures others_in { (n : ℕ) → IsOutsideRange first (first + count) n → R.can_take rack.old n
-        → R.can_take rack.new n }
-    ensures others_out { (n k : ℕ) → IsOutsideRange first (first + count) n → R.can_put rack.old n k
-        → R.can_put rack.new n k }
-    ensures later { (n : ℕ) → R.count rack.old n ≤ R.count rack.new n }
+    ensures others { KeepsOthers R.Rack first (first + count) rack.old rack.new }
 {
     let mut nodes = nodes;
     let from = nodes.len() as u32;

@@ -1,12 +1,13 @@
 // Opening all nodes of a ledger.
-ghost use Rattle.std.specs.Prelude.{◌≡◌, ◌≢◌, ◌∷◌, [], ◌+◌, ◌≤◌, ◌<◌, ◌^◌, ℕ, length, Some, IfOk, IfErr, OnErr, MatchOption};
+ghost use Rattle.std.specs.Prelude.{◌≡◌, ◌∷◌, [], ◌≤◌, ℕ, Some, IfOk, IfErr, OnErr, MatchOption};
 ghost use Rattle.std.specs.Option.{option_copied};
-ghost use Rattle.cbdc_types.specs.Limits.{IsWithinLimits};
 ghost use Rattle.coord_log.specs.Opening.{IsCoord};
 ghost use Rattle.rack_ledgers.specs.Places.{EachFrom, MayReturn};
-ghost use Rattle.rack_ledgers.specs.Racked.{OfTold, IsDiskBack, AreBack};
+ghost use Rattle.rack_ledgers.specs.Others.{KeepsOthers};
+ghost use Rattle.rack_ledgers.specs.Racked.{OfTold, IsDiskBack};
 ghost use Rattle.rack_ledgers.specs.Refused.{IsNodeRefusal};
-ghost use Rattle.rack_ledgers.specs.Ledgers.{ByPlace, IsNodeAt, AreOpened, IsMintOf, IsOtherMint, IsUnledBy, IsUnopened, IsUnopenedBy};
+ghost use Rattle.rack_ledgers.specs.Ledgers.{IsNodeAt, IsMintOf, IsOtherMint, IsUnledBy, IsUnopened, IsUnopenedBy};
+ghost use Rattle.rack_ledgers.specs.Opened.{IsLedgerOpenedFrom, AreLogsOpenedFrom, AllBack};
 
 use crate::at_once::open_at_once;
 use crate::{Nodes, close_all, open_one};
@@ -53,11 +54,9 @@ fn open_lead<R: Rack>(
     ensures kind { IfErr result IsNodeRefusal }
     ensures held { OnErr result (IsDiskBack R.Disk.Disk
         (R.count rack.old 0) (R.count rack.new 0) (R.held rack.old 0) (R.held rack.new 0)) }
-    ensures others_held { (n : ℕ) → n ≢ 0 → R.held rack.new n ≡ R.held rack.old n }
     ensures out { IfOk result (MayReturn (λ x. R.Disk.count x.disk) (R.can_put rack.new) 0) }
     ensures back { OnErr result (R.can_take rack.new 0) }
-    ensures others_in { (n : ℕ) → n ≢ 0 → R.can_take rack.old n → R.can_take rack.new n }
-    ensures later { (n : ℕ) → R.count rack.old n ≤ R.count rack.new n }
+    ensures others { KeepsOthers R.Rack 0 1 rack.old rack.new }
 {
     let lead: CoordLog<R::Disk> = match open_one(alloc, rack, NodeId(0), None) {
         Ok(lead) => lead,
@@ -82,12 +81,10 @@ fn lead_alone<R: Rack>(
     ensures memory { IfErr result (λ e. e ≡ Answer.Memory) }
     ensures alone { IfOk result (λ v. v.items ≡ lead ∷ []) }
     ensures closed { OnErr result (OfTold (R.held rack.new 0) (λ now. now ≡ lead.disk)) }
-    ensures others_held { (n : ℕ) → 1 ≤ n → R.held rack.new n ≡ R.held rack.old n }
     ensures out { IfOk result
         (λ v. EachFrom (MayReturn (λ x. R.Disk.count x.disk) (R.can_put rack.new)) 0 v.items) }
     ensures back { OnErr result (R.can_take rack.new 0) }
-    ensures others_in { (n : ℕ) → 1 ≤ n → R.can_take rack.old n → R.can_take rack.new n }
-    ensures later { (n : ℕ) → R.count rack.old n ≤ R.count rack.new n }
+    ensures others { KeepsOthers R.Rack 0 1 rack.old rack.new }
 {
     let mut logs = Vec::new(alloc);
     match logs.push(lead) {
@@ -110,23 +107,12 @@ fn open_logs<W: Threads + Sync, R: Rack>(
 where
     R::Disk: Send,
     requires { (n : ℕ) → R.can_take rack.old n }
-    ensures first { IfOk result (λ l. (l.0.node ≡ 0) × IsWithinLimits l.0.shape) }
-    ensures opened { IfOk result
-        (λ l. ByPlace (IsNodeAt R.Disk.Disk (R.held rack.old) IsCoord l.0) l.1.items) }
+    ensures opened { IfOk result (λ l. AreLogsOpenedFrom R.Disk.Disk R.Rack rack.old rack.new l.0 l.1.items) }
     ensures minted { IfOk result (λ l. IsMintOf (option_copied id.entry) l.0) }
-    ensures since { IfOk result (λ l. ByPlace (λ n x. R.count rack.old n ≤ R.Disk.count x.disk) l.1.items) }
     ensures refusal { IfErr result (IsUnledBy R.Disk.Disk
         (R.held rack.old) (R.count rack.old) (R.count rack.new) (option_copied id.entry)) }
     ensures kind { IfErr result IsNodeRefusal }
-    ensures held { OnErr result
-        (AreBack R.Disk.Disk (R.count rack.old) (R.count rack.new) (R.held rack.old) (R.held rack.new)) }
-    ensures others_held { IfOk result (λ l. (n : ℕ) → l.0.shape.coordinators ≤ n
-        → R.held rack.new n ≡ R.held rack.old n) }
-    ensures few { IfOk result (λ l. l.0.shape.coordinators + l.0.shape.shards < 2 ^ 32) }
-    ensures logs { IfOk result (λ l. (length l.1.items ≡ l.0.shape.coordinators)
-        × EachFrom (MayReturn (λ x. R.Disk.count x.disk) (R.can_put rack.new)) 0 l.1.items) }
-    ensures others_in { IfOk result (λ l. (n : ℕ) → l.0.shape.coordinators ≤ n → R.can_take rack.new n) }
-    ensures back { OnErr result ((n : ℕ) → R.can_take rack.new n) }
+    ensures back { OnErr result (AllBack R.Disk.Disk R.Rack rack.old rack.new) }
     ensures later { (n : ℕ) → R.count rack.old n ≤ R.count rack.new n }
 {
     let lead = match open_lead(alloc, rack, id) {
@@ -156,28 +142,13 @@ fn open_ledger<W: Threads + Sync, R: Rack>(
 where
     R::Disk: Send,
     requires { (n : ℕ) → R.can_take rack.old n }
-    ensures opened { IfOk result
-        (λ l. AreOpened R.Disk.Disk (R.held rack.old) l.header l.logs.items l.shards.items) }
+    ensures opened { IfOk result (λ l. IsLedgerOpenedFrom R.Disk.Disk R.Rack
+        rack.old rack.new l.header l.logs.items l.shards.items) }
     ensures minted { IfOk result (λ l. IsMintOf (option_copied id.entry) l.header) }
-    ensures logs_since { IfOk result
-        (λ l. ByPlace (λ n x. R.count rack.old n ≤ R.Disk.count x.disk) l.logs.items) }
-    ensures shards_since { IfOk result (λ l. ByPlace
-        (λ s x. R.count rack.old (l.header.shape.coordinators + s) ≤ R.Disk.count x.disk) l.shards.items) }
     ensures refusal { IfErr result (IsUnopenedBy R.Disk.Disk
         (R.held rack.old) (R.count rack.old) (R.count rack.new) (option_copied id.entry)) }
     ensures kind { IfErr result IsNodeRefusal }
-    ensures held { OnErr result
-        (AreBack R.Disk.Disk (R.count rack.old) (R.count rack.new) (R.held rack.old) (R.held rack.new)) }
-    ensures others_held { IfOk result (λ l. (n : ℕ) → length l.logs.items + length l.shards.items ≤ n
-        → R.held rack.new n ≡ R.held rack.old n) }
-    ensures few { IfOk result (λ l. length l.logs.items + length l.shards.items < 2 ^ 32) }
-    ensures logs { IfOk result
-        (λ l. EachFrom (MayReturn (λ x. R.Disk.count x.disk) (R.can_put rack.new)) 0 l.logs.items) }
-    ensures shards { IfOk result (λ l. EachFrom
-        (MayReturn (λ x. R.Disk.count x.disk) (R.can_put rack.new)) (length l.logs.items) l.shards.items) }
-    ensures others_in { IfOk result (λ l. (n : ℕ) → length l.logs.items + length l.shards.items ≤ n
-        → R.can_take rack.new n) }
-    ensures back { OnErr result ((n : ℕ) → R.can_take rack.new n) }
+    ensures back { OnErr result (AllBack R.Disk.Disk R.Rack rack.old rack.new) }
     ensures later { (n : ℕ) → R.count rack.old n ≤ R.count rack.new n }
 {
     let (header, logs) = match open_logs(rt, alloc, rack, id) {
@@ -211,33 +182,15 @@ pub fn open_nodes<W: Threads + Sync, R: Rack>(
 where
     R::Disk: Send,
     requires { (n : ℕ) → R.can_take rack.old n }
-    // They are all nodes of the ledger, and each stands for what was told of its disk.
-    ensures opened { IfOk result
-        (λ l. AreOpened R.Disk.Disk (R.held rack.old) l.header l.logs.items l.shards.items) }
-
-    // Its disk had not failed less often by then than before the call.
-    ensures logs_since { IfOk result
-        (λ l. ByPlace (λ n x. R.count rack.old n ≤ R.Disk.count x.disk) l.logs.items) }
-    ensures shards_since { IfOk result (λ l. ByPlace
-        (λ s x. R.count rack.old (l.header.shape.coordinators + s) ≤ R.Disk.count x.disk) l.shards.items) }
+    // They are all nodes of the ledger, each stands for what was told of its disk, and all may be put back.
+    ensures opened { IfOk result (λ l. IsLedgerOpenedFrom R.Disk.Disk R.Rack
+        rack.old rack.new l.header l.logs.items l.shards.items) }
 
     // Why the first that can't be opened is not, and the disks are back.
     ensures refusal { IfErr result
         (IsUnopened R.Disk.Disk (R.held rack.old) (R.count rack.old) (R.count rack.new)) }
     ensures kind { IfErr result IsNodeRefusal }
-    ensures held { OnErr result
-        (AreBack R.Disk.Disk (R.count rack.old) (R.count rack.new) (R.held rack.old) (R.held rack.new)) }
-    ensures others_held { IfOk result (λ l. (n : ℕ) → length l.logs.items + length l.shards.items ≤ n
-        → R.held rack.new n ≡ R.held rack.old n) }
-
-    ensures few { IfOk result (λ l. length l.logs.items + length l.shards.items < 2 ^ 32) }
-    ensures logs { IfOk result
-        (λ l. EachFrom (MayReturn (λ x. R.Disk.count x.disk) (R.can_put rack.new)) 0 l.logs.items) }
-    ensures shards { IfOk result (λ l. EachFrom
-        (MayReturn (λ x. R.Disk.count x.disk) (R.can_put rack.new)) (length l.logs.items) l.shards.items) }
-    ensures others_in { IfOk result (λ l. (n : ℕ) → length l.logs.items + length l.shards.items ≤ n
-        → R.can_take rack.new n) }
-    ensures back { OnErr result ((n : ℕ) → R.can_take rack.new n) }
+    ensures back { OnErr result (AllBack R.Disk.Disk R.Rack rack.old rack.new) }
     ensures later { (n : ℕ) → R.count rack.old n ≤ R.count rack.new n }
 {
     open_ledger(rt, alloc, rack, None)
@@ -256,28 +209,16 @@ pub fn open_minted<W: Threads + Sync, R: Rack>(
 where
     R::Disk: Send,
     requires { (n : ℕ) → R.can_take rack.old n }
-    // They are all nodes of the ledger, which this mint began, and each stands for what was told of its disk.
+    // They are all nodes of the ledger, which this mint began, each stands for what was told of its disk, and all may be put back.
     ensures minted { IfOk result (λ l. l.header.genesis ≡ id.now) }
-    ensures opened { IfOk result
-        (λ l. AreOpened R.Disk.Disk (R.held rack.old) l.header l.logs.items l.shards.items) }
+    ensures opened { IfOk result (λ l. IsLedgerOpenedFrom R.Disk.Disk R.Rack
+        rack.old rack.new l.header l.logs.items l.shards.items) }
 
     // Why the first that can't be opened is not, and the disks are back.
     ensures refusal { IfErr result
         (IsUnopenedBy R.Disk.Disk (R.held rack.old) (R.count rack.old) (R.count rack.new) (Some id.now)) }
     ensures kind { IfErr result IsNodeRefusal }
-    ensures held { OnErr result
-        (AreBack R.Disk.Disk (R.count rack.old) (R.count rack.new) (R.held rack.old) (R.held rack.new)) }
-    ensures others_held { IfOk result (λ l. (n : ℕ) → length l.logs.items + length l.shards.items ≤ n
-        → R.held rack.new n ≡ R.held rack.old n) }
-
-    ensures few { IfOk result (λ l. length l.logs.items + length l.shards.items < 2 ^ 32) }
-    ensures logs { IfOk result
-        (λ l. EachFrom (MayReturn (λ x. R.Disk.count x.disk) (R.can_put rack.new)) 0 l.logs.items) }
-    ensures shards { IfOk result (λ l. EachFrom
-        (MayReturn (λ x. R.Disk.count x.disk) (R.can_put rack.new)) (length l.logs.items) l.shards.items) }
-    ensures others_in { IfOk result (λ l. (n : ℕ) → length l.logs.items + length l.shards.items ≤ n
-        → R.can_take rack.new n) }
-    ensures back { OnErr result ((n : ℕ) → R.can_take rack.new n) }
+    ensures back { OnErr result (AllBack R.Disk.Disk R.Rack rack.old rack.new) }
     ensures later { (n : ℕ) → R.count rack.old n ≤ R.count rack.new n }
 {
     open_ledger(rt, alloc, rack, Some(id))

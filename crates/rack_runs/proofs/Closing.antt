@@ -1,8 +1,9 @@
 -- A work over the ledger on a rack: from the opened nodes to all disks back.
-use Rattle.std.proofs.Common.{◌≡◌, ◌⊎◌, inr, ℕ, [], ◌+◌, ◌^◌, ◌<◌, ◌≤◌, List, length, Option, Result, Ok, Err, Some, sym, ap, ◌∙◌, subst, arith}
+use Rattle.std.proofs.Common.{◌≡◌, ◌⊎◌, inr, ℕ, [], ◌+◌, ◌<◌, ◌≤◌, List, length, Option, Result, Ok, Err, Some, sym, ap, ◌∙◌, subst, arith}
 use Rattle.std.specs.Prelude.{map, IfOk, IfErr}
 use Rattle.std.specs.Global.{Vec}
 use Rattle.outside.specs.declared.disk.Disk.{Ghosts}
+use Rattle.outside.specs.declared.rack.Rack.{Ghosts as RackGhosts}
 use Rattle.cbdc_types.specs.declared.answer.Answer.{Answer}
 use Rattle.cbdc_types.specs.declared.answer.Answer.TheVariants as answers
 use Rattle.cbdc_model.specs.Records.{Header, Record}
@@ -13,6 +14,7 @@ use Rattle.recovery.specs.declared.resumed.ResumedBatch.{ResumedBatch}
 use Rattle.rack_ledgers.specs.Places.{EachFrom, MayReturn}
 use Rattle.rack_ledgers.specs.Racked.{OfTold, SameRoom}
 use Rattle.rack_ledgers.specs.Ledgers.{ByPlace, AreOpened}
+use Rattle.rack_ledgers.specs.Opened.{MayClose, IsLedgerOpenedFrom}
 use Rattle.rack_ledgers.specs.Caused.{listed_journals as lent_journals, AreCaused}
 use Rattle.ledger_runs.specs.Faults.{HaveFailed, MayHoldBytes}
 use Rattle.file_runs.specs.Ledgers.{LedgerOf, IsLedger, node_journals, flights_of, faults_of, opened_of, capacity_of, HaveCheckedJournals, AreStored, AreQuiet}
@@ -154,17 +156,16 @@ module _ {D Done : Type 0} (device : Ghosts D) (deed : Deed Done) (e : AtEntry D
     shards_are device e.disks.held e.header g e.logs now e.shards after deed resumed came has.begun.nodes is seen there,
   )
 
-  pub close_few : length now + length after < 2 ^ 32
-  close_few = omega (arith, has.begun.few, as_many.0, as_many.1)
-
-  pub close_logs : EachFrom (MayReturn (λ x. device.count x.disk) can_put) 0 now
-  close_logs = logs_may device e.disks.held e.header g e.logs now e.shards after deed resumed came has.begun.nodes is seen there can_put has.begun.logs
-
-  pub close_shards : EachFrom (MayReturn (λ x. device.count x.disk) can_put) (length now) after
-  close_shards = shards_may device e.disks.held e.header g e.logs now e.shards after deed resumed came has.begun.nodes is seen there can_put has.begun.shards
-
-  pub close_others : (n : ℕ) → length now + length after ≤ n → can_take n
-  close_others n le = has.begun.others_in n (omega (arith, le, as_many.0, as_many.1))
+  -- whose disks may be put back
+  pub may_close : MayClose device can_put can_take now after
+  may_close =
+      let was = has.begun.may_close in
+      record {
+        few = omega (arith, was.few, as_many.0, as_many.1);
+        logs = logs_may device e.disks.held e.header g e.logs now e.shards after deed resumed came has.begun.nodes is seen there can_put was.logs;
+        shards = shards_may device e.disks.held e.header g e.logs now e.shards after deed resumed came has.begun.nodes is seen there can_put was.shards;
+        others = λ n le. was.others n (omega (arith, le, as_many.0, as_many.1));
+      }
 
   pub closed : (back : ℕ → Option D) → ByPlace (λ n l. OfTold (back n) (λ d. d ≡ l.disk)) now → ByPlace (λ s x. OfTold (back (length now + s)) (λ d. d ≡ x.disk)) after → (counts : ℕ → ℕ)
       → ByPlace (λ n l. device.count l.disk ≤ counts n) now → ByPlace (λ s x. device.count x.disk ≤ counts (length now + s)) after → ((n : ℕ) → length now + length after ≤ n → back n ≡ middle n)
@@ -179,23 +180,19 @@ module _ {D Done : Type 0} (device : Ghosts D) (deed : Deed Done) (e : AtEntry D
 abbrev pub at_entry : {D : Type 0} → (ℕ → Option D) → (ℕ → ℕ) → Header → List (NodeOf D) → List (NodeOf D) → AtEntry D
 at_entry held before h logs shards = record { disks = record { held = held; faults = before }; header = h; logs = logs; shards = shards }
 
-module _ {D : Type 0} (device : Ghosts D) (e : AtEntry D) (middle : ℕ → Option D) (can_put : ℕ → ℕ → Type 0) (can_take : ℕ → Type 0) where
-  pub is_open : AreOpened device e.disks.held e.header e.logs e.shards → AreCaused e.header.shape (lent_journals e.logs e.shards) → length e.logs + length e.shards < 2 ^ 32
-      → ByPlace (λ n x. e.disks.faults n ≤ device.count x.disk) e.logs → ByPlace (λ s x. e.disks.faults (e.header.shape.coordinators + s) ≤ device.count x.disk) e.shards
-      → EachFrom (MayReturn (λ x. device.count x.disk) can_put) 0 e.logs → EachFrom (MayReturn (λ x. device.count x.disk) can_put) (length e.logs) e.shards
-      → ((n : ℕ) → length e.logs + length e.shards ≤ n → middle n ≡ e.disks.held n) → ((n : ℕ) → length e.logs + length e.shards ≤ n → can_take n) → IsLedgerOpened device e middle can_put can_take
-  is_open nodes caused few logs_since shards_since logs shards others others_in = record {
-    nodes = nodes;
+module _ {R D : Type 0} (device : Ghosts D) (rack : RackGhosts R D) (old new : R) (h : Header) (logs : List (NodeOf D)) (shards : List (NodeOf D)) where
+  pub is_open : IsLedgerOpenedFrom device rack old new h logs shards → AreCaused h.shape (lent_journals logs shards)
+      → IsLedgerOpened device (at_entry (rack.held old) (rack.count old) h logs shards) (rack.held new) (rack.can_put new) (rack.can_take new)
+  is_open opened caused = record {
+    nodes = opened.nodes;
     caused = caused;
-    few = few;
-    logs_since = logs_since;
-    shards_since = shards_since;
-    logs = logs;
-    shards = shards;
-    others = others;
-    others_in = others_in;
+    logs_since = opened.logs_since;
+    shards_since = opened.shards_since;
+    others = opened.others_held;
+    may_close = opened.may_close;
   }
 
+module _ {D : Type 0} (device : Ghosts D) (e : AtEntry D) (middle : ℕ → Option D) (can_put : ℕ → ℕ → Type 0) (can_take : ℕ → Type 0) where
   -- a lane met a fault as open batches were brought to their end
   pub stopped_come : {Done : Type 0} (deed : Deed Done) → IsLedgerOpened device e middle can_put can_take → (first ledger : LedgerOf D) → first ≡ entry_ledger e → (came : Result (Vec ResumedBatch) LaneFault) (f : LaneFault)
       → came ≡ Err f → HasResumed device first ledger came → HasOpenedAndRun device deed e middle can_put can_take ledger [] (Err f)

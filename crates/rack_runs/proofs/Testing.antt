@@ -1,15 +1,15 @@
 -- A command's own test of the ledger at entry: where it refuses the ledger the disks are back unchanged; what it let pass is the ledger that a rack showed.
-use Rattle.std.proofs.Common.{◌≡◌, ◌⊎◌, inl, inr, ℕ, ◌+◌, ◌^◌, ◌<◌, ◌≤◌, List, length, Option, sym, ◌∙◌, subst}
+use Rattle.std.proofs.Common.{◌≡◌, ◌⊎◌, inl, inr, ℕ, ◌+◌, ◌≤◌, List, length, Option, sym, ◌∙◌, subst}
 use Rattle.outside.specs.declared.disk.Disk.{Ghosts}
 use Rattle.cbdc_types.specs.declared.answer.Answer.{Answer}
 use Rattle.cbdc_types.specs.declared.answer.Answer.TheVariants as answers
 use Rattle.cbdc_model.specs.Records.{Shape, Record}
 use Rattle.cbdc_model.specs.Coins.{genesis_id}
-use Rattle.rack_ledgers.specs.Places.{EachFrom, MayReturn}
 use Rattle.rack_ledgers.specs.Racked.{OfTold, AreUnchanged}
 use Rattle.command_answers.specs.Scene.{AreDisksBack}
 use Rattle.rack_ledgers.proofs.Told.{same_back}
 use Rattle.rack_ledgers.specs.Ledgers.{ByPlace}
+use Rattle.rack_ledgers.specs.Opened.{MayClose}
 use Rattle.rack_ledgers.proofs.CausedTold.{told_history}
 use Rattle.rack_ledgers.proofs.Closed.{all_same}
 use Rattle.file_runs.specs.Ledgers.{LedgerOf, node_journals, ledger_journals}
@@ -34,17 +34,8 @@ module _ {D : Type 0} (device : Ghosts D) (e : AtEntry D) (middle : ℕ → Opti
     same = sym apart ∙ made
 
     -- they may be put back
-    pub back_few : length l.logs + length l.shards < 2 ^ 32
-    back_few = subst (λ (x : LedgerOf D). length x.logs + length x.shards < 2 ^ 32) (sym same) begun.few
-
-    pub back_logs : EachFrom (MayReturn (λ x. device.count x.disk) can_put) 0 l.logs
-    back_logs = subst (λ (x : LedgerOf D). EachFrom (MayReturn (λ y. device.count y.disk) can_put) 0 x.logs) (sym same) begun.logs
-
-    pub back_shards : EachFrom (MayReturn (λ x. device.count x.disk) can_put) (length l.logs) l.shards
-    back_shards = subst (λ (x : LedgerOf D). EachFrom (MayReturn (λ y. device.count y.disk) can_put) (length x.logs) x.shards) (sym same) begun.shards
-
-    pub back_others : (n : ℕ) → length l.logs + length l.shards ≤ n → can_take n
-    back_others = subst (λ (x : LedgerOf D). (n : ℕ) → length x.logs + length x.shards ≤ n → can_take n) (sym same) begun.others_in
+    pub may_close : MayClose device can_put can_take l.logs l.shards
+    may_close = subst (λ (x : LedgerOf D). MayClose device can_put can_take x.logs x.shards) (sym same) begun.may_close
 
     module _ (back : ℕ → Option D) (put : ArePut middle back l) where
       unchanged : AreUnchanged device e.disks.held back

@@ -1,5 +1,5 @@
 -- What a command does over a ledger whose open batches are at their end, and what that leaves of the ledger that a rack showed.
-use Rattle.std.specs.Prelude.{◌≡◌, ◌⊎◌, ℕ, ◌+◌, ◌*◌, ◌^◌, ◌<◌, ◌≤◌, List, length, ◌++◌, Option, Result, All, IfOk, IfErr, OnOk}
+use Rattle.std.specs.Prelude.{◌≡◌, ◌⊎◌, ℕ, ◌+◌, ◌*◌, ◌<◌, ◌≤◌, List, length, ◌++◌, Option, Result, All, IfOk, IfErr, OnOk}
 use Rattle.outside.specs.declared.disk.Disk.{Ghosts}
 use Rattle.cbdc_types.specs.Limits.{IsWithinLimits}
 use Rattle.cbdc_types.specs.declared.answer.Answer.{Answer}
@@ -22,8 +22,8 @@ use Rattle.ledger_runs.specs.Faults.{IsRunCause, HaveFailed, MayHoldBytes, Lanes
 use Rattle.file_runs.specs.Ledgers.{LedgerOf, ledger_journals, ledger_flights, ledger_faults, ledger_opened, ledger_capacity, IsChecked, IsLedgerQuiet, KeepsLedgerOf}
 use Rattle.file_runs.specs.Runs.{joined, FliesWith}
 use Rattle.command_answers.specs.Scene.{Disks}
-use Rattle.rack_ledgers.specs.Places.{EachFrom, MayReturn}
 use Rattle.rack_ledgers.specs.Ledgers.{ByPlace, AreOpened}
+use Rattle.rack_ledgers.specs.Opened.{MayClose}
 use Rattle.rack_ledgers.specs.Caused.{listed_journals as told_journals, AreCaused}
 use Rattle.rack_laws.specs.Shown.{OfShown, HoldsEach, NodeHasRoom, NodeFits}
 use Rattle.rack_ledgers.specs.RefusalLaws.{AllHaveRoom}
@@ -195,13 +195,10 @@ pub record IsLedgerOpened {D : Type 0} (device : Ghosts D) (e : AtEntry D) (held
     (can_put : ℕ → ℕ → Type 0) (can_take : ℕ → Type 0) : Type 0 where
   pub nodes : AreOpened device e.disks.held e.header e.logs e.shards
   pub caused : AreCaused e.header.shape (told_journals e.logs e.shards)
-  pub few : length e.logs + length e.shards < 2 ^ 32
   pub logs_since : ByPlace (λ n x. e.disks.faults n ≤ device.count x.disk) e.logs
   pub shards_since : ByPlace (λ s x. e.disks.faults (e.header.shape.coordinators + s) ≤ device.count x.disk) e.shards
-  pub logs : EachFrom (MayReturn (λ x. device.count x.disk) can_put) 0 e.logs
-  pub shards : EachFrom (MayReturn (λ x. device.count x.disk) can_put) (length e.logs) e.shards
   pub others : (n : ℕ) → length e.logs + length e.shards ≤ n → held n ≡ e.disks.held n
-  pub others_in : (n : ℕ) → length e.logs + length e.shards ≤ n → can_take n
+  pub may_close : MayClose device can_put can_take e.logs e.shards
 
 -- they were opened, their open batches were brought to their end, and a work was done
 pub record HasOpenedAndRun {D Done : Type 0} (device : Ghosts D) (d : Deed Done) (e : AtEntry D) (held : ℕ → Option D)

@@ -88,3 +88,9 @@ returns-clause-fault g c = if_err_by _ _ c.audit_on.result (λ e kind. refusal_f
 
 pub returns-clause-untouched : goal.returns-clause-untouched
 returns-clause-untouched g c = if_err_by _ _ c.audit_on.result (λ e kind before. absurd (not_refused e kind before)) c.audit_on.ensures.kind
+
+pub returns-clause-held : goal.returns-clause-held
+returns-clause-held g c = c.audit_on.ensures.back.held
+
+pub returns-clause-back : goal.returns-clause-back
+returns-clause-back g c = c.audit_on.ensures.back.takes

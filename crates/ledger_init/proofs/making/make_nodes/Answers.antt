@@ -1,8 +1,9 @@
-use Rattle.std.proofs.Common.{◌≡◌, ◌∙◌, ◌+◌, ◌≤◌, ◌<◌, ℕ, length, subst, arith, ap, inl, inr}
+use Rattle.std.proofs.Common.{◌≡◌, ◌∙◌, ◌+◌, ◌≤◌, le_trans, ◌<◌, length, subst, arith, ap, inl, inr, ⊎_elim}
+use Rattle.std.proofs.lemmas.Bool.{cases_lt}
 use Rattle.cbdc_model.specs.History.{Minted}
 use Rattle.cbdc_model.specs.World.{first_record}
 use Rattle.rack_ledgers.specs.Places.{EachFrom}
-use Rattle.rack_ledgers.specs.Racked.{OfTold, FailsFirst}
+use Rattle.rack_ledgers.specs.Racked.{OfTold}
 use Rattle.rack_ledgers.proofs.Each.{each_weaker}
 use Rattle.rack_ledgers.proofs.Closing.{closed_whole}
 use Rattle.rack_ledgers.specs.declared.blank.Blank.{Blank}
@@ -104,7 +105,7 @@ pub returns-in-Err-clause-stops : goal.returns-in-Err-clause-stops
 returns-in-Err-clause-stops g c =
     inl (back_all g.R.Disk.Disk (g.R.Rack.count c.args.rack.now) (g.R.Rack.count c.open_all.new.rack) (λ n. g.R.Rack.held c.args.rack.now n) (λ n. g.R.Rack.held c.open_all.new.rack n) (node_count c.args.shape.now)
     (λ n lt. c.in-Err.ensures.held n (omega (arith, ap length c.new.ensures.items)) (omega (arith, lt, c.coordinators.ensures.value, c.shards.ensures.value)))
-    (λ n ge. c.open_all.ensures.others_held n (inr (omega (arith, ge, c.coordinators.ensures.value, c.shards.ensures.value)))))
+    (λ n ge. c.open_all.ensures.others.held n (inr (omega (arith, ge, c.coordinators.ensures.value, c.shards.ensures.value)))))
 
 pub returns-clause-stops : goal.returns-clause-stops
 returns-clause-stops g c =
@@ -118,5 +119,51 @@ returns-clause-stops g c =
     inr (
       length stopped.front,
       stopped_at g.R.Disk.Disk (λ (b : Blank g.row.R-Disk.Denot). b.disk) (λ (b : Blank g.row.R-Disk.Denot). b.node) c.args.shape.now c.args.mint (λ n. g.R.Rack.held c.args.rack.now n) (λ n. g.R.Rack.held c.write_firsts.new.rack n) (λ n. g.R.Rack.count c.args.rack.now n) (λ n. g.R.Rack.count c.write_firsts.new.rack n) blanks all opened c.in-Err-write_firsts.fault stopped c.requires.fits
-          (λ n ge. c.write_firsts.ensures.others_held n (omega (arith, ge, all)) ∙ c.open_all.ensures.others_held n (inr (omega (arith, ge, c.coordinators.ensures.value, c.shards.ensures.value)))),
+          (λ n ge. c.write_firsts.ensures.others_held n (omega (arith, ge, all)) ∙ c.open_all.ensures.others.held n (inr (omega (arith, ge, c.coordinators.ensures.value, c.shards.ensures.value)))),
     )
+
+pub returns-in-Err-clause-others_held : goal.returns-in-Err-clause-others_held
+returns-in-Err-clause-others_held g c = λ n ge. c.open_all.ensures.others.held n (inr (omega (arith, ge, c.coordinators.ensures.value, c.shards.ensures.value)))
+
+pub returns-in-Ok-write_firsts-clause-others_held : goal.returns-in-Ok-write_firsts-clause-others_held
+returns-in-Ok-write_firsts-clause-others_held g c = λ n ge.
+    c.write_firsts.ensures.others_held n (omega (arith, ge, c.in-Ok-open_all.ensures.all, c.coordinators.ensures.value, c.shards.ensures.value))
+    ∙ c.open_all.ensures.others.held n (inr (omega (arith, ge, c.coordinators.ensures.value, c.shards.ensures.value)))
+
+pub returns-clause-others_held : goal.returns-clause-others_held
+returns-clause-others_held g c = λ n ge.
+    c.write_firsts.ensures.others_held n (omega (arith, ge, c.in-Ok-open_all.ensures.all, c.coordinators.ensures.value, c.shards.ensures.value))
+    ∙ c.open_all.ensures.others.held n (inr (omega (arith, ge, c.coordinators.ensures.value, c.shards.ensures.value)))
+
+pub returns-in-Err-clause-back : goal.returns-in-Err-clause-back
+returns-in-Err-clause-back g c = λ n.
+    let end = 0 + (c.coordinators.result + c.shards.result) in
+    ⊎_elim
+    (λ (below : n < end). c.in-Err.ensures.back n (omega arith) below)
+    (λ (above : end ≤ n). c.open_all.ensures.others.takes n (inr above) (c.requires.all n))
+    (cases_lt n end)
+
+pub returns-in-Ok-write_firsts-clause-back : goal.returns-in-Ok-write_firsts-clause-back
+returns-in-Ok-write_firsts-clause-back g c = λ n.
+    let blanks = c.in-Ok-open_all.blanks.items in
+    ⊎_elim
+    (λ (below : n < length blanks). c.write_firsts.ensures.back n below)
+    (λ (above : length blanks ≤ n). c.write_firsts.ensures.others_in n above (c.open_all.ensures.others.takes n (inr (omega (arith, above, c.in-Ok-open_all.ensures.all))) (c.requires.all n)))
+    (cases_lt n (length blanks))
+
+pub returns-clause-back : goal.returns-clause-back
+returns-clause-back g c = λ n.
+    let blanks = c.in-Ok-open_all.blanks.items in
+    ⊎_elim
+    (λ (below : n < length blanks). c.write_firsts.ensures.back n below)
+    (λ (above : length blanks ≤ n). c.write_firsts.ensures.others_in n above (c.open_all.ensures.others.takes n (inr (omega (arith, above, c.in-Ok-open_all.ensures.all))) (c.requires.all n)))
+    (cases_lt n (length blanks))
+
+pub returns-in-Err-clause-later : goal.returns-in-Err-clause-later
+returns-in-Err-clause-later g c = c.open_all.ensures.others.later
+
+pub returns-in-Ok-write_firsts-clause-later : goal.returns-in-Ok-write_firsts-clause-later
+returns-in-Ok-write_firsts-clause-later g c = λ n. le_trans (c.open_all.ensures.others.later n) (c.write_firsts.ensures.later n)
+
+pub returns-clause-later : goal.returns-clause-later
+returns-clause-later g c = λ n. le_trans (c.open_all.ensures.others.later n) (c.write_firsts.ensures.later n)

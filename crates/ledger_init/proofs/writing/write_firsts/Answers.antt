@@ -1,12 +1,11 @@
-use Rattle.std.proofs.Common.{◌≡◌, ◌≢◌, ◌+◌, ◌<◌, ◌∷◌, [], ℕ, suc, length, refl, sym, ◌∙◌, ap, subst, arith, ⊎_elim, inl, inr, length-append}
-use Rattle.std.proofs.lemmas.Bool.{cases_eq}
+use Rattle.std.proofs.Common.{◌≡◌, ◌≢◌, ◌≤◌, le_trans, ◌+◌, ◌<◌, ◌∷◌, [], ℕ, suc, length, sym, ◌∙◌, ap, subst, arith, ⊎_elim, inr, length-append}
+use Rattle.std.proofs.lemmas.Bool.{cases_eq, cases_lt}
 use Rattle.std.proofs.lemmas.List.{nil_from_length}
 use Rattle.cbdc_model.specs.World.{first_record}
 use Rattle.rack_ledgers.specs.Places.{EachFrom, MayReturn}
-use Rattle.rack_ledgers.specs.Racked.{ListGoesOn}
 use Rattle.rack_ledgers.proofs.Each.{each_front, each_last, each_weaker}
-use Rattle.rack_ledgers.proofs.Closing.{closed_more, closed_none, closed_whole}
-use Rattle.ledger_init.specs.Places.{minted_by, IsFirstWritten, IsStopped}
+use Rattle.rack_ledgers.proofs.Closing.{closed_more, closed_whole}
+use Rattle.ledger_init.specs.Places.{minted_by, IsFirstWritten}
 use Rattle.ledger_init.proofs.Written.{stops, done_still, stopped_still}
 use Rattle.ledger_init.proofs.writing.write_firsts.Goals as goal
 
@@ -38,9 +37,9 @@ returns-in-Err-clause-stopped g c =
     _ c.blanks.blanks.items c.pop.new.self.items c.args.blanks.items c.in-Some.blank node place c.in-Some.ensures.items c.blanks.invariant.done
     (λ k d above is. let other : k ≢ node = omega (arith, above) in
     done_still g.R.Disk.Disk (first_record c.args.shape.now (minted_by c.args.genesis.now) k) d.disk (g.R.Rack.held c.blanks.rack k) (g.R.Rack.held c.close_all.new.rack k)
-    (c.close_all.ensures.others_held k (inr (omega (arith, place, above))) ∙ c.write_at.ensures.others_held k other) is)
+    (c.close_all.ensures.others.held k (inr (omega (arith, place, above))) ∙ c.write_at.ensures.others_held k other) is)
     (stopped_still g.R.Disk.Disk node (first_record c.args.shape.now (minted_by c.args.genesis.now) node) c.in-Err.fault (g.R.Rack.count c.write_at.new.rack node) (g.R.Rack.count c.close_all.new.rack node)
-    c.in-Some.blank.disk (g.R.Rack.held c.write_at.new.rack node) (g.R.Rack.held c.close_all.new.rack node) (c.close_all.ensures.others_held node (inr (omega (arith, place)))) (c.close_all.ensures.later node) c.in-Err.ensures.stopped)
+    c.in-Some.blank.disk (g.R.Rack.held c.write_at.new.rack node) (g.R.Rack.held c.close_all.new.rack node) (c.close_all.ensures.others.held node (inr (omega (arith, place)))) (c.close_all.ensures.others.later node) c.in-Err.ensures.stopped)
     c.close_all.ensures.closed
 
 pub blanks-preserved : goal.blanks-preserved
@@ -74,3 +73,35 @@ blanks-preserved g c =
 
 pub returns-clause-done : goal.returns-clause-done
 returns-clause-done g c = closed_whole _ 0 c.blanks.blanks.items c.args.blanks.items (nil_from_length c.blanks.blanks.items (omega (arith, c.in_default.ensures.cases.0, c.blanks.blanks.ok))) c.blanks.invariant.done
+
+pub returns-in-Err-clause-others_held : goal.returns-in-Err-clause-others_held
+returns-in-Err-clause-others_held g c = λ n ge.
+    let node = c.len.result in
+    let place : node ≡ length c.pop.new.self.items = omega (arith, c.len.ensures, c.pop.new.self.ok) in
+    let older : length c.blanks.blanks.items ≡ suc (length c.pop.new.self.items) = omega (arith, ap length c.in-Some.ensures.items, length-append c.pop.new.self.items (c.in-Some.blank ∷ [])) in
+    let other : n ≢ node = omega (arith, ge, place, older, c.blanks.invariant.fewer) in
+    c.close_all.ensures.others.held n (inr (omega (arith, ge, older, c.blanks.invariant.fewer))) ∙ c.write_at.ensures.others_held n other ∙ c.blanks.invariant.others_held n ge
+
+pub returns-in-Err-clause-back : goal.returns-in-Err-clause-back
+returns-in-Err-clause-back g c = λ n lt.
+    let node = c.len.result in
+    let place : node ≡ length c.pop.new.self.items = omega (arith, c.len.ensures, c.pop.new.self.ok) in
+    let older : length c.blanks.blanks.items ≡ suc (length c.pop.new.self.items) = omega (arith, ap length c.in-Some.ensures.items, length-append c.pop.new.self.items (c.in-Some.blank ∷ [])) in
+    ⊎_elim
+    (λ (below : n < node). c.close_all.ensures.back n (omega arith) (omega (arith, below, place)))
+    (λ (above : node ≤ n). c.close_all.ensures.others.takes n (inr (omega (arith, above, place))) (⊎_elim
+    (λ (same : n ≡ node). subst (λ (k : ℕ). g.R.Rack.can_take c.write_at.new.rack k) (sym same) c.write_at.ensures.back)
+    (λ (other : n ≢ node). c.write_at.ensures.others_in n other (c.blanks.invariant.back n (omega (arith, above, other, place, older)) lt))
+    (cases_eq n node)))
+    (cases_lt n node)
+
+pub returns-in-Err-clause-others_in : goal.returns-in-Err-clause-others_in
+returns-in-Err-clause-others_in g c = λ n ge can.
+    let node = c.len.result in
+    let place : node ≡ length c.pop.new.self.items = omega (arith, c.len.ensures, c.pop.new.self.ok) in
+    let older : length c.blanks.blanks.items ≡ suc (length c.pop.new.self.items) = omega (arith, ap length c.in-Some.ensures.items, length-append c.pop.new.self.items (c.in-Some.blank ∷ [])) in
+    let other : n ≢ node = omega (arith, ge, place, older, c.blanks.invariant.fewer) in
+    c.close_all.ensures.others.takes n (inr (omega (arith, ge, older, c.blanks.invariant.fewer))) (c.write_at.ensures.others_in n other (c.blanks.invariant.others_in n ge can))
+
+pub returns-in-Err-clause-later : goal.returns-in-Err-clause-later
+returns-in-Err-clause-later g c = λ n. le_trans (c.blanks.invariant.later n) (le_trans (c.write_at.ensures.later n) (c.close_all.ensures.others.later n))

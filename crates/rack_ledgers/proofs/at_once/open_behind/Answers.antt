@@ -2,9 +2,10 @@ use Rattle.std.proofs.Common.{◌≤◌, ◌<◌, ◌+◌, ◌++◌, [], List, l
 use Rattle.std.proofs.lemmas.Bool.{cases_lt}
 use Rattle.cbdc_types.specs.declared.answer.Answer.{Answer}
 use Rattle.rack_ledgers.specs.Places.{MayReturn}
+use Rattle.rack_ledgers.proofs.Others.{kept_same, kept_wider, kept_then}
 use Rattle.rack_ledgers.proofs.Told.{back_same}
 use Rattle.rack_ledgers.specs.Slots.{nodes_in, AreNodesOpen, AreNotRefused, IsFirstNodeFault, OpensAt, FailsAt}
-use Rattle.rack_ledgers.proofs.Beside.{outside_less, each_both, count_of, each_out, each_back, are_open, each_open, refused_first, fails_behind}
+use Rattle.rack_ledgers.proofs.Beside.{each_both, count_of, each_out, each_back, are_open, each_open, refused_first, fails_behind}
 use Rattle.rack_ledgers.proofs.at_once.open_behind.Goals as goal
 
 pub returns-in-Err-clause-refusal : goal.returns-in-Err-clause-refusal
@@ -63,7 +64,7 @@ returns-in-Some-clause-refusal g c =
     (omega (arith, missed.1)) c.open_taken-slots.ensures.came
     (are_open d n.disk_of n.opens n.fits n.refusals n.refused c.args.ledger.now held before c.args.first slots c.open_taken-slots.ensures.came missed.0)
     (subst (λ (a : Answer). FailsAt d n.disk_of n.opens n.fits n.refusals n.refused c.args.ledger.now held before now node a) (sym missed.2)
-    (((n.may_fail node).1, (refl, omega (arith, c.open_taken-slots.ensures.failed missed.1, c.put_back.ensures.later node))), λ was is bytes told. (n.free node (Some c.args.ledger.now) (d.limit was) bytes).1)))
+    (((n.may_fail node).1, (refl, omega (arith, c.open_taken-slots.ensures.failed missed.1, c.put_back.ensures.others.later node))), λ was is bytes told. (n.free node (Some c.args.ledger.now) (d.limit was) bytes).1)))
     why
 
 pub returns-in-Some-clause-held : goal.returns-in-Some-clause-held
@@ -78,28 +79,23 @@ returns-in-Some-clause-held g c =
     λ k ge lt. ⊎_elim
     (λ (below : k < c.args.first + length slots). each_back d n.disk_of n.opens n.fits n.refusals n.refused c.args.ledger.now held new before now c.args.first slots
     c.open_taken-slots.ensures.came c.put_back.ensures.closed c.put_back.ensures.counted k ge below)
-    (λ (above : c.args.first + length slots ≤ k). back_same d (before k) (now k) (held k) (new k) (c.put_back.ensures.others_held k (inr above) ∙ c.open_taken-slots.ensures.others_held k (inr above)))
+    (λ (above : c.args.first + length slots ≤ k). back_same d (before k) (now k) (held k) (new k) (c.put_back.ensures.others.held k (inr above) ∙ c.open_taken-slots.ensures.untaken.held k above lt))
     (cases_lt k (c.args.first + length slots))
-
-pub returns-in-Some-clause-others_held : goal.returns-in-Some-clause-others_held
-returns-in-Some-clause-others_held g c = λ k outside.
-    let out = outside_less c.args.first (c.args.first + length c.open_taken-slots.result.items) (c.args.first + c.args.count) k (omega (arith, c.open_taken-slots.ensures.some)) outside in
-    c.put_back.ensures.others_held k out ∙ c.open_taken-slots.ensures.others_held k out
 
 pub returns-in-Some-clause-back : goal.returns-in-Some-clause-back
 returns-in-Some-clause-back g c = λ k ge lt.
     let end = c.args.first + length c.open_taken-slots.result.items in
     ⊎_elim
     (λ (below : k < end). c.put_back.ensures.back k ge below)
-    (λ (above : end ≤ k). c.put_back.ensures.others_in k (inr above) (c.open_taken-slots.ensures.others_in k (inr above) (c.requires.waiting k ge lt)))
+    (λ (above : end ≤ k). c.put_back.ensures.others.takes k (inr above) (c.open_taken-slots.ensures.untaken.takes k above lt (c.requires.waiting k ge lt)))
     (cases_lt k end)
 
-pub returns-in-Some-clause-others_in : goal.returns-in-Some-clause-others_in
-returns-in-Some-clause-others_in g c = λ k outside can.
-    let out = outside_less c.args.first (c.args.first + length c.open_taken-slots.result.items) (c.args.first + c.args.count) k (omega (arith, c.open_taken-slots.ensures.some)) outside in
-    c.put_back.ensures.others_in k out (c.open_taken-slots.ensures.others_in k out can)
+pub returns-in-Err-clause-others : goal.returns-in-Err-clause-others
+returns-in-Err-clause-others g c = kept_same
 
-pub returns-in-Some-clause-others_out : goal.returns-in-Some-clause-others_out
-returns-in-Some-clause-others_out g c = λ k m outside can.
-    let out = outside_less c.args.first (c.args.first + length c.open_taken-slots.result.items) (c.args.first + c.args.count) k (omega (arith, c.open_taken-slots.ensures.some)) outside in
-    c.put_back.ensures.others_out k m out (c.open_taken-slots.ensures.others_out k m outside can)
+pub returns-in-None-clause-others : goal.returns-in-None-clause-others
+returns-in-None-clause-others g c = c.open_taken-slots.ensures.others
+
+pub returns-in-Some-clause-others : goal.returns-in-Some-clause-others
+returns-in-Some-clause-others g c =
+    kept_then c.open_taken-slots.ensures.others (kept_wider (omega arith) (omega (arith, c.open_taken-slots.ensures.some)) c.put_back.ensures.others)

@@ -1,6 +1,6 @@
-use Rattle.std.proofs.Common.{◌≡◌, ◌<◌, ◌+◌, ℕ, sym, subst, arith}
+use Rattle.std.proofs.Common.{◌<◌, ◌+◌, ℕ, sym, subst, arith}
 use Rattle.outside.specs.Counts.{Rose}
-use Rattle.rack_ledgers.specs.Places.{IsOutsideRange}
+use Rattle.rack_ledgers.specs.Others.{KeepsDisks}
 use Rattle.rack_ledgers.specs.Slots.{SlotResult, SlotResultAt, IsTakenSlot, MayPut}
 use Rattle.rack_ledgers.proofs.Beside.{all_wait, each_came, came_at, came_put}
 use Rattle.rack_ledgers.proofs.at_once.open_taken.Goals as goal
@@ -26,9 +26,7 @@ returns g c =
       some = omega (arith, same, taken.some);
       came = each_came C T A (λ k s t came is. came_at d n.disk_of n.opens n.fits n.refusals n.refused c.args.ledger.now held before k s t came is) c.args.first olds news same c.open_list.ensures.came taken.taken;
       failed = subst (λ (k : ℕ). k < c.args.count → Rose (before (c.args.first + k)) (g.R.Rack.count c.take_disks-slots.new.rack (c.args.first + k))) (sym same) taken.failed;
-      others_held = subst (λ (k : ℕ). (m : ℕ) → IsOutsideRange c.args.first (c.args.first + k) m → g.R.Rack.held c.take_disks-slots.new.rack m ≡ held m) (sym same) taken.others_held;
       out = each_came C P P (λ k s t came may. came_put d n.disk_of n.opens n.fits n.refusals n.refused c.args.ledger.now (g.R.Rack.can_put c.take_disks-slots.new.rack) k s t came may) c.args.first olds news same c.open_list.ensures.came taken.out;
-      others_in = subst (λ (k : ℕ). (m : ℕ) → IsOutsideRange c.args.first (c.args.first + k) m → g.R.Rack.can_take c.args.rack.now m → g.R.Rack.can_take c.take_disks-slots.new.rack m) (sym same) taken.others_in;
-      others_out = taken.others_out;
-      later = taken.later;
+      untaken = subst (λ (k : ℕ). KeepsDisks g.R.Rack (c.args.first + k) (c.args.first + c.args.count) c.args.rack.now c.take_disks-slots.new.rack) (sym same) taken.untaken;
+      others = taken.others;
     }

@@ -1,10 +1,10 @@
-use Rattle.std.proofs.Common.{◌≡◌, ◌≢◌, ◌≤◌, le_trans, ◌+◌, ◌∷◌, [], ℕ, suc, length, refl, sym, ◌∙◌, ap, subst, arith, ⊎_elim, length-append}
+use Rattle.std.proofs.Common.{◌≡◌, ◌≢◌, ◌≤◌, le_trans, ◌+◌, ◌∷◌, [], ℕ, suc, length, sym, ◌∙◌, ap, subst, arith, ⊎_elim, length-append}
 use Rattle.std.proofs.lemmas.Bool.{cases_eq}
 use Rattle.std.proofs.lemmas.List.{nil_from_length}
 use Rattle.rack_ledgers.specs.Places.{EachFrom}
 use Rattle.rack_ledgers.specs.Racked.{OfTold}
 use Rattle.rack_ledgers.proofs.Each.{each_front, each_last, each_weaker}
-use Rattle.rack_ledgers.proofs.Range.{not_outside}
+use Rattle.rack_ledgers.proofs.Others.{kept_same, kept_but, kept_wider, kept_then}
 use Rattle.rack_ledgers.proofs.Told.{of_told}
 use Rattle.rack_ledgers.proofs.Closing.{closed_more, closed_none, closed_whole}
 use Rattle.rack_ledgers.specs.Slots.{faults_in, MayPut, IsDiskIn}
@@ -51,14 +51,12 @@ slots-preserved g c =
           (λ k s other le. le_trans le (c.put.ensures.later k))
           (omega (arith, faults_of g.R.Disk.Disk g.N.OnDisk.disk_of c.in-Some.slot c.into_disk.result c.into_disk.ensures, c.put.ensures.count))
           c.slots.invariant.counted;
-      others_held = λ n outside. let other : n ≢ node = not_outside outside (omega (arith, place)) (omega (arith, place, older, c.slots.invariant.fewer)) in c.put.ensures.others n other ∙ c.slots.invariant.others_held n outside;
       back = λ n ge lt. ⊎_elim
           (λ same. subst (λ (k : ℕ). g.R.Rack.can_take c.put.new.self k) (sym same) c.put.ensures.back)
           (λ other. c.put.ensures.others_in n other (c.slots.invariant.back n (omega (arith, older, place)) lt))
           (cases_eq n node);
-      others_in = λ n outside can. let other : n ≢ node = not_outside outside (omega (arith, place)) (omega (arith, place, older, c.slots.invariant.fewer)) in c.put.ensures.others_in n other (c.slots.invariant.others_in n outside can);
-      others_out = λ n k outside can. let other : n ≢ node = not_outside outside (omega (arith, place)) (omega (arith, place, older, c.slots.invariant.fewer)) in c.put.ensures.others_out n k other (c.slots.invariant.others_out n k outside can);
-      later = λ n. omega (arith, c.slots.invariant.later n, c.put.ensures.later n);
+      others = kept_then c.slots.invariant.others
+          (kept_wider (omega (arith, place)) (omega (arith, place, older, c.slots.invariant.fewer)) (kept_but c.put.ensures.others c.put.ensures.others_in c.put.ensures.others_out c.put.ensures.later));
     }
 
 pub slots-init : goal.slots-init
@@ -68,11 +66,8 @@ slots-init g c = record {
   out = c.requires.out;
   closed = closed_none _ c.args.first c.args.slots.items;
   counted = closed_none _ c.args.first c.args.slots.items;
-  others_held = λ n outside. refl;
   back = λ n ge lt. absurd (omega (arith, ge, lt));
-  others_in = λ n outside can. can;
-  others_out = λ n k outside can. can;
-  later = λ n. omega arith;
+  others = kept_same;
 }
 
 pub returns-clause-closed : goal.returns-clause-closed
@@ -80,3 +75,6 @@ returns-clause-closed g c = closed_whole _ c.args.first c.slots.slots.items c.ar
 
 pub returns-clause-counted : goal.returns-clause-counted
 returns-clause-counted g c = closed_whole _ c.args.first c.slots.slots.items c.args.slots.items (nil_from_length c.slots.slots.items (omega (arith, c.in_default.ensures.cases.0, c.slots.slots.ok))) c.slots.invariant.counted
+
+pub returns-clause-others : goal.returns-clause-others
+returns-clause-others g c = c.slots.invariant.others

@@ -1,7 +1,8 @@
-use Rattle.std.proofs.Common.{◌≡◌, ◌≢◌, ◌+◌, ◌∷◌, [], ℕ, length, refl, sym, ◌∙◌, ap, subst, arith, ⊎_elim, inl, inr, length-append}
+use Rattle.std.proofs.Common.{◌≡◌, ◌≢◌, ◌+◌, ◌∷◌, [], ℕ, length, refl, sym, ◌∙◌, ap, subst, arith, ⊎_elim, inr, length-append}
+use Rattle.std.proofs.lemmas.Bool.{cases_eq}
 use Rattle.rack_ledgers.specs.Places.{EachFrom}
 use Rattle.rack_ledgers.proofs.Each.{each_push, each_weaker}
-use Rattle.rack_ledgers.proofs.Range.{not_outside}
+use Rattle.rack_ledgers.proofs.Others.{kept_but, kept_wider, kept_then}
 use Rattle.rack_ledgers.proofs.Told.{of_told}
 use Rattle.rack_ledgers.specs.declared.slots.Slot.{Slot}
 use Rattle.rack_ledgers.specs.declared.slots.Slot.TheVariants as slots
@@ -17,6 +18,38 @@ returns-in-Err-clause-out g c =
     (λ k s ge lt may. let other : k ≢ node = omega (arith, place) in may_still g.R.Disk.Disk g.N.OnDisk.disk_of (g.R.Rack.can_put c.places.rack) (g.R.Rack.can_put c.take.new.self) k s (λ m can. c.take.ensures.others_out k m other can) may)
     c.places.invariant.out
 
+pub returns-in-Err-clause-untaken : goal.returns-in-Err-clause-untaken
+returns-in-Err-clause-untaken g c =
+    let node = c.args.first + c.places.place in
+    let place = c.places.invariant.place in
+    let refused = c.in-Err.ensures.refused in
+    record {
+      held = λ n ge lt. ⊎_elim
+          (λ (same : n ≡ node). subst (λ (k : ℕ). g.R.Rack.held c.take.new.self k ≡ g.R.Rack.held c.places.rack k) (sym same) refused.1 ∙ c.places.invariant.others.held n (inr ge))
+          (λ (other : n ≢ node). c.take.ensures.others n other ∙ c.places.invariant.others.held n (inr ge))
+          (cases_eq n node);
+      takes = λ n ge lt can. ⊎_elim
+          (λ (same : n ≡ node). subst (λ (k : ℕ). g.R.Rack.can_take c.take.new.self k) (sym same) refused.0)
+          (λ (other : n ≢ node). c.take.ensures.others_in n other (c.places.invariant.others.takes n (inr ge) can))
+          (cases_eq n node);
+    }
+
+pub returns-in-Err-clause-others : goal.returns-in-Err-clause-others
+returns-in-Err-clause-others g c =
+    let place = c.places.invariant.place in
+    kept_then
+    (kept_wider (omega arith) (omega (arith, place, c.places-test.true)) c.places.invariant.others)
+    (kept_wider (omega arith) (omega (arith, c.places-test.true)) (kept_but c.take.ensures.others c.take.ensures.others_in c.take.ensures.others_out c.take.ensures.later))
+
+pub returns-clause-untaken : goal.returns-clause-untaken
+returns-clause-untaken g c = record {
+  held = λ n ge lt. absurd (omega (arith, ge, lt, c.places.invariant.place, c.places-test.false));
+  takes = λ n ge lt can. absurd (omega (arith, ge, lt, c.places.invariant.place, c.places-test.false));
+}
+
+pub returns-clause-others : goal.returns-clause-others
+returns-clause-others g c = kept_wider (omega arith) (omega (arith, c.places.invariant.place, c.places-test.false)) c.places.invariant.others
+
 pub places-preserved : goal.places-preserved
 places-preserved g c =
     let place = c.places.invariant.place in
@@ -26,27 +59,20 @@ places-preserved g c =
     let T = IsTakenSlot {N = g.row.N.Denot} g.R.Disk.Disk (g.R.Rack.held c.args.rack.now) (g.R.Rack.count c.args.rack.now) in
     let P = MayPut g.R.Disk.Disk g.N.OnDisk.disk_of (g.R.Rack.can_put c.places.rack) in
     let Q = MayPut g.R.Disk.Disk g.N.OnDisk.disk_of (g.R.Rack.can_put c.take.new.self) in
-    let before = c.places.invariant.others_held node (inr (omega (arith, place))) in
+    let before = c.places.invariant.others.held node (inr (omega (arith, place))) in
     let here : T (c.args.first + length c.places.slots.items) slot =
-    subst (λ (k : ℕ). T k slot) (omega (arith, place)) (refl, record { told = λ was is. of_told _ _ c.in-Ok.ensures.disk was (before ∙ is); counted = omega (arith, c.in-Ok.ensures.count, c.places.invariant.later node) }) in
+    subst (λ (k : ℕ). T k slot) (omega (arith, place)) (refl, record { told = λ was is. of_told _ _ c.in-Ok.ensures.disk was (before ∙ is); counted = omega (arith, c.in-Ok.ensures.count, c.places.invariant.others.later node) }) in
     record {
       place = longer;
       room = omega (arith, c.push_reserved.ensures.capacity, c.places.invariant.room);
       taken = subst (λ l. EachFrom T c.args.first l) (sym c.push_reserved.ensures.items) (each_push T c.args.first c.places.slots.items slot c.places.invariant.taken here);
-      others_held = λ n outside.
-          let other : n ≢ node = not_outside outside (omega (arith, place)) (omega (arith, longer)) in
-          c.take.ensures.others n other ∙ c.places.invariant.others_held n (⊎_elim (λ below. inl below) (λ above. inr (omega (arith, above, longer, place))) outside);
       out = subst (λ l. EachFrom Q c.args.first l) (sym c.push_reserved.ensures.items)
           (each_push Q c.args.first c.places.slots.items slot
           (each_weaker P Q c.args.first c.places.slots.items
           (λ k s ge lt may. let other : k ≢ node = omega (arith, place) in may_still g.R.Disk.Disk g.N.OnDisk.disk_of (g.R.Rack.can_put c.places.rack) (g.R.Rack.can_put c.take.new.self) k s (λ m can. c.take.ensures.others_out k m other can) may)
           c.places.invariant.out)
           (subst (λ (k : ℕ). Q k slot) (omega (arith, place)) c.in-Ok.ensures.out));
-      others_in = λ n outside can.
-          let other : n ≢ node = not_outside outside (omega (arith, place)) (omega (arith, longer)) in
-          c.take.ensures.others_in n other (c.places.invariant.others_in n (⊎_elim (λ below. inl below) (λ above. inr (omega (arith, above, longer, place))) outside) can);
-      others_out = λ n k outside can.
-          let other : n ≢ node = not_outside outside (omega arith) (omega (arith, c.places-test.true)) in
-          c.take.ensures.others_out n k other (c.places.invariant.others_out n k outside can);
-      later = λ n. omega (arith, c.places.invariant.later n, c.take.ensures.later n);
+      others = kept_then
+          (kept_wider (omega arith) (omega (arith, longer, place)) c.places.invariant.others)
+          (kept_wider (omega (arith, place)) (omega (arith, longer)) (kept_but c.take.ensures.others c.take.ensures.others_in c.take.ensures.others_out c.take.ensures.later));
     }

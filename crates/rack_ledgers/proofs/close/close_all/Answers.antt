@@ -1,10 +1,10 @@
-use Rattle.std.proofs.Common.{◌≡◌, ◌≢◌, ◌≤◌, le_trans, ◌+◌, ◌∷◌, [], ℕ, suc, length, refl, sym, ◌∙◌, ap, subst, arith, ⊎_elim, length-append}
+use Rattle.std.proofs.Common.{◌≡◌, ◌≢◌, ◌≤◌, le_trans, ◌+◌, ◌∷◌, [], ℕ, suc, length, sym, ◌∙◌, ap, subst, arith, ⊎_elim, length-append}
 use Rattle.std.proofs.lemmas.Bool.{cases_eq}
 use Rattle.std.proofs.lemmas.List.{nil_from_length}
 use Rattle.rack_ledgers.specs.Places.{EachFrom, MayReturn}
 use Rattle.rack_ledgers.specs.Racked.{OfTold}
 use Rattle.rack_ledgers.proofs.Each.{each_front, each_last, each_weaker}
-use Rattle.rack_ledgers.proofs.Range.{not_outside}
+use Rattle.rack_ledgers.proofs.Others.{kept_same, kept_but, kept_wider, kept_then}
 use Rattle.rack_ledgers.proofs.Told.{of_told}
 use Rattle.rack_ledgers.proofs.Closing.{closed_more, closed_none, closed_whole}
 use Rattle.rack_ledgers.proofs.close.close_all.Goals as goal
@@ -43,14 +43,12 @@ nodes-preserved g c =
           (λ k d other le. le_trans le (c.put.ensures.later k))
           (subst (λ (d : _). g.R.Disk.Disk.count d ≤ g.R.Rack.count c.put.new.self node) c.give_disk.ensures c.put.ensures.count)
           c.nodes.invariant.counted;
-      others_held = λ n outside. let other : n ≢ node = not_outside outside (omega (arith, place)) (omega (arith, place, older, c.nodes.invariant.fewer)) in c.put.ensures.others n other ∙ c.nodes.invariant.others_held n outside;
       back = λ n ge lt. ⊎_elim
           (λ same. subst (λ (k : ℕ). g.R.Rack.can_take c.put.new.self k) (sym same) c.put.ensures.back)
           (λ other. c.put.ensures.others_in n other (c.nodes.invariant.back n (omega (arith, older, place)) lt))
           (cases_eq n node);
-      others_in = λ n outside can. let other : n ≢ node = not_outside outside (omega (arith, place)) (omega (arith, place, older, c.nodes.invariant.fewer)) in c.put.ensures.others_in n other (c.nodes.invariant.others_in n outside can);
-      others_out = λ n k outside can. let other : n ≢ node = not_outside outside (omega (arith, place)) (omega (arith, place, older, c.nodes.invariant.fewer)) in c.put.ensures.others_out n k other (c.nodes.invariant.others_out n k outside can);
-      later = λ n. omega (arith, c.nodes.invariant.later n, c.put.ensures.later n);
+      others = kept_then c.nodes.invariant.others
+          (kept_wider (omega (arith, place)) (omega (arith, place, older, c.nodes.invariant.fewer)) (kept_but c.put.ensures.others c.put.ensures.others_in c.put.ensures.others_out c.put.ensures.later));
     }
 
 pub nodes-init : goal.nodes-init
@@ -60,11 +58,8 @@ nodes-init g c = record {
   out = c.requires.out;
   closed = closed_none _ c.args.first c.args.nodes.items;
   counted = closed_none _ c.args.first c.args.nodes.items;
-  others_held = λ n outside. refl;
   back = λ n ge lt. absurd (omega (arith, ge, lt));
-  others_in = λ n outside can. can;
-  others_out = λ n k outside can. can;
-  later = λ n. omega arith;
+  others = kept_same;
 }
 
 pub returns-clause-closed : goal.returns-clause-closed
@@ -72,3 +67,6 @@ returns-clause-closed g c = closed_whole _ c.args.first c.nodes.nodes.items c.ar
 
 pub returns-clause-counted : goal.returns-clause-counted
 returns-clause-counted g c = closed_whole _ c.args.first c.nodes.nodes.items c.args.nodes.items (nil_from_length c.nodes.nodes.items (omega (arith, c.in_default.ensures.cases.0, c.nodes.nodes.ok))) c.nodes.invariant.counted
+
+pub returns-clause-others : goal.returns-clause-others
+returns-clause-others g c = c.nodes.invariant.others

@@ -1,5 +1,6 @@
 use Rattle.std.proofs.Common.{◌≡◌, ◌^◌, ◌+◌, ◌≤◌, ◌<◌, ℕ, length, vec_len}
-use Rattle.rack_ledgers.specs.Places.{EachFrom, MayReturn, IsOutsideRange}
+use Rattle.rack_ledgers.specs.Places.{EachFrom, MayReturn}
+use Rattle.rack_ledgers.specs.Others.{KeepsOthers}
 use Rattle.rack_ledgers.specs.Racked.{OfTold, ListGoesOn}
 use Rattle.rack_ledgers.proofs.close.close_all.Given as goal
 
@@ -10,11 +11,8 @@ invariant-nodes g l = record {
   out : EachFrom (MayReturn (λ n. g.R.Disk.Disk.count (g.N.OnDisk.disk_of n)) (g.R.Rack.can_put l.rack)) l.first l.nodes.items;
   closed : ListGoesOn (λ n x. OfTold (g.R.Rack.held l.rack n) (λ now. now ≡ g.N.OnDisk.disk_of x)) l.first l.nodes.items l.initial.nodes.items;
   counted : ListGoesOn (λ n x. g.R.Disk.Disk.count (g.N.OnDisk.disk_of x) ≤ g.R.Rack.count l.rack n) l.first l.nodes.items l.initial.nodes.items;
-  others_held : (n : ℕ) → IsOutsideRange l.first (l.first + length l.initial.nodes.items) n → g.R.Rack.held l.rack n ≡ g.R.Rack.held l.initial.rack n;
   back : (n : ℕ) → l.first + length l.nodes.items ≤ n → n < l.first + length l.initial.nodes.items → g.R.Rack.can_take l.rack n;
-  others_in : (n : ℕ) → IsOutsideRange l.first (l.first + length l.initial.nodes.items) n → g.R.Rack.can_take l.initial.rack n → g.R.Rack.can_take l.rack n;
-  others_out : (n k : ℕ) → IsOutsideRange l.first (l.first + length l.initial.nodes.items) n → g.R.Rack.can_put l.initial.rack n k → g.R.Rack.can_put l.rack n k;
-  later : (n : ℕ) → g.R.Rack.count l.initial.rack n ≤ g.R.Rack.count l.rack n;
+  others : KeepsOthers g.R.Rack l.first (l.first + length l.initial.nodes.items) l.initial.rack l.rack;
 }
 
 abbrev pub decreases-nodes : goal.decreases-nodes

@@ -15,13 +15,13 @@ close_all-requires-2-clause-out g c =
     let first : c.len-first.result ≡ length c.args.nodes.logs.items = omega (arith, c.len-first.ensures, c.args.nodes.logs.ok) in
     subst (λ (k : ℕ). EachFrom Q k c.args.nodes.shards.items) (sym first)
     (each_weaker P Q (length c.args.nodes.logs.items) c.args.nodes.shards.items
-    (λ k d ge lt may m le. c.close_all.ensures.others_out k m (inr (omega (arith, ge))) (may m le)) c.requires.shards)
+    (λ k d ge lt may m le. c.close_all.ensures.others.puts k m (inr (omega (arith, ge))) (may m le)) c.requires.shards)
 
 pub returns-clause-closed_logs : goal.returns-clause-closed_logs
 returns-clause-closed_logs g c n l is now told =
     let inside = slice_get_within c.args.nodes.logs.items n l is in
     by_place (λ k x. OfTold (g.R.Rack.held c.close_all.new.rack k) (λ d. d ≡ x.disk)) c.args.nodes.logs.items c.close_all.ensures.closed n l is now
-    (sym (c.close_all-2.ensures.others_held n (inl (omega (arith, inside, c.len-first.ensures, c.args.nodes.logs.ok)))) ∙ told)
+    (sym (c.close_all-2.ensures.others.held n (inl (omega (arith, inside, c.len-first.ensures, c.args.nodes.logs.ok)))) ∙ told)
 
 pub returns-clause-closed_shards : goal.returns-clause-closed_shards
 returns-clause-closed_shards g c n s is now told =
@@ -32,24 +32,24 @@ returns-clause-closed_shards g c n s is now told =
 
 pub returns-clause-others_held : goal.returns-clause-others_held
 returns-clause-others_held g c n past =
-    c.close_all-2.ensures.others_held n (inr (omega (arith, past, c.len-first.ensures, c.args.nodes.logs.ok))) ∙ c.close_all.ensures.others_held n (inr (omega (arith, past)))
+    c.close_all-2.ensures.others.held n (inr (omega (arith, past, c.len-first.ensures, c.args.nodes.logs.ok))) ∙ c.close_all.ensures.others.held n (inr (omega (arith, past)))
 
 pub returns-clause-back : goal.returns-clause-back
 returns-clause-back g c n =
     elim (cases_lt n (length c.args.nodes.logs.items)) [
-      | inl small ↦ c.close_all-2.ensures.others_in n (inl (omega (arith, small, c.len-first.ensures, c.args.nodes.logs.ok))) (c.close_all.ensures.back n (omega arith) (omega (arith, small)))
+      | inl small ↦ c.close_all-2.ensures.others.takes n (inl (omega (arith, small, c.len-first.ensures, c.args.nodes.logs.ok))) (c.close_all.ensures.back n (omega arith) (omega (arith, small)))
       | inr large ↦ elim (cases_lt n (length c.args.nodes.logs.items + length c.args.nodes.shards.items)) [
         | inl inside ↦ c.close_all-2.ensures.back n (omega (arith, large, c.len-first.ensures, c.args.nodes.logs.ok)) (omega (arith, inside, c.len-first.ensures, c.args.nodes.logs.ok))
-        | inr past ↦ c.close_all-2.ensures.others_in n (inr (omega (arith, past, c.len-first.ensures, c.args.nodes.logs.ok))) (c.close_all.ensures.others_in n (inr (omega (arith, large))) (c.requires.others n past))
+        | inr past ↦ c.close_all-2.ensures.others.takes n (inr (omega (arith, past, c.len-first.ensures, c.args.nodes.logs.ok))) (c.close_all.ensures.others.takes n (inr (omega (arith, large))) (c.requires.others n past))
       ]
     ]
 
 pub returns-clause-later : goal.returns-clause-later
-returns-clause-later g c = λ n. omega (arith, c.close_all.ensures.later n, c.close_all-2.ensures.later n)
+returns-clause-later g c = λ n. le_trans (c.close_all.ensures.others.later n) (c.close_all-2.ensures.others.later n)
 
 pub returns-clause-counted_logs : goal.returns-clause-counted_logs
 returns-clause-counted_logs g c n l is =
-    le_trans (by_place (λ k x. g.R.Disk.Disk.count x.disk ≤ g.R.Rack.count c.close_all.new.rack k) c.args.nodes.logs.items c.close_all.ensures.counted n l is) (c.close_all-2.ensures.later n)
+    le_trans (by_place (λ k x. g.R.Disk.Disk.count x.disk ≤ g.R.Rack.count c.close_all.new.rack k) c.args.nodes.logs.items c.close_all.ensures.counted n l is) (c.close_all-2.ensures.others.later n)
 
 pub returns-clause-counted_shards : goal.returns-clause-counted_shards
 returns-clause-counted_shards g c =

@@ -1,27 +1,12 @@
 use Rattle.std.proofs.Common.{subst}
 use Rattle.std.specs.Prelude.{map, IfOk}
 use Rattle.rack_runs.specs.Telling.{CountAll}
-use Rattle.rack_runs.proofs.Closing.{close_few, close_logs, close_shards, close_others, closed}
+use Rattle.rack_runs.proofs.Closing.{may_close, closed}
 use Rattle.rack_runs.proofs.racks.end_on.Goals as goal
 
-pub close_nodes-requires-clause-few : goal.close_nodes-requires-clause-few
-close_nodes-requires-clause-few g c =
-    close_few g.R.Disk.Disk (g.K.Work.deed c.args.work.now) c.requires.come.0 (g.R.Rack.held c.args.rack.now) (g.R.Rack.can_put c.args.rack.now) (g.R.Rack.can_take c.args.rack.now) c.nodes_of-nodes.result.header c.nodes_of-nodes.result.logs.items c.nodes_of-nodes.result.shards.items
-    c.nodes_of-nodes.ensures.ledger c.nodes_of-nodes.ensures.seen c.args.ledger c.nodes_of-nodes.ensures.same c.args.resumed.items c.args.came c.requires.come.1
-
-pub close_nodes-requires-clause-logs : goal.close_nodes-requires-clause-logs
-close_nodes-requires-clause-logs g c =
-    close_logs g.R.Disk.Disk (g.K.Work.deed c.args.work.now) c.requires.come.0 (g.R.Rack.held c.args.rack.now) (g.R.Rack.can_put c.args.rack.now) (g.R.Rack.can_take c.args.rack.now) c.nodes_of-nodes.result.header c.nodes_of-nodes.result.logs.items c.nodes_of-nodes.result.shards.items
-    c.nodes_of-nodes.ensures.ledger c.nodes_of-nodes.ensures.seen c.args.ledger c.nodes_of-nodes.ensures.same c.args.resumed.items c.args.came c.requires.come.1
-
-pub close_nodes-requires-clause-shards : goal.close_nodes-requires-clause-shards
-close_nodes-requires-clause-shards g c =
-    close_shards g.R.Disk.Disk (g.K.Work.deed c.args.work.now) c.requires.come.0 (g.R.Rack.held c.args.rack.now) (g.R.Rack.can_put c.args.rack.now) (g.R.Rack.can_take c.args.rack.now) c.nodes_of-nodes.result.header c.nodes_of-nodes.result.logs.items c.nodes_of-nodes.result.shards.items
-    c.nodes_of-nodes.ensures.ledger c.nodes_of-nodes.ensures.seen c.args.ledger c.nodes_of-nodes.ensures.same c.args.resumed.items c.args.came c.requires.come.1
-
-pub close_nodes-requires-clause-others : goal.close_nodes-requires-clause-others
-close_nodes-requires-clause-others g c =
-    close_others g.R.Disk.Disk (g.K.Work.deed c.args.work.now) c.requires.come.0 (g.R.Rack.held c.args.rack.now) (g.R.Rack.can_put c.args.rack.now) (g.R.Rack.can_take c.args.rack.now) c.nodes_of-nodes.result.header c.nodes_of-nodes.result.logs.items c.nodes_of-nodes.result.shards.items
+pub close_nodes-requires : goal.close_nodes-requires
+close_nodes-requires g c =
+    may_close g.R.Disk.Disk (g.K.Work.deed c.args.work.now) c.requires.come.0 (g.R.Rack.held c.args.rack.now) (g.R.Rack.can_put c.args.rack.now) (g.R.Rack.can_take c.args.rack.now) c.nodes_of-nodes.result.header c.nodes_of-nodes.result.logs.items c.nodes_of-nodes.result.shards.items
     c.nodes_of-nodes.ensures.ledger c.nodes_of-nodes.ensures.seen c.args.ledger c.nodes_of-nodes.ensures.same c.args.resumed.items c.args.came c.requires.come.1
 
 pub returns-clause-done : goal.returns-clause-done

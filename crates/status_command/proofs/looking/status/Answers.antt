@@ -12,7 +12,7 @@ use Rattle.status_command.proofs.looking.status.Goals as goal
 
 pub returns-in-Err-clause-why : goal.returns-in-Err-clause-why
 returns-in-Err-clause-why g c =
-    told (WhyNoStatus g.R.Disk.Disk (disks_in g.R.Rack c.args.rack.now) (disks_in g.R.Rack c.open_nodes.new.rack)) c.in-Err.fault (c.in-Err.ensures.refusal, c.in-Err.ensures.held)
+    told (WhyNoStatus g.R.Disk.Disk (disks_in g.R.Rack c.args.rack.now) (disks_in g.R.Rack c.open_nodes.new.rack)) c.in-Err.fault (c.in-Err.ensures.refusal, c.in-Err.ensures.back.held)
 
 pub returns-in-Ok-write_statuses-clause-did : goal.returns-in-Ok-write_statuses-clause-did
 returns-in-Ok-write_statuses-clause-did g c well =
@@ -20,10 +20,10 @@ returns-in-Ok-write_statuses-clause-did g c well =
     let nodes = c.in-Ok.nodes in
     let printed = IsPrinted (g.O.Sink.taken c.args.out.now) (g.O.Sink.taken c.write_statuses.new.out) answers.Ok in
     let few : length c.in-Ok.nodes.shards.items ≤ 64 =
-    few_shards g.R.Disk.Disk held nodes.header nodes.logs.items nodes.shards.items c.in-Ok.ensures.opened in
+    few_shards g.R.Disk.Disk held nodes.header nodes.logs.items nodes.shards.items c.in-Ok.ensures.opened.nodes in
     let same : c.deref.result.now ≡ map (status_among c.in-Ok.nodes.shards.items) c.args.hashes.now = c.deref.ensures.value ∙ c.in-Ok-told.ensures few in
-    did_status g.R.Disk.Disk held nodes.header nodes.logs.items nodes.shards.items c.in-Ok.ensures.opened
-    (g.R.Rack.held c.open_nodes.new.rack) (g.R.Rack.held c.close_nodes.new.rack) c.in-Ok.ensures.others_held c.close_nodes.ensures.closed_logs c.close_nodes.ensures.closed_shards c.close_nodes.ensures.others_held
+    did_status g.R.Disk.Disk held nodes.header nodes.logs.items nodes.shards.items c.in-Ok.ensures.opened.nodes
+    (g.R.Rack.held c.open_nodes.new.rack) (g.R.Rack.held c.close_nodes.new.rack) c.in-Ok.ensures.opened.others_held c.close_nodes.ensures.closed_logs c.close_nodes.ensures.closed_shards c.close_nodes.ensures.others_held
     (g.R.Rack.count c.args.rack.now) (g.R.Rack.count c.close_nodes.new.rack) printed c.args.hashes.now (subst (λ ss. printed (told_lines c.args.hashes.now ss)) same c.in-Ok-write_statuses.ensures.prints)
 
 pub returns-clause-did : goal.returns-clause-did
@@ -32,10 +32,10 @@ returns-clause-did g c well =
     let nodes = c.in-Ok.nodes in
     let printed = IsPrinted (g.O.Sink.taken c.args.out.now) (g.O.Sink.taken c.write_statuses.new.out) answers.WriteFault in
     let few : length c.in-Ok.nodes.shards.items ≤ 64 =
-    few_shards g.R.Disk.Disk held nodes.header nodes.logs.items nodes.shards.items c.in-Ok.ensures.opened in
+    few_shards g.R.Disk.Disk held nodes.header nodes.logs.items nodes.shards.items c.in-Ok.ensures.opened.nodes in
     let same : c.deref.result.now ≡ map (status_among c.in-Ok.nodes.shards.items) c.args.hashes.now = c.deref.ensures.value ∙ c.in-Ok-told.ensures few in
-    did_status g.R.Disk.Disk held nodes.header nodes.logs.items nodes.shards.items c.in-Ok.ensures.opened
-    (g.R.Rack.held c.open_nodes.new.rack) (g.R.Rack.held c.close_nodes.new.rack) c.in-Ok.ensures.others_held c.close_nodes.ensures.closed_logs c.close_nodes.ensures.closed_shards c.close_nodes.ensures.others_held
+    did_status g.R.Disk.Disk held nodes.header nodes.logs.items nodes.shards.items c.in-Ok.ensures.opened.nodes
+    (g.R.Rack.held c.open_nodes.new.rack) (g.R.Rack.held c.close_nodes.new.rack) c.in-Ok.ensures.opened.others_held c.close_nodes.ensures.closed_logs c.close_nodes.ensures.closed_shards c.close_nodes.ensures.others_held
     (g.R.Rack.count c.args.rack.now) (g.R.Rack.count c.close_nodes.new.rack) printed c.args.hashes.now (subst (λ ss. printed (told_lines c.args.hashes.now ss)) same c.in-Err-write_statuses.ensures.prints)
 
 pub returns-in-Err-clause-silent : goal.returns-in-Err-clause-silent
@@ -46,21 +46,27 @@ returns-in-Err-clause-untouched g c before = absurd (not_refused c.in-Err.fault 
 
 pub returns-in_default-clause-left : goal.returns-in_default-clause-left
 returns-in_default-clause-left g c =
-    all_back g.R.Disk.Disk (g.R.Rack.held c.args.rack.now) c.in-Ok.nodes.header c.in-Ok.nodes.logs.items c.in-Ok.nodes.shards.items c.in-Ok.ensures.opened
-    (g.R.Rack.held c.open_nodes.new.rack) (g.R.Rack.held c.close_nodes.new.rack) c.in-Ok.ensures.others_held c.close_nodes.ensures.closed_logs c.close_nodes.ensures.closed_shards c.close_nodes.ensures.others_held
+    all_back g.R.Disk.Disk (g.R.Rack.held c.args.rack.now) c.in-Ok.nodes.header c.in-Ok.nodes.logs.items c.in-Ok.nodes.shards.items c.in-Ok.ensures.opened.nodes
+    (g.R.Rack.held c.open_nodes.new.rack) (g.R.Rack.held c.close_nodes.new.rack) c.in-Ok.ensures.opened.others_held c.close_nodes.ensures.closed_logs c.close_nodes.ensures.closed_shards c.close_nodes.ensures.others_held
     (g.R.Rack.count c.args.rack.now) (g.R.Rack.count c.close_nodes.new.rack)
 
 pub returns-in-Ok-write_statuses-clause-left : goal.returns-in-Ok-write_statuses-clause-left
 returns-in-Ok-write_statuses-clause-left g c =
-    all_back g.R.Disk.Disk (g.R.Rack.held c.args.rack.now) c.in-Ok.nodes.header c.in-Ok.nodes.logs.items c.in-Ok.nodes.shards.items c.in-Ok.ensures.opened
-    (g.R.Rack.held c.open_nodes.new.rack) (g.R.Rack.held c.close_nodes.new.rack) c.in-Ok.ensures.others_held c.close_nodes.ensures.closed_logs c.close_nodes.ensures.closed_shards c.close_nodes.ensures.others_held
+    all_back g.R.Disk.Disk (g.R.Rack.held c.args.rack.now) c.in-Ok.nodes.header c.in-Ok.nodes.logs.items c.in-Ok.nodes.shards.items c.in-Ok.ensures.opened.nodes
+    (g.R.Rack.held c.open_nodes.new.rack) (g.R.Rack.held c.close_nodes.new.rack) c.in-Ok.ensures.opened.others_held c.close_nodes.ensures.closed_logs c.close_nodes.ensures.closed_shards c.close_nodes.ensures.others_held
     (g.R.Rack.count c.args.rack.now) (g.R.Rack.count c.close_nodes.new.rack)
 
 pub returns-clause-left : goal.returns-clause-left
 returns-clause-left g c =
-    all_back g.R.Disk.Disk (g.R.Rack.held c.args.rack.now) c.in-Ok.nodes.header c.in-Ok.nodes.logs.items c.in-Ok.nodes.shards.items c.in-Ok.ensures.opened
-    (g.R.Rack.held c.open_nodes.new.rack) (g.R.Rack.held c.close_nodes.new.rack) c.in-Ok.ensures.others_held c.close_nodes.ensures.closed_logs c.close_nodes.ensures.closed_shards c.close_nodes.ensures.others_held
+    all_back g.R.Disk.Disk (g.R.Rack.held c.args.rack.now) c.in-Ok.nodes.header c.in-Ok.nodes.logs.items c.in-Ok.nodes.shards.items c.in-Ok.ensures.opened.nodes
+    (g.R.Rack.held c.open_nodes.new.rack) (g.R.Rack.held c.close_nodes.new.rack) c.in-Ok.ensures.opened.others_held c.close_nodes.ensures.closed_logs c.close_nodes.ensures.closed_shards c.close_nodes.ensures.others_held
     (g.R.Rack.count c.args.rack.now) (g.R.Rack.count c.close_nodes.new.rack)
 
 pub returns-in-Err-clause-left : goal.returns-in-Err-clause-left
-returns-in-Err-clause-left g c = c.in-Err.ensures.held
+returns-in-Err-clause-left g c = c.in-Err.ensures.back.held
+
+pub returns-in-Err-clause-back : goal.returns-in-Err-clause-back
+returns-in-Err-clause-back g c = c.in-Err.ensures.back.takes
+
+pub close_nodes-requires : goal.close_nodes-requires
+close_nodes-requires g c = c.in-Ok.ensures.opened.may_close
