@@ -262,10 +262,15 @@ pub fn shows_output<R: Threads + Wait + Sync>(
     Some(told == shown)
 }
 
+// A copy of the shard that stands on no disk and takes no batch.
+fn frozen_shard(alloc: Global) -> Option<Frozen> {
+    let node = opened(alloc)?;
+    Frozen::of(alloc, &node)
+}
+
 /// The same lanes at a copy of the shard that stands on no disk and takes no batch. Whether neither call is done, and the coin is absent for both lanes.
 pub fn takes_none<R: Threads + Wait + Sync>(rt: &R, alloc: Global) -> Option<bool> {
-    let node = opened(alloc)?;
-    let frozen = Frozen::of(alloc, &node)?;
+    let frozen = frozen_shard(alloc)?;
     let calls = calls_of(alloc, ONE, true)?;
     if !is_lock_call(frozen.header(), &calls.lock)
         || !is_finish_call(frozen.header(), &calls.finish)

@@ -80,17 +80,32 @@ fn check(holds: bool) -> io::Result<()> {
     }
 }
 
+// How long it takes to put the hashes into the table.
+fn time_puts(rt: &HostRuntime, table: &mut Table, hashes: &[Hash]) -> io::Result<f64> {
+    let start = Instant::now(rt)?;
+    put_all(table, hashes)?;
+    Ok(start.elapsed(rt)?.as_secs_f64())
+}
+
+// How long it takes to find them all there.
+fn time_finds(rt: &HostRuntime, table: &Table, hashes: &[Hash]) -> io::Result<f64> {
+    let start = Instant::now(rt)?;
+    check(count_found(table, hashes) == hashes.len())?;
+    Ok(start.elapsed(rt)?.as_secs_f64())
+}
+
+// How long it takes to take them all out.
+fn time_takes(rt: &HostRuntime, table: &mut Table, hashes: &[Hash]) -> io::Result<f64> {
+    let start = Instant::now(rt)?;
+    take_all(table, hashes);
+    Ok(start.elapsed(rt)?.as_secs_f64())
+}
+
 fn measure_table(rt: &HostRuntime, hashes: &[Hash]) -> io::Result<Times> {
     let mut table = Table::new(rt.alloc());
-    let start = Instant::now(rt)?;
-    put_all(&mut table, hashes)?;
-    let put = start.elapsed(rt)?.as_secs_f64();
-    let start = Instant::now(rt)?;
-    check(count_found(&table, hashes) == hashes.len())?;
-    let found = start.elapsed(rt)?.as_secs_f64();
-    let start = Instant::now(rt)?;
-    take_all(&mut table, hashes);
-    let taken = start.elapsed(rt)?.as_secs_f64();
+    let put = time_puts(rt, &mut table, hashes)?;
+    let found = time_finds(rt, &table, hashes)?;
+    let taken = time_takes(rt, &mut table, hashes)?;
     check(table.is_empty())?;
     Ok(Times { put, found, taken })
 }
