@@ -97,12 +97,14 @@ fn is_full(answer: &Result<Replied, NodeFault>) -> bool {
     }
 }
 
-/// The lock calls of a phase at three shards, made at once: the first has the coin, the second no room for its Lock, the third not the coin. Whether
-/// the answers stand in the order of the shards, each its own, and the first and the third have their Lock, and the second none.
-pub fn second_is_full<R: Threads + Wait + Sync>(rt: &R, alloc: Global) -> Option<bool> {
-    let mut one = opened(alloc, 1, COINS[0], ROOMY)?;
-    let mut two = opened(alloc, 2, COINS[1], NARROW)?;
-    let mut three = opened(alloc, 3, COINS[2], ROOMY)?;
+// What three shards answer to lock calls that are made at once: each the coin that it began with, the third another.
+fn ask_three<R: Threads + Wait + Sync>(
+    rt: &R,
+    alloc: Global,
+    one: &mut ShardNode<PlainDisk>,
+    two: &mut ShardNode<PlainDisk>,
+    three: &mut ShardNode<PlainDisk>,
+) -> Option<Vec<Result<Replied, NodeFault>>> {
     let low = call_of(alloc, COINS[0])?;
     let middle = call_of(alloc, COINS[1])?;
     let high = call_of(alloc, ABSENT)?;
@@ -123,19 +125,19 @@ pub fn second_is_full<R: Threads + Wait + Sync>(rt: &R, alloc: Global) -> Option
         rt,
         lane: LaneId(0),
         node: NodeId(1),
-        shard: &mut one,
+        shard: one,
     });
     ports.push_reserved(NodeShard {
         rt,
         lane: LaneId(0),
         node: NodeId(2),
-        shard: &mut two,
+        shard: two,
     });
     ports.push_reserved(NodeShard {
         rt,
         lane: LaneId(0),
         node: NodeId(3),
-        shard: &mut three,
+        shard: three,
     });
     lock_at_once(
         rt,
@@ -145,16 +147,54 @@ pub fn second_is_full<R: Threads + Wait + Sync>(rt: &R, alloc: Global) -> Option
         ports.as_mut_slice(),
     );
     drop(ports);
-    let [first, second, third] = answers.as_slice() else {
-        return None;
-    };
-    let answered = is_held(first) && is_full(second) && is_missing(third, ABSENT);
-    Some(answered && has(&one, 2) && has(&two, 1) && has(&three, 2))
+    Some(answers)
 }
 
-/// A phase of no call, made at once. Whether nothing is answered, and each shard has its Genesis alone.
-pub fn asks_none<R: Threads + Wait + Sync>(rt: &R, alloc: Global) -> Option<bool> {
+// Whether these are held, full and missing, in this order.
+fn are_told(answers: &[Result<Replied, NodeFault>]) -> bool {
+    let [first, second, third] = answers else {
+        return false;
+    };
+    is_held(first) && is_full(second) && is_missing(third, ABSENT)
+}
+
+// The same with the first two shards given.
+fn third_is_missing<R: Threads + Wait + Sync>(
+    rt: &R,
+    alloc: Global,
+    one: &mut ShardNode<PlainDisk>,
+    two: &mut ShardNode<PlainDisk>,
+) -> Option<bool> {
+    let mut three = opened(alloc, 3, COINS[2], ROOMY)?;
+    let answers = ask_three(rt, alloc, one, two, &mut three)?;
+    Some(are_told(answers.as_slice()) && has(&three, 2))
+}
+
+// The same with the first shard given.
+fn second_is_narrow<R: Threads + Wait + Sync>(
+    rt: &R,
+    alloc: Global,
+    one: &mut ShardNode<PlainDisk>,
+) -> Option<bool> {
+    let mut two = opened(alloc, 2, COINS[1], NARROW)?;
+    let holds = third_is_missing(rt, alloc, one, &mut two)?;
+    Some(holds && has(&two, 1))
+}
+
+/// The lock calls of a phase at three shards, made at once: the first has the coin, the second no room for its Lock, the third not the coin. Whether
+/// the answers stand in the order of the shards, each its own, and the first and the third have their Lock, and the second none.
+pub fn second_is_full<R: Threads + Wait + Sync>(rt: &R, alloc: Global) -> Option<bool> {
     let mut one = opened(alloc, 1, COINS[0], ROOMY)?;
+    let holds = second_is_narrow(rt, alloc, &mut one)?;
+    Some(holds && has(&one, 2))
+}
+
+// Whether nothing is answered in a phase of no call, with a port over this shard.
+fn is_silent<R: Threads + Wait + Sync>(
+    rt: &R,
+    alloc: Global,
+    one: &mut ShardNode<PlainDisk>,
+) -> Option<bool> {
     let Ok(mut answers) = Vec::with_capacity(alloc, 1) else {
         return None;
     };
@@ -165,7 +205,7 @@ pub fn asks_none<R: Threads + Wait + Sync>(rt: &R, alloc: Global) -> Option<bool
         rt,
         lane: LaneId(0),
         node: NodeId(1),
-        shard: &mut one,
+        shard: one,
     });
     let none = Vec::new(alloc);
     lock_at_once(
@@ -176,5 +216,12 @@ pub fn asks_none<R: Threads + Wait + Sync>(rt: &R, alloc: Global) -> Option<bool
         ports.as_mut_slice(),
     );
     drop(ports);
-    Some(answers.is_empty() && has(&one, 1))
+    Some(answers.is_empty())
+}
+
+/// A phase of no call, made at once. Whether nothing is answered, and each shard has its Genesis alone.
+pub fn asks_none<R: Threads + Wait + Sync>(rt: &R, alloc: Global) -> Option<bool> {
+    let mut one = opened(alloc, 1, COINS[0], ROOMY)?;
+    let holds = is_silent(rt, alloc, &mut one)?;
+    Some(holds && has(&one, 1))
 }

@@ -1,5 +1,5 @@
 use Rattle.lock_rows.proofs.Phasing.{asks_three}
-use Rattle.lock_rows.proofs.phases.second_is_full.Goals as goal
+use Rattle.lock_rows.proofs.phases.ask_three.Goals as goal
 
 pub lock_at_once-requires-clause-asks : goal.lock_at_once-requires-clause-asks
 lock_at_once-requires-clause-asks g c κs within =

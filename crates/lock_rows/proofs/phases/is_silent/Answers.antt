@@ -1,6 +1,6 @@
 use Rattle.std.proofs.Common.{◌∙◌}
 use Rattle.lock_rows.proofs.Phasing.{asks_no_port}
-use Rattle.lock_rows.proofs.phases.asks_none.Goals as goal
+use Rattle.lock_rows.proofs.phases.is_silent.Goals as goal
 
 pub lock_at_once-requires-clause-asks : goal.lock_at_once-requires-clause-asks
 lock_at_once-requires-clause-asks g c κs within =
