@@ -164,10 +164,14 @@ fn third_is_missing<R: Threads + Wait + Sync>(
     alloc: Global,
     one: &mut ShardNode<PlainDisk>,
     two: &mut ShardNode<PlainDisk>,
-) -> Option<bool> {
-    let mut three = opened(alloc, 3, COINS[2], ROOMY)?;
-    let answers = ask_three(rt, alloc, one, two, &mut three)?;
-    Some(are_told(answers.as_slice()) && has(&three, 2))
+) -> bool {
+    let Some(mut three) = opened(alloc, 3, COINS[2], ROOMY) else {
+        return false;
+    };
+    match ask_three(rt, alloc, one, two, &mut three) {
+        Some(answers) => are_told(answers.as_slice()) && has(&three, 2),
+        None => false,
+    }
 }
 
 // The same with the first shard given.
@@ -175,18 +179,18 @@ fn second_is_narrow<R: Threads + Wait + Sync>(
     rt: &R,
     alloc: Global,
     one: &mut ShardNode<PlainDisk>,
-) -> Option<bool> {
-    let mut two = opened(alloc, 2, COINS[1], NARROW)?;
-    let holds = third_is_missing(rt, alloc, one, &mut two)?;
-    Some(holds && has(&two, 1))
+) -> bool {
+    let Some(mut two) = opened(alloc, 2, COINS[1], NARROW) else {
+        return false;
+    };
+    third_is_missing(rt, alloc, one, &mut two) && has(&two, 1)
 }
 
 /// The lock calls of a phase at three shards, made at once: the first has the coin, the second no room for its Lock, the third not the coin. Whether
 /// the answers stand in the order of the shards, each its own, and the first and the third have their Lock, and the second none.
 pub fn second_is_full<R: Threads + Wait + Sync>(rt: &R, alloc: Global) -> Option<bool> {
     let mut one = opened(alloc, 1, COINS[0], ROOMY)?;
-    let holds = second_is_narrow(rt, alloc, &mut one)?;
-    Some(holds && has(&one, 2))
+    Some(second_is_narrow(rt, alloc, &mut one) && has(&one, 2))
 }
 
 // Whether nothing is answered in a phase of no call, with a port over this shard.
@@ -194,12 +198,12 @@ fn is_silent<R: Threads + Wait + Sync>(
     rt: &R,
     alloc: Global,
     one: &mut ShardNode<PlainDisk>,
-) -> Option<bool> {
+) -> bool {
     let Ok(mut answers) = Vec::with_capacity(alloc, 1) else {
-        return None;
+        return false;
     };
     let Ok(mut ports) = Vec::with_capacity(alloc, 1) else {
-        return None;
+        return false;
     };
     ports.push_reserved(NodeShard {
         rt,
@@ -216,12 +220,11 @@ fn is_silent<R: Threads + Wait + Sync>(
         ports.as_mut_slice(),
     );
     drop(ports);
-    Some(answers.is_empty())
+    answers.is_empty()
 }
 
 /// A phase of no call, made at once. Whether nothing is answered, and each shard has its Genesis alone.
 pub fn asks_none<R: Threads + Wait + Sync>(rt: &R, alloc: Global) -> Option<bool> {
     let mut one = opened(alloc, 1, COINS[0], ROOMY)?;
-    let holds = is_silent(rt, alloc, &mut one)?;
-    Some(holds && has(&one, 1))
+    Some(is_silent(rt, alloc, &mut one) && has(&one, 1))
 }

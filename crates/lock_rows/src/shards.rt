@@ -246,8 +246,8 @@ pub fn shows_output<R: Threads + Wait + Sync>(
     alloc: Global,
     committed: bool,
 ) -> Option<bool> {
-    let node = opened(alloc)?;
     let calls = calls_of(alloc, ONE, committed)?;
+    let node = opened(alloc)?;
     if !is_lock_call(node.header(), &calls.lock) || !is_finish_call(node.header(), &calls.finish) {
         return None;
     }
@@ -270,8 +270,8 @@ fn frozen_shard(alloc: Global) -> Option<Frozen> {
 
 /// The same lanes at a copy of the shard that stands on no disk and takes no batch. Whether neither call is done, and the coin is absent for both lanes.
 pub fn takes_none<R: Threads + Wait + Sync>(rt: &R, alloc: Global) -> Option<bool> {
-    let frozen = frozen_shard(alloc)?;
     let calls = calls_of(alloc, ONE, true)?;
+    let frozen = frozen_shard(alloc)?;
     if !is_lock_call(frozen.header(), &calls.lock)
         || !is_finish_call(frozen.header(), &calls.finish)
     {
