@@ -21,7 +21,7 @@ use Rattle.port_sets.specs.declared.logged.LogSeat.{LogSeat}
 use Rattle.port_sets.specs.declared.tables.Locks.{Ghosts}
 use Rattle.lane_waves.specs.NodeRows.{AreLeft, AreDealt}
 use Rattle.lane_waves.specs.Held.{RunBegins, log_of, shards_of}
-use Rattle.lane_waves.specs.Ports.{ArePorts, AtTables}
+use Rattle.lane_waves.specs.Ports.{ArePorts, AreNumbered, AtTables}
 use Rattle.lane_waves.specs.declared.runs.LaneRun.{LaneRun}
 use Rattle.lane_waves.specs.Lanes.{IsLaneReady}
 use Rattle.lane_waves.specs.Places.{AllFrom, BothFrom}
@@ -79,6 +79,10 @@ module _ {W D S B X : Type 0} {G : Ghosts B} where
     pub seats : List (Seat (SharedShard S))
     pub dealt : AreDealt (shard_sight sight) (knows home.seat).lane hs seats
     pub ports : ArePorts hs seats run.ports.shards.each.ports.items
+
+  -- of each of these runs: its ports over shards tell gates the numbers of nodes from this one on
+  abbrev pub AreRunsNumbered : ℕ → List (LaneRun W D S B X G) → Type 0
+  AreRunsNumbered first runs = All (λ r. AreNumbered first r.ports.shards.each.ports.items) runs
 
 module _ {D : Type 0} where
   -- the seats that are left of a coordinator are those of its first lanes

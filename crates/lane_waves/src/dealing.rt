@@ -3,7 +3,7 @@ ghost use Rattle.std.specs.Prelude.{◌≡◌, ◌≤◌, ◌<◌, ◌+◌, ◌*
 ghost use Rattle.node_lock.specs.Seats.{knows};
 ghost use Rattle.ledger_runs.specs.Lanes.{LaneOf};
 ghost use Rattle.lane_waves.specs.Places.{AllFrom};
-ghost use Rattle.lane_waves.specs.Deals.{AreLanesWaiting, IsLaneSeated, AreLocksOpen, HaveSeats, IsHomeLeft, IsHomeFresh, IsEmptyRoom, IsNone};
+ghost use Rattle.lane_waves.specs.Deals.{AreLanesWaiting, IsLaneSeated, AreLocksOpen, HaveSeats, IsHomeLeft, IsHomeFresh, IsEmptyRoom, IsNone, AreRunsNumbered};
 
 use crate::{Dealt, LaneRun, SeatSet, deal, ports_over};
 use cbdc_types::{NodeId, Shape};
@@ -69,6 +69,8 @@ fn deal_lane<'a, W: Wait, D: Disk, S: Shard, B: Locks, X: Source>(
     requires waiting { AreLanesWaiting S.sight locks.now (suc (knows home.seat).lane) table }
     ensures waiting { AreLanesWaiting S.sight locks.now (knows home.entry.seat).lane result }
     ensures next { IsLaneSeated S.sight locks.now home.entry table.entry result }
+    ensures numbered { AreRunsNumbered first table.entry.runs.items
+        → AreRunsNumbered first result.runs.items }
 {
     let Table {
         rows,
@@ -132,6 +134,8 @@ fn deal_home<'a, W: Wait, D: Disk, S: Shard, B: Locks, X: Source>(
         (home * shape.now.lanes + length own.items) lanes table.entry
         → HaveSeats S.sight B.tables shape.now log_locks.now shard_locks.now
         (home * shape.now.lanes) lanes result.1 }
+    ensures numbered { AreRunsNumbered shape.now.coordinators table.entry.runs.items
+        → AreRunsNumbered shape.now.coordinators result.1.runs.items }
 {
     let first = shape.coordinators();
     let guarded = &log_locks[home as usize];
@@ -178,6 +182,7 @@ pub(crate) fn deal_all<'a, W: Wait, D: Disk, S: Shard, B: Locks, X: Source>(
     ensures waiting { AreLanesWaiting S.sight shard_locks.now 0 result.2 }
     ensures dealt { HaveSeats
         S.sight B.tables shape.now log_locks.now shard_locks.now 0 table.entry.lanes.items result.2 }
+    ensures numbered { AreRunsNumbered shape.now.coordinators result.2.runs.items }
 {
     while let Some(own) = homes.pop() {
         let home = homes.len() as u32;

@@ -2,7 +2,7 @@ use Rattle.std.proofs.Common.{rules, ◌≡◌, ◌+◌, ◌*◌, List, [], leng
 use Rattle.std.specs.Prelude.{All}
 use Rattle.std.proofs.lemmas.List.Elements.{All-nil, All-push, All-same}
 use Rattle.lane_waves.specs.Places.{AllFrom}
-use Rattle.lane_waves.specs.Deals.{AreLanesWaiting, HaveSeats, IsHomeFresh, IsHomeLeft, IsEmptyRoom}
+use Rattle.lane_waves.specs.Deals.{AreLanesWaiting, HaveSeats, IsHomeFresh, IsHomeLeft, IsEmptyRoom, AreRunsNumbered}
 use Rattle.lane_waves.proofs.Places.{snoc_many, pushed_many, all_last, next_row, zero_row}
 use Rattle.lane_waves.proofs.Ending.{none_seated}
 use Rattle.lane_waves.proofs.dealing.deal_all.Goals as goal
@@ -53,6 +53,7 @@ loop-own-init g c =
       emptied = subst (All (IsEmptyRoom K.lanes)) (sym c.requires.empty) (All-nil (IsEmptyRoom K.lanes));
       waiting = subst (λ n. AreLanesWaiting sight hs (n * K.lanes) c.args.table) (sym m) c.requires.waiting;
       dealt = none_seated sight g.B.Locks.tables K c.args.log_locks.now hs (length c.args.homes.items * K.lanes) c.args.table c.requires.none;
+      numbered = subst (AreRunsNumbered K.coordinators) (sym c.requires.none) (All-nil _);
     }
 
 pub loop-own-preserved : goal.loop-own-preserved
@@ -85,6 +86,7 @@ loop-own-preserved g c =
       waiting = subst (λ n. AreLanesWaiting sight hs (n * K.lanes) u) at e.waiting;
       dealt = subst (λ n. HaveSeats sight g.B.Locks.tables K gs hs (n * K.lanes) c.args.table.lanes.items u) at (e.dealt c.args.table.lanes.items
           (subst (λ n. HaveSeats sight g.B.Locks.tables K gs hs n c.args.table.lanes.items c.loop-own.table) all inv.dealt));
+      numbered = e.numbered inv.numbered;
     }
 
 pub returns-clause-emptied : goal.returns-clause-emptied

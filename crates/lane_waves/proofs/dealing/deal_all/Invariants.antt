@@ -1,7 +1,7 @@
 use Rattle.std.proofs.Common.{◌≡◌, ◌≤◌, ◌+◌, ◌*◌, length, vec_len}
 use Rattle.std.specs.Prelude.{All, vec_capacity}
 use Rattle.lane_waves.specs.Places.{AllFrom}
-use Rattle.lane_waves.specs.Deals.{AreLanesWaiting, HaveSeats, IsHomeFresh, IsEmptyRoom}
+use Rattle.lane_waves.specs.Deals.{AreLanesWaiting, HaveSeats, IsHomeFresh, IsEmptyRoom, AreRunsNumbered}
 use Rattle.lane_waves.proofs.dealing.deal_all.Given as goal
 
 abbrev pub invariant-loop-own : goal.invariant-loop-own
@@ -13,6 +13,7 @@ invariant-loop-own g l = record {
   emptied : All (IsEmptyRoom l.shape.lanes) l.emptied.items;
   waiting : AreLanesWaiting g.S.Shard.sight l.shard_locks (length l.homes.items * l.shape.lanes) l.table;
   dealt : HaveSeats g.S.Shard.sight g.B.Locks.tables l.shape l.log_locks l.shard_locks (length l.homes.items * l.shape.lanes) l.fn.table.lanes.items l.table;
+  numbered : AreRunsNumbered l.shape.coordinators l.table.runs.items;
 }
 
 abbrev pub decreases-loop-own : goal.decreases-loop-own

@@ -6,7 +6,7 @@ use Rattle.node_lock.specs.declared.views.Hand.{Hand}
 use Rattle.node_lock.specs.Seats.{knows, opening_of}
 use Rattle.port_sets.specs.Nodes.{shard_sight, log_sight}
 use Rattle.lane_waves.specs.NodeRows.{AreDealt}
-use Rattle.lane_waves.specs.Deals.{MayRun, AreLanesWaiting, HaveSeats, IsOpenNodeAt}
+use Rattle.lane_waves.specs.Deals.{MayRun, AreLanesWaiting, HaveSeats, IsOpenNodeAt, AreRunsNumbered}
 use Rattle.lane_waves.proofs.Places.{snoc_many, all_here}
 use Rattle.lane_waves.proofs.Lists.{home_last}
 use Rattle.lane_waves.proofs.Seating.{set_up, seats_more}
@@ -31,6 +31,7 @@ loop-seat-init g c = record {
   capacity = refl;
   waiting = c.requires.waiting;
   dealt = λ lanes d. d;
+  numbered = λ d. d;
 }
 
 pub deal_lane-table-requires-clause-waiting :
@@ -76,6 +77,8 @@ loop-seat-preserved g c =
       waiting = subst (λ n. AreLanesWaiting sight hs n u) lane e.waiting;
       dealt = λ lanes d. seats_more sight tables K gs hs c.requires.open at lanes _ c.loop-seat.table u next up
           (subst (λ n. HaveSeats sight tables K gs hs n lanes c.loop-seat.table) all (inv.dealt lanes d));
+      numbered = λ d. subst (λ n. AreRunsNumbered n u.runs.items) c.coordinators-first.ensures.value
+          (e.numbered (subst (λ n. AreRunsNumbered n c.loop-seat.table.runs.items) (sym c.coordinators-first.ensures.value) (inv.numbered d)));
     }
 
 pub returns-clause-waiting : goal.returns-clause-waiting

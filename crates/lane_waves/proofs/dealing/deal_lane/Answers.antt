@@ -1,12 +1,13 @@
 use Rattle.std.proofs.Common.{◌≡◌, ◌<◌, ◌≤◌, ◌+◌, suc, Some, length, refl, sym, ◌∙◌, subst, arith}
 use Rattle.std.specs.Prelude.{vec_capacity}
-use Rattle.std.proofs.lemmas.List.Elements.{All-pop}
+use Rattle.std.proofs.lemmas.List.Elements.{All-pop, All-push, All-same}
 use Rattle.node_lock.specs.Seats.{knows}
 use Rattle.port_sets.specs.Nodes.{shard_sight}
 use Rattle.lane_waves.specs.NodeRows.{AreDealt}
 use Rattle.lane_waves.proofs.Passing.{deals}
 use Rattle.lane_waves.proofs.Fresh.{all_seated}
 use Rattle.lane_waves.specs.Rows.{lanes_from}
+use Rattle.lane_waves.specs.Ports.{AreNumbered}
 use Rattle.lane_waves.specs.Deals.{MayRun, IsEmptyRoom, EachHolds}
 use Rattle.lane_waves.proofs.Places.{snoc_many, pushed_many}
 use Rattle.lane_waves.proofs.Numbers.{many_lanes}
@@ -83,6 +84,11 @@ returns-clause-next g c =
       dealt = subst (λ l. AreDealt sight l c.args.locks.now c.deal-rows.result.items.items) none both.1;
       ports = c.ports_over-ports.ensures.ports;
     }
+
+pub returns-clause-numbered : goal.returns-clause-numbered
+returns-clause-numbered g c = λ before.
+    All-same (λ r. AreNumbered c.args.first r.ports.shards.each.ports.items) c.push_reserved.new.self.items _ c.push_reserved.ensures.items
+    (All-push (λ r. AreNumbered c.args.first r.ports.shards.each.ports.items) c.args.table.runs.items _ before c.ports_over-ports.ensures.numbered)
 
 pub deal-rows-requires-clause-empty : goal.deal-rows-requires-clause-empty
 deal-rows-requires-clause-empty g c = (c.requires.waiting.room.seats.0, c.requires.waiting.room.spare.0)
