@@ -98,7 +98,7 @@ fn client_arg<'a>(alloc: Global) -> Arg<'a>
     words_arg(alloc, "client", "CLIENT", help::clients())
 }
 
-fn rest_arg<'a>(alloc: Global) -> Arg<'a>
+fn audit_client_arg<'a>(alloc: Global) -> Arg<'a>
     ensures { IsArg result audit_client_rule }
 {
     Arg::new(alloc, "client")
@@ -250,7 +250,7 @@ fn audit_command<'a>(alloc: Global) -> Result<Command<'a>, AllocError>
         .about(help::about_audit())
         .after_help(help::of_audit())
         .arg(mint_arg(alloc))?
-        .arg(rest_arg(alloc))
+        .arg(audit_client_arg(alloc))
 }
 
 fn help_command<'a>(alloc: Global) -> Result<Command<'a>, AllocError>
@@ -274,7 +274,7 @@ fn top<'a>(alloc: Global) -> Command<'a>
 }
 
 // The command with those below it that make a ledger and run transactions.
-fn with_main<'a>(alloc: Global) -> Result<Command<'a>, AllocError>
+fn app_with_run<'a>(alloc: Global) -> Result<Command<'a>, AllocError>
     ensures { IfOk result (λ c. IsTop c with_run) }
 {
     let init = init_command(alloc)?;
@@ -283,22 +283,22 @@ fn with_main<'a>(alloc: Global) -> Result<Command<'a>, AllocError>
 }
 
 // The command with those below it that look at a ledger, too.
-fn with_looks<'a>(alloc: Global) -> Result<Command<'a>, AllocError>
+fn app_with_status<'a>(alloc: Global) -> Result<Command<'a>, AllocError>
     ensures { IfOk result (λ c. IsTop c with_status) }
 {
     let status = status_command(alloc)?;
-    let main = with_main(alloc)?;
-    main.subcommand(recover_command(alloc))?.subcommand(status)
+    let first = app_with_run(alloc)?;
+    first.subcommand(recover_command(alloc))?.subcommand(status)
 }
 
 // The command with those below it that check a ledger, too.
-fn with_checks<'a>(alloc: Global) -> Result<Command<'a>, AllocError>
+fn app_with_gen<'a>(alloc: Global) -> Result<Command<'a>, AllocError>
     ensures { IfOk result (λ c. IsTop c with_gen) }
 {
     let audit = audit_command(alloc)?;
     let generate = gen_command(alloc)?;
-    let looks = with_looks(alloc)?;
-    looks.subcommand(audit)?.subcommand(generate)
+    let first = app_with_status(alloc)?;
+    first.subcommand(audit)?.subcommand(generate)
 }
 
 /// The program's command.
@@ -308,6 +308,6 @@ pub fn program<'a>(alloc: Global) -> Result<Command<'a>, AllocError>
     ensures { IfOk result (λ c. app_of c ≡ hamilton) }
 {
     let help = help_command(alloc)?;
-    let checks = with_checks(alloc)?;
-    checks.subcommand(help)
+    let all = app_with_gen(alloc)?;
+    all.subcommand(help)
 }

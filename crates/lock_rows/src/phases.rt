@@ -97,7 +97,7 @@ fn is_full(answer: &Result<Replied, NodeFault>) -> bool {
     }
 }
 
-// What three shards answer to lock calls that are made at once: each the coin that it began with, the third another.
+// What three shards answer to lock calls that are made at once: each about the coin that it began with, the third about another.
 fn ask_three<R: Threads + Wait + Sync>(
     rt: &R,
     alloc: Global,
@@ -158,7 +158,7 @@ fn are_told(answers: &[Result<Replied, NodeFault>]) -> bool {
     is_held(first) && is_full(second) && is_missing(third, ABSENT)
 }
 
-// The same with the first two shards given.
+// The row below, with its first two shards given.
 fn third_is_missing<R: Threads + Wait + Sync>(
     rt: &R,
     alloc: Global,
@@ -174,7 +174,7 @@ fn third_is_missing<R: Threads + Wait + Sync>(
     }
 }
 
-// The same with the first shard given.
+// The row below, with its first shard given.
 fn second_is_narrow<R: Threads + Wait + Sync>(
     rt: &R,
     alloc: Global,

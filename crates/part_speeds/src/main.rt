@@ -1,7 +1,7 @@
 //! Measures parts of the program, each by itself, and prints to standard error how long they took. The first word says which: `codec` reads the
 //! client files `one` and `eight` and writes their transactions again; `journal` opens a journal of 100,000 records on a real file, and appends
-//! 2,000 to another one; `table N ..` puts so many hashes into a shard's table and into std's hash map, finds them there and takes them out. With
-//! no word it does a little of each, as at the gate.
+//! 2,000 to another one; `table N ..` puts so many hashes (100,000 where no number is given) into a shard's table and into std's hash map, finds
+//! them there and takes them out. With no word it does a little of each, as at the gate.
 #![tactic(auto)]
 
 mod codec;

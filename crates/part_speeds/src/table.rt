@@ -150,8 +150,11 @@ fn number(word: &str) -> io::Result<u64> {
     }
 }
 
-/// Measures both with as many hashes as each word says.
+/// Measures both with as many hashes as each word says, or with 100,000 where there is none.
 pub fn measure_each(rt: &HostRuntime, counts: &[String]) -> io::Result<()> {
+    if counts.is_empty() {
+        return measure(rt, 100_000);
+    }
     for count in counts {
         measure(rt, number(count.as_str())?)?;
     }

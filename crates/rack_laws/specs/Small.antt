@@ -7,12 +7,12 @@ use Rattle.cbdc_model.specs.History.{Minted, first_rows}
 use Rattle.input_files.specs.Contents.{all_txs}
 use Rattle.run_laws.specs.Ample.{Ample}
 
--- each transaction of a file spends and makes three coins at most, both together
+-- each transaction of a file spends and makes together three coins at most
 abbrev pub AreSmall : List FullTx → Type 0
 AreSmall [] = Unit {0}
 AreSmall (t ∷ more) = (length t.inputs + length t.outputs ≤ 3) × AreSmall more
 
--- each transaction of these files spends and makes three coins at most, both together
+-- each transaction of these files spends and makes together three coins at most
 abbrev pub AllSmall : List (List FullTx) → Type 0
 AllSmall [] = Unit {0}
 AllSmall (file ∷ files) = AreSmall file × AllSmall files

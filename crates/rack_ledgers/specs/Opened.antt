@@ -10,7 +10,7 @@ use Rattle.rack_ledgers.specs.Places.{EachFrom, MayReturn}
 use Rattle.rack_ledgers.specs.Racked.{AreBack}
 use Rattle.rack_ledgers.specs.Ledgers.{ByPlace, IsNodeAt, AreOpened}
 
--- the disks of all these coordinators and shards may be put back in their places, and all others may be taken
+-- the disks of all these coordinators and shards, so few that each has a number, may be put back in their places, and all others may be taken
 pub record MayClose {D : Type 0} (device : Ghosts D) (can_put : ℕ → ℕ → Type 0) (can_take : ℕ → Type 0) (log_nodes : List (NodeOf D)) (shard_nodes : List (NodeOf D)) : Type 0 where
   pub few : length log_nodes + length shard_nodes < 2 ^ 32
   pub logs : EachFrom (MayReturn (λ x. device.count x.disk) can_put) 0 log_nodes
@@ -39,7 +39,7 @@ pub record AreLogsOpenedFrom {R D : Type 0} (device : Ghosts D) (rack : RackGhos
   pub logs : EachFrom (MayReturn (λ x. device.count x.disk) (rack.can_put new)) 0 log_nodes
   pub others_in : (n : ℕ) → h.shape.coordinators ≤ n → rack.can_take new n
 
--- all disks are back in the rack, as they were read, and may be taken
+-- all disks are back in the rack: each was only read, and reads as it did unless its count of faults rose; and all may be taken
 pub record AllBack {R D : Type 0} (device : Ghosts D) (rack : RackGhosts R D) (old new : R) : Type 0 where
   pub held : AreBack device (rack.count old) (rack.count new) (rack.held old) (rack.held new)
   pub takes : (n : ℕ) → rack.can_take new n
