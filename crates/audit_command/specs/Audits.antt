@@ -15,8 +15,8 @@ use Rattle.rack_ledgers.specs.Audited.{IsAudited, HistoryHasRoom, HistoryIsHeld,
 use Rattle.file_runs.specs.Runs.{joined}
 use Rattle.printed_lines.specs.Reports.{audit_lines}
 use Rattle.command_answers.specs.Causes.{FileRose, OnePlace, OneRose}
-use Rattle.command_answers.specs.Scene.{AreDisksBack, Disks, Scene}
-use Rattle.rack_ledgers.specs.Racked.{AreUnchanged}
+use Rattle.command_answers.specs.Scene.{Scene}
+use Rattle.rack_ledgers.specs.Racked.{AreDisksBack, Disks, AreUnchanged}
 use Rattle.rack_ledgers.specs.Ledgers.{IsUnopenedBy}
 
 -- an audit of the history of the ledger that the disks tell has this verdict

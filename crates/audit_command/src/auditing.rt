@@ -1,7 +1,8 @@
 // `audit`: the journals against a mint and the transactions that were handed in.
 ghost use Rattle.std.specs.Prelude.{◌≡◌, ◌≤◌, ℕ, IfOk, IfErr};
 ghost use Rattle.outside.specs.Counts.{Rose};
-ghost use Rattle.command_answers.specs.Scene.{AreDisksBack, disks_in, no_output, scene};
+ghost use Rattle.command_answers.specs.Scene.{no_output, scene};
+ghost use Rattle.rack_ledgers.specs.Racked.{AreDisksBack, disks_in};
 ghost use Rattle.file_runs.specs.Runs.{joined as all_joined};
 ghost use Rattle.printed_lines.specs.Reports.{audit_lines};
 ghost use Rattle.command_answers.specs.Causes.{IsReadOrNodeFault, IsAnswerToRequest, HasToldCause, IsWell};

@@ -4,22 +4,7 @@ use Rattle.outside.specs.declared.inbox.Inbox.{Ghosts as InboxGhosts}
 use Rattle.outside.specs.declared.rack.Rack.{Ghosts as RackGhosts}
 use Rattle.outside.specs.declared.sink.Sink.{Ghosts as SinkGhosts}
 use Rattle.line_text.specs.Lines.{Text}
-use Rattle.outside.specs.declared.disk.Disk.{Ghosts}
-use Rattle.rack_ledgers.specs.Racked.{AreBack}
-
--- the disks of a rack at one moment: at each place the one that it holds, where it tells, and how often the place has failed
-pub record Disks (D : Type 0) : Type 0 where
-  pub held : ℕ → Option D
-  pub faults : ℕ → ℕ
-
--- those of this rack
-abbrev pub disks_in : {R D : Type 0} → RackGhosts R D → R → Disks D
-disks_in rack_of rack = record { held = rack_of.held rack; faults = rack_of.count rack }
-
--- all disks are back as they were read: a crash leaves nothing of one that it could not leave before, and it reads as it did wherever its count of
--- faults did not rise
-abbrev pub AreDisksBack : {D : Type 0} → Ghosts D → Disks D → Disks D → Type 0
-AreDisksBack device before after = AreBack device before.faults after.faults before.held after.held
+use Rattle.rack_ledgers.specs.Racked.{Disks, disks_in}
 
 -- what stands outside a command at one moment
 pub record Scene (D : Type 0) : Type 0 where

@@ -9,7 +9,8 @@ use Rattle.requests.specs.declared.Request.{Request}
 use Rattle.requests.specs.declared.Request.TheVariants.{Init, Run, Recover, Status, Audit, Gen, Show}
 use Rattle.line_text.specs.Lines.{Text, Prints}
 use Rattle.line_text.specs.Faults.{fault_text}
-use Rattle.command_answers.specs.Scene.{Disks, Scene}
+use Rattle.command_answers.specs.Scene.{Scene}
+use Rattle.rack_ledgers.specs.Racked.{Disks}
 use Rattle.init_command.proofs.Did.{init_by}
 use Rattle.commands.specs.Exact.{IsEndedLater}
 use Rattle.commands.specs.Left.{AskedLeaves, RequestLeaves}

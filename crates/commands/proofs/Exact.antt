@@ -27,7 +27,8 @@ use Rattle.rack_ledgers.proofs.Refused.{none_refused, tell_told}
 use Rattle.rack_ledgers.proofs.CausedOnce.{not_both}
 use Rattle.commands.specs.Exact.{IsOfDisks, HasNoCause, IsUnopenedOf, IsExact, IsEndedLater}
 use Rattle.commands.specs.Outcomes.{AskedDid, Did}
-use Rattle.command_answers.specs.Scene.{Disks, Scene}
+use Rattle.command_answers.specs.Scene.{Scene}
+use Rattle.rack_ledgers.specs.Racked.{Disks}
 
 same_mint : (r : Result (List Output) BadFile) (a b : List Output) → r ≡ Ok a → r ≡ Ok b → a ≡ b
 same_mint r a b is also = let same = sym is ∙ also in cc

@@ -24,11 +24,11 @@ use Rattle.ledger_init.specs.Made.{MayBeMade}
 use Rattle.record_log.specs.Held.{OpensTo}
 use Rattle.rack_ledgers.proofs.Fronts.{has_first, whole_fronts}
 use Rattle.rack_ledgers.proofs.Once.{opens_once_law}
-use Rattle.rack_ledgers.specs.Racked.{OfTold, AreUnchanged}
+use Rattle.rack_ledgers.specs.Racked.{OfTold, AreUnchanged, AreDisksBack}
 use Rattle.rack_laws.specs.Shown.{AreImagesLeft, HoldsEach, OpenTo, Shows}
 use Rattle.cbdc_model.specs.Ranges.{node_count}
 use Rattle.rack_runs.specs.Runs.{IsGrown, SurvivesCrashes}
-use Rattle.command_answers.specs.Scene.{AreDisksBack, Scene}
+use Rattle.command_answers.specs.Scene.{Scene}
 use Rattle.commands.specs.Left.{AskedLeaves, IsOfNoRack, RequestLeaves}
 use Rattle.commands.specs.Outcomes.{AskedDid, Did}
 use Rattle.commands.specs.Spared.{AreBadOr}

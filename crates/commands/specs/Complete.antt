@@ -36,7 +36,7 @@ pub record CanInit {D : Type 0} (device : Ghosts D) (before after : Scene D) (sh
 -- is still to come of its open batches and of the sound transactions, each record at its largest, and with stamps for them all up to 2^62 (`Ample`); and
 -- no count of faults of its nodes rises
 abbrev pub AreReadyFor : {D : Type 0} → Ghosts D → Scene D → Scene D → (FullTx → Bool) → List (List FullTx) → Type 0
-AreReadyFor device before after sound files = IsRackReady device before.disks.held before.disks.faults after.disks.faults sound files
+AreReadyFor device before after sound files = IsRackReady device before.disks after.disks sound files
 
 -- the files hold verdicts and transactions, and the disks show a kept ledger, with room and stamps for all that is to come of them
 pub record CanRun {D : Type 0} (device : Ghosts D) (before after : Scene D) (verdicts : Text) (clients : List Text) : Type 0 where

@@ -6,7 +6,8 @@ use Rattle.cbdc_types.specs.declared.answer.Answer.{Answer}
 use Rattle.command_line.specs.Asked.{WordsAskFor}
 use Rattle.requests.specs.declared.Request.{Request}
 use Rattle.requests.specs.declared.Request.TheVariants.{Init, Run, Recover, Status, Audit, Gen, Show}
-use Rattle.command_answers.specs.Scene.{AreDisksBack, Scene}
+use Rattle.command_answers.specs.Scene.{Scene}
+use Rattle.rack_ledgers.specs.Racked.{AreDisksBack}
 use Rattle.rack_runs.specs.Runs.{open_turns}
 use Rattle.init_command.specs.Outcomes.{InitLeaves}
 use Rattle.rack_runs.specs.Stops.{TurnsLeave}

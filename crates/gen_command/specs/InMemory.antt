@@ -18,7 +18,7 @@ use Rattle.ledger_init.specs.Made.{first_record_of}
 use Rattle.audit.specs.declared.verdict.Totals.{Totals}
 use Rattle.audit.specs.declared.verdict.Verdict.TheVariants.{Sound}
 use Rattle.rack_ledgers.specs.Audited.{IsAudited}
-use Rattle.command_answers.specs.Scene.{Disks}
+use Rattle.rack_ledgers.specs.Racked.{Disks}
 use Rattle.rack_runs.specs.Telling.{IsRunTold}
 use Rattle.file_runs.specs.declared.ran.Ran.{Ran}
 use Rattle.workload.specs.Generator.{mint_of}

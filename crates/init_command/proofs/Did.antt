@@ -4,7 +4,7 @@ use Rattle.outside.specs.declared.disk.Disk.{Ghosts}
 use Rattle.cbdc_model.specs.Records.{Shape}
 use Rattle.requests.specs.declared.FileWord.{FileWord}
 use Rattle.line_text.specs.Lines.{Text}
-use Rattle.command_answers.specs.Scene.{Disks}
+use Rattle.rack_ledgers.specs.Racked.{Disks}
 use Rattle.init_command.specs.Outcomes.{DidInit}
 
 module _ {D : Type 0} (device : Ghosts D) (files : Text → Option (List ℕ)) (before after : Disks D) (P Q : Text → Type 0) (by : (text : Text) → P text → Q text) where

@@ -14,8 +14,7 @@ use Rattle.ledger_init.specs.declared.making.Made.{Made}
 use Rattle.line_text.specs.Lines.{Text, init_text}
 use Rattle.cbdc_model.specs.History.{minted}
 use Rattle.record_log.specs.Held.{OpensTo}
-use Rattle.command_answers.specs.Scene.{Disks}
-use Rattle.rack_ledgers.specs.Racked.{SameRoom}
+use Rattle.rack_ledgers.specs.Racked.{Disks, SameRoom}
 use Rattle.ledger_laws.proofs.FirstJournals.{first_is}
 use Rattle.init_command.specs.Outcomes.{DidInit}
 use Rattle.submission_laws.specs.Files.{mint_journals}

@@ -39,6 +39,6 @@ unmade_same K mint device held before now P (Ok made) un same = tt
 unmade_same K mint device held before now P (Err e) un same = too_much_alone K mint device held before now P e un same
 
 pub unmade_left : {D T : Type 0} (device : Ghosts D) (before after : Scene D) (shape : Shape) (file : FileWord) (mint : List Output) (P : Type 0) (r : Result T Answer)
-    → Tells (before.file file.name.now) (λ c. mint_of_file c ≡ Ok mint) → IfErr r (AreDisksLeft shape mint device before.disks.held after.disks.held before.disks.faults after.disks.faults) → IfErr r (λ e. P ⊎ InitLeaves device before after shape file e)
+    → Tells (before.file file.name.now) (λ c. mint_of_file c ≡ Ok mint) → IfErr r (AreDisksLeft shape mint device before.disks after.disks) → IfErr r (λ e. P ⊎ InitLeaves device before after shape file e)
 unmade_left device before after shape file mint P (Ok made) read left = tt
 unmade_left device before after shape file mint P (Err e) read left = inr (mint, read, left)

@@ -9,12 +9,12 @@ use Rattle.cbdc_model.specs.Coins.{Output}
 use Rattle.cbdc_model.specs.World.{KeptJournals}
 use Rattle.record_log.specs.Held.{OpensTo}
 use Rattle.requests.specs.declared.FileWord.{FileWord}
-use Rattle.command_answers.specs.Scene.{Disks, Scene}
+use Rattle.command_answers.specs.Scene.{Scene}
+use Rattle.rack_ledgers.specs.Racked.{Disks, OfTold, SameRoom}
 use Rattle.input_files.specs.Contents.{mint_of_file, IsNotRead}
 use Rattle.cbdc_model.specs.Ranges.{node_count}
 use Rattle.ledger_init.specs.Made.{MayBeMade, HasPlaceFor, HoldsFirst, first_record_of, IsUnmade, AreDisksLeft}
 use Rattle.printed_lines.specs.Reports.{init_lines}
-use Rattle.rack_ledgers.specs.Racked.{OfTold, SameRoom}
 use Rattle.submission_laws.specs.Files.{mint_journals}
 
 -- a ledger was made of the mint in a file
@@ -51,4 +51,4 @@ WhyNoInit device before after shape file answer =
 abbrev pub InitLeaves : {D : Type 0} → Ghosts D → Scene D → Scene D → Shape → FileWord → Answer → Type 0
 InitLeaves device before after shape file answer =
     (mint : List Output) × Tells (before.file file.name.now) (λ c. mint_of_file c ≡ Ok mint)
-    × AreDisksLeft shape mint device before.disks.held after.disks.held before.disks.faults after.disks.faults answer
+    × AreDisksLeft shape mint device before.disks after.disks answer

@@ -1,7 +1,8 @@
 // `init`: the first records of a ledger.
 ghost use Rattle.std.specs.Prelude.{◌≡◌, ◌≤◌, ◌⊎◌, ℕ, IfOk, IfErr};
 ghost use Rattle.outside.specs.Counts.{Rose};
-ghost use Rattle.command_answers.specs.Scene.{disks_in, no_output, scene};
+ghost use Rattle.command_answers.specs.Scene.{no_output, scene};
+ghost use Rattle.rack_ledgers.specs.Racked.{disks_in};
 ghost use Rattle.command_answers.specs.Causes.{IsReadOrNodeFault, IsAnswerToRequest, HasToldCause, IsWell, FileRose};
 ghost use Rattle.init_command.specs.Outcomes.{DidInit, WhyNoInit, InitLeaves};
 ghost use Rattle.command_answers.specs.Texts.{IsPrinted, IsSilent};

@@ -13,7 +13,7 @@ use Rattle.cbdc_model.specs.Clean.{value_out}
 use Rattle.cbdc_model.specs.History.{Minted, minted}
 use Rattle.gate_journal.specs.Formatting.{IsEmptied}
 use Rattle.rack_ledgers.specs.Places.{EachFrom, IsOpening}
-use Rattle.rack_ledgers.specs.Racked.{OfTold, SameRoom, IsUnchanged, IsDiskBack, AreBack, IsNodeOpened, FailsFirst}
+use Rattle.rack_ledgers.specs.Racked.{OfTold, SameRoom, IsUnchanged, IsDiskBack, AreDisksBack, IsNodeOpened, FailsFirst}
 use Rattle.rack_ledgers.specs.Blank.{IsUnused, IsNoBlank, IsBlankRefusal}
 use Rattle.rack_ledgers.specs.First.{IsBegun, IsUnwritten}
 use Rattle.rack_ledgers.proofs.Each.{each_two, each_weaker, each_split}
@@ -39,7 +39,7 @@ each_join P i (x ∷ xs) ys one other = (one.0, each_join P (suc i) xs ys one.1 
 
 -- all disks are back, those of some nodes and those that were not touched
 pub back_all : {D : Type 0} (device : Ghosts D) (before now : ℕ → ℕ) (old new : ℕ → Option D) (end : ℕ) → ((n : ℕ) → n < end → IsDiskBack device (before n) (now n) (old n) (new n))
-    → ((n : ℕ) → end ≤ n → new n ≡ old n) → AreBack device before now old new
+    → ((n : ℕ) → end ≤ n → new n ≡ old n) → AreDisksBack device (record { held = old; faults = before }) (record { held = new; faults = now })
 back_all device before now old new end inside outside n = elim (cases_lt n end) [
   | inl small ↦ inside n small
   | inr large ↦ back_same device (before n) (now n) (old n) (new n) (outside n large)

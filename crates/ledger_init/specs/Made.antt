@@ -15,7 +15,7 @@ use Rattle.cbdc_model.specs.Room.{size_of}
 use Rattle.record_log.specs.Bodies.{body_of}
 use Rattle.record_log.specs.Held.{HoldsRecords}
 use Rattle.gate_journal.specs.Formatting.{IsEmptied}
-use Rattle.rack_ledgers.specs.Racked.{OfTold, IsUnchanged, AreBack}
+use Rattle.rack_ledgers.specs.Racked.{OfTold, IsUnchanged, Disks, AreDisksBack}
 use Rattle.rack_ledgers.specs.Blank.{IsInUse, IsUnused}
 use Rattle.rack_ledgers.specs.First.{IsBegun}
 
@@ -95,6 +95,6 @@ pub record InitStoppedAt {D : Type 0} (K : Shape) (mint : List Output) (device :
   pub outside : (n : ℕ) → node_count K ≤ n → now n ≡ before n
 
 -- all disks are as they were read, or the writing stopped at a node
-abbrev pub AreDisksLeft : {D : Type 0} → Shape → List Output → Ghosts D → (ℕ → Option D) → (ℕ → Option D) → (ℕ → ℕ) → (ℕ → ℕ) → Answer → Type 0
-AreDisksLeft K mint device before now disks_before disks_now answer =
-    AreBack device disks_before disks_now before now ⊎ ((k : ℕ) × InitStoppedAt K mint device before now answer k)
+abbrev pub AreDisksLeft : {D : Type 0} → Shape → List Output → Ghosts D → Disks D → Disks D → Answer → Type 0
+AreDisksLeft K mint device before after answer =
+    AreDisksBack device before after ⊎ ((k : ℕ) × InitStoppedAt K mint device before.held after.held answer k)

@@ -4,7 +4,7 @@ ghost use Rattle.outside.specs.Counts.{Rose};
 ghost use Rattle.cbdc_model.specs.Coins.{genesis_tx, genesis_id, genesis_hashes};
 ghost use Rattle.cbdc_model.specs.Clean.{value_out};
 ghost use Rattle.gate_journal.specs.Formatting.{IsEmptied};
-ghost use Rattle.rack_ledgers.specs.Racked.{SameRoom};
+ghost use Rattle.rack_ledgers.specs.Racked.{SameRoom, disks_in};
 ghost use Rattle.rack_ledgers.specs.First.{IsBegun};
 ghost use Rattle.cbdc_model.specs.Ranges.{node_count};
 ghost use Rattle.ledger_init.specs.Made.{first_record_of, HoldsFirst, LeavesBut, MayBeMade, HasPlaceFor, IsUnmade, AreDisksLeft};
@@ -61,7 +61,7 @@ fn make_nodes<R: Rack>(
     ensures lead { IfErr result (λ e. e ≢ Answer.DiskFault 0
         → LeavesBut R.Disk.Disk IsEmptied (R.held rack.old 0) (R.held rack.new 0)) }
     ensures stops { IfErr result (AreDisksLeft shape.now mint R.Disk.Disk
-        (R.held rack.old) (R.held rack.new) (R.count rack.old) (R.count rack.new)) }
+        (disks_in R.Rack rack.old) (disks_in R.Rack rack.new)) }
     ensures others_held { (n : ℕ) → node_count shape.now ≤ n → R.held rack.new n ≡ R.held rack.old n }
     ensures back { (n : ℕ) → R.can_take rack.new n }
     ensures later { (n : ℕ) → R.count rack.old n ≤ R.count rack.new n }
@@ -119,7 +119,7 @@ pub fn make_ledger<R: Rack>(
     // All disks are as they were read, as where a node is in use or a disk fails as it is taken or opened. Or the writing stopped at a node, which
     // has no room or whose disk fails, or where memory ran out: the disks of those below it are unchanged, and those above it hold their first records.
     ensures stops { IfErr result (AreDisksLeft shape.now mint R.Disk.Disk
-        (R.held rack.old) (R.held rack.new) (R.count rack.old) (R.count rack.new)) }
+        (disks_in R.Rack rack.old) (disks_in R.Rack rack.new)) }
 
     // Where the sum is too much, the rack is as it was.
     ensures untouched { IfErr result (λ e. (total : ℕ) → e ≡ Answer.TooMuch total → rack.new ≡ rack.old) }

@@ -3,7 +3,7 @@ use Rattle.std.proofs.Common.{◌≡◌, inl, inr, ℕ, None}
 use Rattle.outside.specs.declared.disk.Disk.{Ghosts}
 use Rattle.cbdc_types.specs.declared.answer.Answer.TheVariants as answers
 use Rattle.cbdc_types.specs.declared.answer.UnsoundKind.TheVariants.{Cause}
-use Rattle.command_answers.specs.Scene.{Disks}
+use Rattle.rack_ledgers.specs.Racked.{Disks}
 use Rattle.rack_ledgers.proofs.Lacks.{unopened_kind}
 use Rattle.rack_runs.specs.Runs.{Turns}
 use Rattle.rack_runs.specs.Stops.{WhyNoTurns}

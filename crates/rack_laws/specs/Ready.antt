@@ -10,6 +10,7 @@ use Rattle.cbdc_model.specs.Due.{used_of}
 use Rattle.cbdc_model.specs.World.{KeptJournals}
 use Rattle.run_laws.specs.Ample.{Ample}
 use Rattle.rack_laws.specs.Shown.{Shows}
+use Rattle.rack_ledgers.specs.Racked.{Disks}
 use Rattle.cbdc_model.specs.Ranges.{node_count}
 
 -- how many bytes a disk that is told of may hold
@@ -33,11 +34,11 @@ NoneRises K before now = (n : ℕ) → n < node_count K → Rose (before n) (now
 
 -- the disks show a kept ledger, have room and stamps for every record that is still to come of these files, of which these submissions are sound, and
 -- none of its nodes' counts of faults rises
-pub record IsRackReady {D : Type 0} (device : Ghosts D) (held : ℕ → Option D) (before now : ℕ → ℕ) (sound : FullTx → Bool) (files : List (List FullTx)) : Type 0 where
+pub record IsRackReady {D : Type 0} (device : Ghosts D) (before after : Disks D) (sound : FullTx → Bool) (files : List (List FullTx)) : Type 0 where
   pub shape : Shape
   pub mint : List Output
   pub submissions : List FullTx
   pub journals : ℕ → List Record
-  pub shows : ShowsKept device held shape mint submissions journals
-  pub ample : Ample shape sound (λ n. limit_at device (held n)) files journals
-  pub steady : NoneRises shape before now
+  pub shows : ShowsKept device before.held shape mint submissions journals
+  pub ample : Ample shape sound (λ n. limit_at device (before.held n)) files journals
+  pub steady : NoneRises shape before.faults after.faults

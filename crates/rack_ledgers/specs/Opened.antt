@@ -7,7 +7,7 @@ use Rattle.cbdc_model.specs.Records.{Header}
 use Rattle.node_journal.specs.Nodes.{NodeOf}
 use Rattle.coord_log.specs.Opening.{IsCoord}
 use Rattle.rack_ledgers.specs.Places.{EachFrom, MayReturn}
-use Rattle.rack_ledgers.specs.Racked.{AreBack}
+use Rattle.rack_ledgers.specs.Racked.{AreDisksBack, disks_in}
 use Rattle.rack_ledgers.specs.Ledgers.{ByPlace, IsNodeAt, AreOpened}
 
 -- the disks of all these coordinators and shards, so few that each has a number, may be put back in their places, and all others may be taken
@@ -41,5 +41,5 @@ pub record AreLogsOpenedFrom {R D : Type 0} (device : Ghosts D) (rack : RackGhos
 
 -- all disks are back in the rack: each was only read, and reads as it did unless its count of faults rose; and all may be taken
 pub record AllBack {R D : Type 0} (device : Ghosts D) (rack : RackGhosts R D) (old new : R) : Type 0 where
-  pub held : AreBack device (rack.count old) (rack.count new) (rack.held old) (rack.held new)
+  pub held : AreDisksBack device (disks_in rack old) (disks_in rack new)
   pub takes : (n : ℕ) → rack.can_take new n

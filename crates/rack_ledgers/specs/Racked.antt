@@ -3,10 +3,20 @@ use Rattle.std.specs.Prelude.{◌≡◌, ◌≤◌, ◌<◌, ◌+◌, ◌++◌, 
 use Rattle.outside.specs.Counts.{Rose}
 use Rattle.outside.specs.Images.{NoMore, Tells}
 use Rattle.outside.specs.declared.disk.Disk.{Ghosts}
+use Rattle.outside.specs.declared.rack.Rack.{Ghosts as RackGhosts}
 use Rattle.cbdc_types.specs.declared.answer.Answer.{Answer}
 use Rattle.cbdc_model.specs.Records.{Header, Record}
 use Rattle.rack_ledgers.specs.Places.{EachFrom}
 use Rattle.rack_ledgers.specs.Refused.{IsNodeJournal}
+
+-- the disks of a rack at one moment: at each place the one that it holds, where it tells, and how often the place has failed
+pub record Disks (D : Type 0) : Type 0 where
+  pub held : ℕ → Option D
+  pub faults : ℕ → ℕ
+
+-- those of this rack
+abbrev pub disks_in : {R D : Type 0} → RackGhosts R D → R → Disks D
+disks_in rack_of rack = record { held = rack_of.held rack; faults = rack_of.count rack }
 
 -- whatever is told of a disk has the property
 abbrev pub OfTold : {D : Type 0} → Option D → (D → Type 0) → Type 0
@@ -39,9 +49,10 @@ pub record IsReturned {D : Type 0} (device : Ghosts D) (before now : ℕ) (was i
 abbrev pub IsDiskBack : {D : Type 0} → Ghosts D → ℕ → ℕ → Option D → Option D → Type 0
 IsDiskBack device before now old new = OfTold old (λ was. OfTold new (λ is. IsReturned device before now was is))
 
--- the same of each place
-abbrev pub AreBack : {D : Type 0} → Ghosts D → (ℕ → ℕ) → (ℕ → ℕ) → (ℕ → Option D) → (ℕ → Option D) → Type 0
-AreBack device before now old new = (n : ℕ) → IsDiskBack device (before n) (now n) (old n) (new n)
+-- all disks are back as they were read: a crash leaves nothing of one that it could not leave before, and it reads as it did wherever its count of
+-- faults did not rise
+abbrev pub AreDisksBack : {D : Type 0} → Ghosts D → Disks D → Disks D → Type 0
+AreDisksBack device before after = (n : ℕ) → IsDiskBack device (before.faults n) (after.faults n) (before.held n) (after.held n)
 
 -- the disk that is told has as much room as the one that was told
 abbrev pub SameRoom : {D : Type 0} → Ghosts D → Option D → Option D → Type 0

@@ -12,8 +12,7 @@ use Rattle.lane_driver.specs.declared.fault.LaneFault.{LaneFault}
 use Rattle.lane_driver.specs.declared.fault.LaneFaultKind.{LaneFaultKind}
 use Rattle.lane_driver.specs.declared.fault.LaneFaultKind.TheVariants.{DiskFault as DiskStopped, Full as NoRoom, ClockEnd as NoStamp, Memory as NoMemory}
 use Rattle.node_journal.specs.Nodes.{NodeOf}
-use Rattle.command_answers.specs.Scene.{Disks}
-use Rattle.rack_ledgers.specs.Racked.{OfTold, SameRoom}
+use Rattle.rack_ledgers.specs.Racked.{Disks, OfTold, SameRoom}
 use Rattle.rack_ledgers.specs.Ledgers.{ByPlace, AreOpened}
 use Rattle.rack_ledgers.specs.Caused.{listed_journals as lent_journals, AreCaused}
 use Rattle.rack_ledgers.proofs.CausedTold.{told_history}

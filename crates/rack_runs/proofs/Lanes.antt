@@ -21,7 +21,7 @@ use Rattle.submissions.proofs.Telling.{is_sound_law}
 use Rattle.ledger_runs.specs.Turning.{IsLaneOf}
 use Rattle.ledger_runs.specs.Faults.{IsWanted, wants_prepare, wants_lock, HasNoRoomFor, HasNoStampFor}
 use Rattle.file_runs.specs.Runs.{joined, AreFilesPieces}
-use Rattle.command_answers.specs.Scene.{Disks}
+use Rattle.rack_ledgers.specs.Racked.{Disks}
 use Rattle.rack_runs.specs.Kinds.{IsLaneAnswer}
 use Rattle.rack_runs.proofs.Wanted.{wanted_inside}
 use Rattle.rack_runs.specs.Runs.{IsGrown, IsLaneFault, DiskMayHold, RoseAt, Turns, file_turns, open_turns}

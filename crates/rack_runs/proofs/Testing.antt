@@ -5,8 +5,7 @@ use Rattle.cbdc_types.specs.declared.answer.Answer.{Answer}
 use Rattle.cbdc_types.specs.declared.answer.Answer.TheVariants as answers
 use Rattle.cbdc_model.specs.Records.{Shape, Record}
 use Rattle.cbdc_model.specs.Coins.{genesis_id}
-use Rattle.rack_ledgers.specs.Racked.{OfTold, AreUnchanged}
-use Rattle.command_answers.specs.Scene.{AreDisksBack}
+use Rattle.rack_ledgers.specs.Racked.{OfTold, AreUnchanged, AreDisksBack}
 use Rattle.rack_ledgers.proofs.Told.{same_back}
 use Rattle.rack_ledgers.specs.Ledgers.{ByPlace}
 use Rattle.rack_ledgers.specs.Opened.{MayClose}

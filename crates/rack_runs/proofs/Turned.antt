@@ -4,7 +4,7 @@ use Rattle.outside.specs.declared.disk.Disk.{Ghosts}
 use Rattle.cbdc_types.specs.declared.answer.Answer.{Answer}
 use Rattle.cbdc_types.specs.declared.answer.Answer.TheVariants as answers
 use Rattle.cbdc_model.specs.Records.{Shape, Compact, Record, journal}
-use Rattle.command_answers.specs.Scene.{Disks}
+use Rattle.rack_ledgers.specs.Racked.{Disks}
 use Rattle.rack_ledgers.specs.Ledgers.{IsUnopened}
 use Rattle.rack_ledgers.proofs.Lacks.{unopened_kind}
 use Rattle.rack_runs.specs.Kinds.{IsLaneAnswer}

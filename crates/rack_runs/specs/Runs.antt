@@ -17,8 +17,7 @@ use Rattle.rack_ledgers.specs.RefusalLaws.{AllHaveRoom}
 use Rattle.cbdc_model.specs.Ranges.{node_count}
 use Rattle.submissions.specs.Checks.{VerdictsOf, TellsSound}
 use Rattle.submissions.specs.SoundTest.{sound_by}
-use Rattle.command_answers.specs.Scene.{Disks}
-use Rattle.rack_ledgers.specs.Racked.{OfTold, SameRoom}
+use Rattle.rack_ledgers.specs.Racked.{Disks, OfTold, SameRoom}
 use Rattle.rack_ledgers.specs.Caused.{IsCausedLedger}
 use Rattle.rack_ledgers.specs.RefusalLaws.{AllTell}
 use Rattle.ledger_runs.specs.Turning.{IsLaneOf, OfKept}

@@ -2,7 +2,7 @@
 use Rattle.std.specs.Prelude.{◌⊎◌}
 use Rattle.outside.specs.declared.disk.Disk.{Ghosts}
 use Rattle.cbdc_types.specs.declared.answer.Answer.{Answer}
-use Rattle.command_answers.specs.Scene.{AreDisksBack, Disks}
+use Rattle.rack_ledgers.specs.Racked.{AreDisksBack, Disks}
 use Rattle.rack_ledgers.specs.Caused.{IsUnresumed}
 use Rattle.rack_runs.specs.Runs.{Turns, IsLaneFault}
 

@@ -3,8 +3,7 @@ use Rattle.std.specs.Prelude.{◌⊎◌, ℕ, List, Option}
 use Rattle.outside.specs.declared.disk.Disk.{Ghosts}
 use Rattle.cbdc_types.specs.declared.answer.Answer.{Answer}
 use Rattle.cbdc_model.specs.Records.{Shape, Record}
-use Rattle.command_answers.specs.Scene.{Disks}
-use Rattle.rack_ledgers.specs.Racked.{AreUnchanged}
+use Rattle.rack_ledgers.specs.Racked.{Disks, AreUnchanged}
 use Rattle.rack_ledgers.specs.Caused.{IsCausedLedger}
 use Rattle.rack_runs.specs.Runs.{entry_journals}
 use Rattle.rack_runs.specs.Stops.{WhyNoTurns}

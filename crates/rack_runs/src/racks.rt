@@ -1,7 +1,7 @@
 // Commands that resume over the ledger on a rack.
 ghost use Rattle.std.specs.Prelude.{◌≡◌, ◌≤◌, ℕ, [], All, IfOk, OnOk, IfErr, OnErr};
 ghost use Rattle.input_files.specs.Limits.{IsShort};
-ghost use Rattle.command_answers.specs.Scene.{disks_in};
+ghost use Rattle.rack_ledgers.specs.Racked.{disks_in};
 ghost use Rattle.rack_laws.specs.Shown.{OfShown};
 ghost use Rattle.file_runs.specs.Ledgers.{ledger_journals};
 ghost use Rattle.rack_runs.specs.Resuming.{HasResumed};

@@ -13,7 +13,7 @@ use Rattle.file_runs.specs.Runs.{joined}
 use Rattle.file_runs.proofs.Filing.{kept_more}
 use Rattle.submission_laws.proofs.Settling.{settled_law}
 use Rattle.submission_laws.proofs.Freeing.{free_confirmed_law}
-use Rattle.command_answers.specs.Scene.{Disks}
+use Rattle.rack_ledgers.specs.Racked.{Disks}
 use Rattle.rack_laws.specs.Shown.{OfShown}
 use Rattle.file_runs.specs.declared.ran.Ran.{Ran}
 use Rattle.rack_runs.specs.Telling.{IsRunTold}

@@ -10,7 +10,8 @@ use Rattle.input_files.specs.Contents.{AreRead, AreVerdicts, all_txs, FirstNotRe
 use Rattle.sentinel.specs.Files.{file_verdict}
 use Rattle.sentinel.specs.declared.file.VerdictFile.{VerdictFile}
 use Rattle.command_answers.specs.Causes.{FileRose, OnePlace, OneRose}
-use Rattle.command_answers.specs.Scene.{Disks, Scene}
+use Rattle.command_answers.specs.Scene.{Scene}
+use Rattle.rack_ledgers.specs.Racked.{Disks}
 use Rattle.rack_laws.specs.Shown.{OfShown}
 use Rattle.rack_runs.specs.Runs.{TookLedger, IsRun, file_turns}
 use Rattle.rack_runs.specs.Telling.{IsRunTold}

@@ -5,7 +5,7 @@ use Rattle.line_text.specs.Lines.{Text}
 use Rattle.cbdc_model.specs.Records.{Shape, Record}
 use Rattle.cbdc_model.specs.Coins.{Output, FullTx}
 use Rattle.printed_lines.specs.Recoveries.{IsRecoverText}
-use Rattle.command_answers.specs.Scene.{Disks}
+use Rattle.rack_ledgers.specs.Racked.{Disks}
 use Rattle.rack_laws.specs.Shown.{OfShown}
 use Rattle.rack_runs.specs.Runs.{IsRecovery, TookLedger}
 

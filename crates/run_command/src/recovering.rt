@@ -7,7 +7,7 @@ ghost use Rattle.outside.specs.Counts.{Rose, HasCause};
 ghost use Rattle.command_answers.specs.Causes.{IsAnswerToRequest, HasToldCause, IsWell};
 ghost use Rattle.run_command.specs.RecoverOutcomes.{DidRecover};
 ghost use Rattle.rack_runs.specs.Stops.{WhyNoTurns, TurnsLeave};
-ghost use Rattle.command_answers.specs.Scene.{disks_in};
+ghost use Rattle.rack_ledgers.specs.Racked.{disks_in};
 ghost use Rattle.rack_runs.specs.Runs.{open_turns};
 ghost use Rattle.command_answers.specs.Texts.{IsPrinted, IsSilent};
 ghost use Rattle.run_command.specs.Texts.{batch_text, batch_texts};

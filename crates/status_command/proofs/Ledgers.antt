@@ -13,8 +13,7 @@ use Rattle.rack_ledgers.proofs.Closed.{all_same}
 use Rattle.rack_ledgers.proofs.OwnJournals.{each_opens, each_room, each_holds}
 use Rattle.printed_lines.specs.Reports.{status_lines, status_at}
 use Rattle.rack_ledgers.specs.Ledgers.{AreOpened, ByPlace}
-use Rattle.rack_ledgers.specs.Racked.{OfTold, AreUnchanged}
-use Rattle.command_answers.specs.Scene.{AreDisksBack}
+use Rattle.rack_ledgers.specs.Racked.{OfTold, AreUnchanged, AreDisksBack}
 use Rattle.rack_ledgers.proofs.Told.{same_back}
 use Rattle.status_command.specs.Outcomes.{DidStatus}
 use Rattle.status_command.specs.Texts.{told_lines, journal_there, journals_at, status_among}

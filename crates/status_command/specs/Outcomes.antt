@@ -11,8 +11,7 @@ use Rattle.cbdc_model.specs.Room.{kept_room}
 use Rattle.cbdc_model.specs.Due.{used_of}
 use Rattle.cbdc_model.specs.Ranges.{node_count}
 use Rattle.printed_lines.specs.Reports.{status_lines}
-use Rattle.command_answers.specs.Scene.{AreDisksBack, Disks}
-use Rattle.rack_ledgers.specs.Racked.{OfTold, AreUnchanged, StillHolds}
+use Rattle.rack_ledgers.specs.Racked.{AreDisksBack, Disks, OfTold, AreUnchanged, StillHolds}
 use Rattle.rack_ledgers.specs.Refused.{IsNodeJournal}
 use Rattle.rack_ledgers.specs.Ledgers.{IsUnopened}
 

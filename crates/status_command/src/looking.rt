@@ -7,7 +7,7 @@ ghost use Rattle.status_command.specs.Outcomes.{DidStatus, WhyNoStatus};
 ghost use Rattle.command_answers.specs.Texts.{IsPrinted, IsSilent};
 ghost use Rattle.status_command.specs.Texts.{told_lines, status_among};
 ghost use Rattle.command_answers.specs.Left.{IsBeforeDisks};
-ghost use Rattle.command_answers.specs.Scene.{AreDisksBack, disks_in};
+ghost use Rattle.rack_ledgers.specs.Racked.{AreDisksBack, disks_in};
 
 use cbdc_types::{Answer, Hash, Status};
 use line_text::{WriteFault, write_status};

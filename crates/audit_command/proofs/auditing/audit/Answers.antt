@@ -4,7 +4,8 @@ use Rattle.audit.specs.declared.verdict.Verdict.TheVariants.{Sound}
 use Rattle.file_runs.specs.Runs.{joined}
 use Rattle.rack_ledgers.proofs.AuditHistories.{verdicts_account}
 use Rattle.audit_command.specs.Audits.{AuditPlace, AuditRose, WasAudited, WhyNoAudit}
-use Rattle.command_answers.specs.Scene.{disks_in, scene}
+use Rattle.command_answers.specs.Scene.{scene}
+use Rattle.rack_ledgers.specs.Racked.{disks_in}
 use Rattle.command_answers.proofs.Answers.{told, well_told, fault_done}
 use Rattle.command_answers.proofs.Silent.{silent_same}
 use Rattle.audit_command.proofs.auditing.audit.Goals as goal

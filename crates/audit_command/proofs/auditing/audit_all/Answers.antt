@@ -4,7 +4,7 @@ use Rattle.cbdc_model.specs.Coins.{Output, FullTx, genesis_id}
 use Rattle.input_files.specs.Contents.{mint_of_file}
 use Rattle.file_runs.specs.Runs.{joined}
 use Rattle.rack_ledgers.specs.Audited.{IsAudited, HistoryHasRoom, HistoryIsHeld}
-use Rattle.command_answers.specs.Scene.{disks_in}
+use Rattle.rack_ledgers.specs.Racked.{disks_in}
 use Rattle.rack_ledgers.proofs.Told.{back_same}
 use Rattle.audit_command.specs.Audits.{WhyUnopened}
 use Rattle.command_answers.proofs.Answers.{first_fault, not_read_fault, one_later}

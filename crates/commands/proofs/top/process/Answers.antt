@@ -3,7 +3,8 @@ use Rattle.std.proofs.lemmas.Result.{on_err_weaker}
 use Rattle.outside.specs.Counts.{Rose}
 use Rattle.command_line.specs.Words.{texts}
 use Rattle.commands.specs.Causes.{IsAnswerToWords}
-use Rattle.command_answers.specs.Scene.{disks_in, scene}
+use Rattle.command_answers.specs.Scene.{scene}
+use Rattle.rack_ledgers.specs.Racked.{disks_in}
 use Rattle.commands.proofs.Complete.{complete}
 use Rattle.commands.proofs.Exact.{exact}
 use Rattle.command_answers.proofs.Counts.{rose_later}

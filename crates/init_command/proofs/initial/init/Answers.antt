@@ -1,7 +1,8 @@
 use Rattle.std.proofs.Common.{◌≡◌, subst}
 use Rattle.cbdc_types.specs.declared.answer.Answer.TheVariants as answers
 use Rattle.line_text.specs.Lines.{init_text}
-use Rattle.command_answers.specs.Scene.{disks_in, scene}
+use Rattle.command_answers.specs.Scene.{scene}
+use Rattle.rack_ledgers.specs.Racked.{disks_in}
 use Rattle.init_command.specs.Outcomes.{WhyNoInit}
 use Rattle.command_answers.specs.Texts.{IsPrinted}
 use Rattle.init_command.proofs.Did.{init_by}

@@ -1,5 +1,6 @@
 use Rattle.std.proofs.Common.{◌≡◌}
-use Rattle.command_answers.specs.Scene.{disks_in, no_output, scene}
+use Rattle.command_answers.specs.Scene.{no_output, scene}
+use Rattle.rack_ledgers.specs.Racked.{disks_in}
 use Rattle.init_command.proofs.Unmade.{unmade_same, unmade_left}
 use Rattle.init_command.proofs.Making.{made_did}
 use Rattle.init_command.proofs.initial.make.Goals as goal

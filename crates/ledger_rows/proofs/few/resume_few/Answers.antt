@@ -3,7 +3,7 @@ use Rattle.cbdc_types.specs.declared.answer.Answer.TheVariants as answers
 use Rattle.cbdc_model.specs.World.{AreIdle}
 use Rattle.file_runs.specs.Ledgers.{ledger_journals}
 use Rattle.rack_laws.specs.Shown.{OfShown}
-use Rattle.command_answers.specs.Scene.{disks_in}
+use Rattle.rack_ledgers.specs.Racked.{disks_in}
 use Rattle.rack_runs.specs.Works.{entry_ledger, HasOpenedAndRun, work_turns}
 use Rattle.rack_runs.specs.Tests.{IsTestRefused}
 use Rattle.rack_runs.specs.Stops.{WhyNoTurns}

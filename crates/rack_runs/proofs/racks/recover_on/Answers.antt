@@ -2,7 +2,7 @@ use Rattle.std.proofs.Common.{inl, inr, ⊎_elim, [], Ok, refl, sym, subst, arit
 use Rattle.cbdc_model.specs.World.{AreIdle}
 use Rattle.file_runs.specs.Ledgers.{ledger_journals}
 use Rattle.file_runs.proofs.Whole.{of_whole, of_fault, when_whole}
-use Rattle.command_answers.specs.Scene.{disks_in}
+use Rattle.rack_ledgers.specs.Racked.{disks_in}
 use Rattle.rack_runs.specs.Works.{entry_ledger, HasOpenedAndRun, HasDoneWork, BeginsWork, EndsWork}
 use Rattle.rack_runs.proofs.Answering.{fault_as}
 use Rattle.rack_runs.proofs.Working.{worked_run}

@@ -1,5 +1,5 @@
 use Rattle.rack_runs.proofs.Turned.{not_turned, not_done, turns_leave}
-use Rattle.command_answers.specs.Scene.{disks_in}
+use Rattle.rack_ledgers.specs.Racked.{disks_in}
 use Rattle.rack_runs.specs.Stops.{WhyNoTurns}
 use Rattle.rack_runs.specs.Runs.{open_turns}
 use Rattle.cbdc_types.specs.declared.answer.Answer.TheVariants as answers

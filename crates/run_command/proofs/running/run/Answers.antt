@@ -1,5 +1,6 @@
 use Rattle.outside.specs.Counts.{Rose}
-use Rattle.command_answers.specs.Scene.{disks_in, scene}
+use Rattle.command_answers.specs.Scene.{scene}
+use Rattle.rack_ledgers.specs.Racked.{disks_in}
 use Rattle.run_command.specs.Outcomes.{RunPlace, RunRose, WhyNoRun}
 use Rattle.cbdc_types.specs.declared.answer.Answer.TheVariants as answers
 use Rattle.command_answers.specs.Texts.{IsPrinted}

@@ -2,7 +2,7 @@ use Rattle.rack_runs.proofs.Turned.{not_turned, turns_leave}
 use Rattle.std.proofs.Common.{◌≤◌, inl, inr, refl, sym, subst}
 use Rattle.input_files.specs.Contents.{AreRead, all_txs}
 use Rattle.sentinel.specs.Files.{file_verdict}
-use Rattle.command_answers.specs.Scene.{disks_in}
+use Rattle.rack_ledgers.specs.Racked.{disks_in}
 use Rattle.rack_runs.specs.Runs.{file_turns}
 use Rattle.run_command.proofs.Inputs.{no_inputs_fault}
 use Rattle.run_command.proofs.running.run_all.Goals as goal

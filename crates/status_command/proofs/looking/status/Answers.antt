@@ -1,6 +1,6 @@
 use Rattle.command_answers.proofs.Refusals.{not_refused}
 use Rattle.std.proofs.Common.{◌≡◌, ◌≤◌, ◌∙◌, length, map, subst}
-use Rattle.command_answers.specs.Scene.{disks_in}
+use Rattle.rack_ledgers.specs.Racked.{disks_in}
 use Rattle.cbdc_types.specs.declared.answer.Answer.TheVariants as answers
 use Rattle.status_command.specs.Outcomes.{WhyNoStatus}
 use Rattle.command_answers.specs.Texts.{IsPrinted}
