@@ -16,27 +16,53 @@ fn write_each(alloc: Global, txs: &[FullTx], out: &mut Vec<u8>) -> io::Result<()
     Ok(())
 }
 
-fn measure(rt: &HostRuntime, name: &str) -> io::Result<()> {
-    let bytes = fs::read(rt, name)?;
+// How long it takes to write the transactions of a file again, as they stand at its end.
+fn time_writing(
+    rt: &HostRuntime,
+    bytes: &[u8],
+    txs: &[FullTx],
+    out: &mut Vec<u8>,
+) -> io::Result<f64> {
     let start = Instant::now(rt)?;
-    let Ok(txs) = read_clients(rt.alloc(), bytes.as_slice(), false, 0) else {
-        return Err(io::Error::from(ErrorKind::InvalidData));
-    };
-    let reading = start.elapsed(rt)?.as_secs_f64();
-    let start = Instant::now(rt)?;
+    write_each(rt.alloc(), txs, out)?;
+    let seconds = start.elapsed(rt)?.as_secs_f64();
+    if bytes.ends_with(out.as_slice()) {
+        Ok(seconds)
+    } else {
+        Err(io::Error::from(ErrorKind::InvalidData))
+    }
+}
+
+// Writes the transactions of a file again, and tells both times.
+fn measure_txs(
+    rt: &HostRuntime,
+    name: &str,
+    bytes: &[u8],
+    txs: &[FullTx],
+    reading: f64,
+) -> io::Result<()> {
     let mut out = Vec::new(rt.alloc());
-    write_each(rt.alloc(), txs.as_slice(), &mut out)?;
-    let writing = start.elapsed(rt)?.as_secs_f64();
+    let writing = time_writing(rt, bytes, txs, &mut out)?;
     eprintln!(rt;
         "{name}: {} transactions, {} bytes: read in {reading} s, written in {writing} s",
         txs.len(),
         bytes.len()
-    )?;
-    if bytes.as_slice().ends_with(out.as_slice()) {
-        Ok(())
-    } else {
-        Err(io::Error::from(ErrorKind::InvalidData))
-    }
+    )
+}
+
+// Reads the transactions of a file, and writes them again.
+fn measure_bytes(rt: &HostRuntime, name: &str, bytes: &[u8]) -> io::Result<()> {
+    let start = Instant::now(rt)?;
+    let Ok(txs) = read_clients(rt.alloc(), bytes, false, 0) else {
+        return Err(io::Error::from(ErrorKind::InvalidData));
+    };
+    let reading = start.elapsed(rt)?.as_secs_f64();
+    measure_txs(rt, name, bytes, txs.as_slice(), reading)
+}
+
+fn measure(rt: &HostRuntime, name: &str) -> io::Result<()> {
+    let bytes = fs::read(rt, name)?;
+    measure_bytes(rt, name, bytes.as_slice())
 }
 
 /// Reads the client files `one` and `eight`, whose transactions have one input each and eight, and writes their transactions again.

@@ -56,31 +56,48 @@ fn taken(rt: &HostRuntime, alloc: Global, node: u32) -> io::Result<FileDisk> {
     rack.take(NodeId(node)).map_err(|_| failed())
 }
 
+// Writes the journal of node 1.
+fn write_journal(rt: &HostRuntime, bytes: &[u8]) -> io::Result<()> {
+    fs::create_dir_all(rt, "rack")?;
+    fs::write(rt, "rack/node-001", bytes)
+}
+
+// How many records the journal on a disk has, if it opens.
+fn count_records(alloc: Global, disk: FileDisk) -> Option<usize> {
+    match Journal::open(alloc, disk) {
+        Ok((_, bodies)) => Some(bodies.len()),
+        Err(_) => None,
+    }
+}
+
+// Opens the journal of node 1.
+fn time_opening(rt: &HostRuntime, alloc: Global, bytes: usize) -> io::Result<()> {
+    let disk = taken(rt, alloc, 1)?;
+    let start = Instant::now(rt);
+    let count = count_records(alloc, disk).ok_or(failed())?;
+    let seconds = start?.elapsed(rt)?.as_secs_f64();
+    eprintln!(rt; "opened {count} records, {bytes} bytes: {seconds} s")
+}
+
 // Opens a journal of so many records, which lies in the file of node 1.
 fn measure_opening(rt: &HostRuntime, alloc: Global, records: u32) -> io::Result<()> {
     let made = journal_of(alloc, records)?;
-    fs::create_dir_all(rt, "rack")?;
-    fs::write(rt, "rack/node-001", made.bytes())?;
-    let disk = taken(rt, alloc, 1)?;
+    write_journal(rt, made.bytes())?;
+    time_opening(rt, alloc, made.bytes().len())
+}
+
+// Appends so many records to a journal.
+fn time_appends<D: Disk>(rt: &HostRuntime, journal: &mut Journal<D>, count: u32) -> io::Result<()> {
     let start = Instant::now(rt)?;
-    let Ok((_, bodies)) = Journal::open(alloc, disk) else {
-        return Err(failed());
-    };
+    append_each(journal, count)?;
     let seconds = start.elapsed(rt)?.as_secs_f64();
-    eprintln!(rt;
-        "opened {} records, {} bytes: {seconds} s",
-        bodies.len(),
-        made.bytes().len()
-    )
+    eprintln!(rt; "appended {count} records: {seconds} s")
 }
 
 // Appends so many records to the file of node 2.
 fn measure_appends(rt: &HostRuntime, alloc: Global, count: u32) -> io::Result<()> {
     let mut journal = formatted(alloc, taken(rt, alloc, 2)?)?;
-    let start = Instant::now(rt)?;
-    append_each(&mut journal, count)?;
-    let seconds = start.elapsed(rt)?.as_secs_f64();
-    eprintln!(rt; "appended {count} records: {seconds} s")
+    time_appends(rt, &mut journal, count)
 }
 
 // The writes and syncs of so many appends, and nothing else.
@@ -95,13 +112,18 @@ fn write_each(file: &File, count: u32) -> io::Result<()> {
     Ok(())
 }
 
-// Makes the writes and syncs of so many appends to a file of their own.
-fn measure_loop(rt: &HostRuntime, count: u32) -> io::Result<()> {
-    let file = fs::create(rt, "rack/loop")?;
+// Makes the writes and syncs of so many appends to a file.
+fn time_loop(rt: &HostRuntime, file: &File, count: u32) -> io::Result<()> {
     let start = Instant::now(rt)?;
-    write_each(&file, count)?;
+    write_each(file, count)?;
     let seconds = start.elapsed(rt)?.as_secs_f64();
     eprintln!(rt; "bare loop of {count}: {seconds} s")
+}
+
+// Makes them to a file of their own.
+fn measure_loop(rt: &HostRuntime, count: u32) -> io::Result<()> {
+    let file = fs::create(rt, "rack/loop")?;
+    time_loop(rt, &file, count)
 }
 
 /// Opens a journal of so many records, and appends so many to another one and in a bare loop, all in files of the folder `rack`.

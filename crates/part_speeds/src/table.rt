@@ -101,28 +101,65 @@ fn time_takes(rt: &HostRuntime, table: &mut Table, hashes: &[Hash]) -> io::Resul
     Ok(start.elapsed(rt)?.as_secs_f64())
 }
 
+// The three times of a table, which is empty before and behind them.
+fn time_table(rt: &HostRuntime, table: &mut Table, hashes: &[Hash]) -> io::Result<Times> {
+    let put = time_puts(rt, table, hashes)?;
+    let found = time_finds(rt, table, hashes)?;
+    let taken = time_takes(rt, table, hashes)?;
+    check(table.is_empty())?;
+    Ok(Times { put, found, taken })
+}
+
 fn measure_table(rt: &HostRuntime, hashes: &[Hash]) -> io::Result<Times> {
     let mut table = Table::new(rt.alloc());
-    let put = time_puts(rt, &mut table, hashes)?;
-    let found = time_finds(rt, &table, hashes)?;
-    let taken = time_takes(rt, &mut table, hashes)?;
-    check(table.is_empty())?;
+    time_table(rt, &mut table, hashes)
+}
+
+// How long it takes to put the hashes into a map.
+fn time_puts_mapped(
+    rt: &HostRuntime,
+    map: &mut HashMap<Hash, ()>,
+    hashes: &[Hash],
+) -> io::Result<f64> {
+    let start = Instant::now(rt)?;
+    put_all_mapped(map, hashes)?;
+    Ok(start.elapsed(rt)?.as_secs_f64())
+}
+
+// How long it takes to find them all there.
+fn time_finds_mapped(
+    rt: &HostRuntime,
+    map: &HashMap<Hash, ()>,
+    hashes: &[Hash],
+) -> io::Result<f64> {
+    let start = Instant::now(rt)?;
+    check(count_mapped(map, hashes) == hashes.len())?;
+    Ok(start.elapsed(rt)?.as_secs_f64())
+}
+
+// How long it takes to take them all out.
+fn time_takes_mapped(
+    rt: &HostRuntime,
+    map: &mut HashMap<Hash, ()>,
+    hashes: &[Hash],
+) -> io::Result<f64> {
+    let start = Instant::now(rt)?;
+    take_all_mapped(map, hashes);
+    Ok(start.elapsed(rt)?.as_secs_f64())
+}
+
+// The three times of a map, which is empty before and behind them.
+fn time_map(rt: &HostRuntime, map: &mut HashMap<Hash, ()>, hashes: &[Hash]) -> io::Result<Times> {
+    let put = time_puts_mapped(rt, map, hashes)?;
+    let found = time_finds_mapped(rt, map, hashes)?;
+    let taken = time_takes_mapped(rt, map, hashes)?;
+    check(map.is_empty())?;
     Ok(Times { put, found, taken })
 }
 
 fn measure_map(rt: &HostRuntime, hashes: &[Hash]) -> io::Result<Times> {
     let mut map = HashMap::new(rt.alloc());
-    let start = Instant::now(rt)?;
-    put_all_mapped(&mut map, hashes)?;
-    let put = start.elapsed(rt)?.as_secs_f64();
-    let start = Instant::now(rt)?;
-    check(count_mapped(&map, hashes) == hashes.len())?;
-    let found = start.elapsed(rt)?.as_secs_f64();
-    let start = Instant::now(rt)?;
-    take_all_mapped(&mut map, hashes);
-    let taken = start.elapsed(rt)?.as_secs_f64();
-    check(map.is_empty())?;
-    Ok(Times { put, found, taken })
+    time_map(rt, &mut map, hashes)
 }
 
 fn tell(rt: &HostRuntime, name: &str, count: usize, times: &Times) -> io::Result<()> {
@@ -133,13 +170,16 @@ fn tell(rt: &HostRuntime, name: &str, count: usize, times: &Times) -> io::Result
     Ok(())
 }
 
+// Measures both with these hashes.
+fn measure_both(rt: &HostRuntime, hashes: &[Hash]) -> io::Result<()> {
+    tell(rt, "a table", hashes.len(), &measure_table(rt, hashes)?)?;
+    tell(rt, "a hash map", hashes.len(), &measure_map(rt, hashes)?)
+}
+
 /// Measures both with so many hashes.
 pub fn measure(rt: &HostRuntime, count: u64) -> io::Result<()> {
     let hashes = hashes_of(rt.alloc(), count)?;
-    let table = measure_table(rt, hashes.as_slice())?;
-    tell(rt, "a table", hashes.len(), &table)?;
-    let map = measure_map(rt, hashes.as_slice())?;
-    tell(rt, "a hash map", hashes.len(), &map)
+    measure_both(rt, hashes.as_slice())
 }
 
 // The number that a word spells.
