@@ -422,20 +422,17 @@ fn gen_request<'a, 'b>(
     }
 }
 
-// What the matches ask for.
-fn asked_of<'a>(
+// What the matches of the command of this name ask for.
+fn asked_by<'a>(
     alloc: Global,
     words: &'a [String],
-    matches: &ArgMatches<'a>,
+    name: &str,
+    inner: &ArgMatches<'a>,
 ) -> Result<Request<'a>, WordsFault>
-    requires sound { fault_of hamilton (texts words.now) ≡ [] }
-    requires met { subcommand_of hamilton (texts words.now) ≡ subcommand_rows_of matches.now }
+    requires { NameCommand (texts words.now) name.now (rows_of (found_of inner.now)) }
     ensures asked { IfOk result (λ r. WordsAskFor (texts words.entry.now) r) }
     ensures refused { IfErr result (λ e. AreWordsRefused (texts words.entry.now) e) }
 {
-    let Some((name, inner)) = matches.subcommand() else {
-        return Err(WordsFault::Memory);
-    };
     if name == "init" {
         return init_request(alloc, words, inner);
     }
@@ -458,6 +455,23 @@ fn asked_of<'a>(
         return help_asked(alloc, words, inner);
     }
     Err(WordsFault::Memory)
+}
+
+// What the matches ask for.
+fn asked_of<'a>(
+    alloc: Global,
+    words: &'a [String],
+    matches: &ArgMatches<'a>,
+) -> Result<Request<'a>, WordsFault>
+    requires sound { fault_of hamilton (texts words.now) ≡ [] }
+    requires met { subcommand_of hamilton (texts words.now) ≡ subcommand_rows_of matches.now }
+    ensures asked { IfOk result (λ r. WordsAskFor (texts words.entry.now) r) }
+    ensures refused { IfErr result (λ e. AreWordsRefused (texts words.entry.now) e) }
+{
+    match matches.subcommand() {
+        Some((name, inner)) => asked_by(alloc, words, name, inner),
+        None => Err(WordsFault::Memory),
+    }
 }
 
 /// Parses the words, the first of which is the program's name.
