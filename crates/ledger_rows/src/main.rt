@@ -1,4 +1,4 @@
-//! Runs rows of whole runs of the program, told in text files, over devices in memory.
+//! Runs rows of whole runs of the program, told in text files, over devices in memory, behind those of `lock_rows`, which stand in code.
 #![tactic(auto)]
 
 mod disks;
@@ -27,7 +27,9 @@ fn main(rt: HostRuntime) -> io::Result<ExitCode> {
     let does = |state: &mut State, text: &str, block: &Block| {
         step(&rt, alloc, state, text, block);
     };
-    if run_files::<HostRuntime, State, _>(&rt, &does)? {
+    let has_locks = lock_rows::tell_rows(&rt)?;
+    let has_files = run_files::<HostRuntime, State, _>(&rt, &does)?;
+    if has_locks && has_files {
         Ok(ExitCode::from(0))
     } else {
         Ok(ExitCode::from(1))

@@ -1,6 +1,6 @@
 //! Rows on the lock round a node, which need threads: what lanes that run beside each other leave, what a look tells, and where calls wait; on a
 //! sentinel ahead of a lane; and on the calls of a phase, made at once.
-//! A row whose name begins with `differs` does not hold.
+//! A row whose name begins with `differs` does not hold. The program `ledger_rows` runs them, ahead of its files.
 #![tactic(auto)]
 
 mod book;
@@ -14,7 +14,6 @@ mod shards;
 
 use std::alloc::Global;
 use std::io;
-use std::process::ExitCode;
 use std::sync::Wait;
 use std::thread::Threads;
 
@@ -131,20 +130,17 @@ fn tell_phases<R: Print + Threads + Wait + Sync>(rt: &R, alloc: Global, tally: &
     );
 }
 
-fn main(rt: HostRuntime) -> io::Result<ExitCode> {
+/// Tells each row with what it came to, and how many came to what they should. The answer is whether all did.
+pub fn tell_rows<R: AllocGlobal + Print + Threads + Wait + Sync>(rt: &R) -> io::Result<bool> {
     let alloc = rt.alloc();
     let mut tally = Tally { told: 0, held: 0 };
-    tell_locks(&rt, alloc, &mut tally);
-    tell_shards(&rt, alloc, &mut tally);
-    tell_sentinels(&rt, alloc, &mut tally);
-    tell_phases(&rt, alloc, &mut tally);
-    println!(&rt;
+    tell_locks(rt, alloc, &mut tally);
+    tell_shards(rt, alloc, &mut tally);
+    tell_sentinels(rt, alloc, &mut tally);
+    tell_phases(rt, alloc, &mut tally);
+    println!(rt;
         "{} of {} rows came to what they should",
         tally.held, tally.told
     )?;
-    if tally.held == tally.told {
-        Ok(ExitCode::from(0))
-    } else {
-        Ok(ExitCode::from(1))
-    }
+    Ok(tally.held == tally.told)
 }
