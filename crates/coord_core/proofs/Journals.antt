@@ -42,15 +42,14 @@ follows_next c J other stands next = absurd next
 
 -- the batch and the phase that a record sets its lane to
 sets_of : Record → Option (Batch × Phase)
-sets_of (Genesis header hs) = None
 sets_of (Lock stamp b es) = Some (b, InLock)
 sets_of (Finish stamp b ds) = Some (b, InFinish)
 sets_of (Forget stamp b) = Some (b, Idle)
-sets_of (Start header) = None
 sets_of (Prepare stamp b txs) = Some (b, InPrepare)
 sets_of (Commit stamp b os) = Some (b, InCommit)
 sets_of (Discard stamp b) = Some (b, InDiscard)
 sets_of (Done stamp b) = Some (b, Idle)
+sets_of other = None
 
 abbrev slot_by : Option (Batch × Phase) → Slot → ℕ → Slot
 slot_by None s lane = s
@@ -112,21 +111,29 @@ slot_facts h (r ∷ (q ∷ past)) lane node j = let P : Slot → Type 0 = λ s. 
 abbrev SizeAt : Header → ℕ → List Record → Type 0
 SizeAt h lane J = (slot J lane).phase ≡ InPrepare → HasSize h.shape (txs_of J (open_batch J lane))
 
--- a record that sets another phase
-size_past : (h : Header) (past : List Record) (r : Record) (lane : ℕ) (b : Batch) (p : Phase) → (p ≡ InPrepare → ⊥)
-    → slot (r ∷ past) lane ≡ (if b.lane == lane then record { number = b.number; phase = p } else slot past lane)
+-- the phase that a record sets its lane to, if any
+abbrev set_phase : Option (Batch × Phase) → Phase
+set_phase None = Idle
+set_phase (Some (b, p)) = p
+
+-- a record that sets another phase, or none
+size_past : (h : Header) (past : List Record) (r : Record) (lane : ℕ) (o : Option (Batch × Phase)) → (set_phase o ≡ InPrepare → ⊥) → slot (r ∷ past) lane ≡ slot_by o (slot past lane) lane
     → ((a : Batch) → txs_of (r ∷ past) a ≡ txs_of past a) → SizeAt h lane past → SizeAt h lane (r ∷ past)
-size_past h past r lane b p other is same old phase = go (eqb_tells b.lane lane)
+size_past h past r lane o other is same old phase = go o other is
   where
-    go : ((eqb b.lane lane ≡ true) × (b.lane ≡ lane)) ⊎ ((eqb b.lane lane ≡ false) × (b.lane ≢ lane)) → HasSize h.shape (txs_of (r ∷ past) (open_batch (r ∷ past) lane))
-    go (inl (t, e)) =
-        let s : slot (r ∷ past) lane ≡ record { number = b.number; phase = p } = rw t at is in
-        absurd (other (sym (ap (λ x. x.phase) s) ∙ phase))
-    go (inr (f, ne)) =
-        let s : slot (r ∷ past) lane ≡ slot past lane = rw f at is in
+    kept : slot (r ∷ past) lane ≡ slot past lane → HasSize h.shape (txs_of (r ∷ past) (open_batch (r ∷ past) lane))
+    kept s =
         let e : txs_of (r ∷ past) (open_batch (r ∷ past) lane) ≡ txs_of past (open_batch past lane) = same (open_batch (r ∷ past) lane) ∙ ap (λ x. txs_of past (record { lane = lane; number = x.number })) s in
         let P : List Compact → Type 0 = λ ts. HasSize h.shape ts in
         subst P (sym e) (old (sym (ap (λ x. x.phase) s) ∙ phase))
+
+    go : (o : Option (Batch × Phase)) → (set_phase o ≡ InPrepare → ⊥) → slot (r ∷ past) lane ≡ slot_by o (slot past lane) lane → HasSize h.shape (txs_of (r ∷ past) (open_batch (r ∷ past) lane))
+    go None other is = kept is
+    go (Some (b, p)) other is = elim (b.lane == lane)
+        as (λ t. slot (r ∷ past) lane ≡ (if t then record { number = b.number; phase = p } else slot past lane) → HasSize h.shape (txs_of (r ∷ past) (open_batch (r ∷ past) lane))) [
+          | true ↦ λ s. absurd (other (sym (ap (λ x. x.phase) s) ∙ phase))
+          | false ↦ λ s. kept s
+        ] is
 
 size_prepare : (h : Header) (past : List Record) (stamp : ℕ) (b : Batch) (txs : List Compact) (lane : ℕ) → HasSize h.shape txs → SizeAt h lane past → SizeAt h lane (Prepare stamp b txs ∷ past)
 size_prepare h past stamp b txs lane size old phase = go (eqb_tells b.lane lane)
@@ -147,15 +154,9 @@ size_prepare h past stamp b txs lane size old phase = go (eqb_tells b.lane lane)
         subst P (sym e) (old (sym (ap (λ x. x.phase) s) ∙ phase))
 
 size_more : (h : Header) (past : List Record) (r : Record) (lane : ℕ) → After h past r → SizeAt h lane past → SizeAt h lane (r ∷ past)
-size_more h past (Genesis header hs) lane after old = old
-size_more h past (Start header) lane after old = old
-size_more h past (Lock stamp b es) lane after old = size_past h past (Lock stamp b es) lane b InLock (λ e. cc) refl (λ a. refl) old
-size_more h past (Finish stamp b ds) lane after old = size_past h past (Finish stamp b ds) lane b InFinish (λ e. cc) refl (λ a. refl) old
-size_more h past (Forget stamp b) lane after old = size_past h past (Forget stamp b) lane b Idle (λ e. cc) refl (λ a. refl) old
+unfolding sets_of
 size_more h past (Prepare stamp b txs) lane after old = size_prepare h past stamp b txs lane after.0.3 old
-size_more h past (Commit stamp b os) lane after old = size_past h past (Commit stamp b os) lane b InCommit (λ e. cc) refl (λ a. refl) old
-size_more h past (Discard stamp b) lane after old = size_past h past (Discard stamp b) lane b InDiscard (λ e. cc) refl (λ a. refl) old
-size_more h past (Done stamp b) lane after old = size_past h past (Done stamp b) lane b Idle (λ e. cc) refl (λ a. refl) old
+size_more h past other lane after old = size_past h past other lane (sets_of other) (λ e. cc) (slot_is_by other past lane) (λ a. refl) old
 
 pub prepared_size : (h : Header) (J : List Record) (lane : ℕ) → IsJournal h J → (slot J lane).phase ≡ InPrepare → HasSize h.shape (txs_of J (open_batch J lane))
 prepared_size h [] lane j = absurd j

@@ -2,7 +2,7 @@
 use Rattle.std.proofs.Common.{◌≡◌, ℕ, ◌+◌, ◌<◌, ◌≤◌, List, [], ◌∷◌, ◌++◌, length, take, drop, get_or, Option, sym, ap, ◌∙◌, subst}
 use Rattle.std.proofs.lemmas.List.{append_assoc, take_all, take-append-drop}
 use Rattle.std.proofs.lemmas.List.Elements.{Contains-append_left, All-weaker}
-use Rattle.cbdc_model.specs.Records.{Shape, Compact, Record, Genesis, Lock, Finish, Forget, Start, Prepare, Commit, Discard, Done}
+use Rattle.cbdc_model.specs.Records.{Shape, Compact, Record, Prepare}
 use Rattle.cbdc_model.specs.Coins.{Output, FullTx}
 use Rattle.cbdc_model.specs.Clean.{IsProperCompact}
 use Rattle.cbdc_model.specs.History.{TxsPass}
@@ -19,14 +19,7 @@ use Rattle.file_runs.proofs.Joining.{joined_append, joined_next, so_far, KeepsFi
 passes_more : (submissions more : List FullTx) (r : Record) → TxsPass (IsProperCompact submissions) r → TxsPass (IsProperCompact (submissions ++ more)) r
 passes_more submissions more (Prepare stamp b txs) h =
     All-weaker (IsProperCompact submissions) (IsProperCompact (submissions ++ more)) (λ k p. (p.0, Contains-append_left submissions more p.0 p.1, p.2, p.3)) txs h
-passes_more submissions more (Genesis header hs) h = tt
-passes_more submissions more (Lock stamp b es) h = tt
-passes_more submissions more (Finish stamp b ds) h = tt
-passes_more submissions more (Forget stamp b) h = tt
-passes_more submissions more (Start header) h = tt
-passes_more submissions more (Commit stamp b os) h = tt
-passes_more submissions more (Discard stamp b) h = tt
-passes_more submissions more (Done stamp b) h = tt
+passes_more submissions more other h = tt
 
 -- with more submissions
 pub may_more : (K : Shape) (mint : List Output) (submissions more : List FullTx) (J : ℕ → List Record) (F : ℕ → Option Record) → AllMayCome K mint submissions J F → AllMayCome K mint (submissions ++ more) J F

@@ -8,7 +8,7 @@ use Rattle.std.proofs.lemmas.List.Elements.{All-cons, All-head, All-tail}
 use Rattle.std.proofs.lemmas.List.FromFn.{length-map-range_with_len, length-range_with_len}
 use Rattle.std.proofs.Math.Nat.{div-eq_of_lt-le}
 use Rattle.cbdc_types.specs.Limits.{IsWithinLimits}
-use Rattle.cbdc_model.specs.Records.{Shape, Compact, Record, Genesis, Lock, Finish, Forget, Start, Prepare, Commit, Discard, Done}
+use Rattle.cbdc_model.specs.Records.{Shape, Compact, Record, Genesis, Start}
 use Rattle.cbdc_model.specs.Coins.{FullTx, compact, genesis_id}
 use Rattle.cbdc_model.specs.History.{minted, first_rows}
 use Rattle.cbdc_model.specs.Lanes.{IsEnd}
@@ -99,13 +99,7 @@ none_prepared : (lane : ℕ) (J : List Record) → AllFirst J → prepared lane 
 none_prepared lane [] first = refl
 none_prepared lane (Genesis header hs ∷ J) first = none_prepared lane J first.1
 none_prepared lane (Start header ∷ J) first = none_prepared lane J first.1
-none_prepared lane (Lock stamp b es ∷ J) first = absurd first.0
-none_prepared lane (Finish stamp b ds ∷ J) first = absurd first.0
-none_prepared lane (Forget stamp b ∷ J) first = absurd first.0
-none_prepared lane (Prepare stamp b txs ∷ J) first = absurd first.0
-none_prepared lane (Commit stamp b os ∷ J) first = absurd first.0
-none_prepared lane (Discard stamp b ∷ J) first = absurd first.0
-none_prepared lane (Done stamp b ∷ J) first = absurd first.0
+none_prepared lane (other ∷ J) first = absurd first.0
 
 -- ---- the batches of two files, one behind the other
 

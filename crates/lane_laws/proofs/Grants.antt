@@ -6,7 +6,7 @@ use Rattle.cbdc_types.specs.declared.calls.Refused.TheVariants.{Stale, LaneOpen,
 use Rattle.cbdc_types.specs.declared.calls.Replied.{Replied}
 use Rattle.cbdc_types.specs.declared.calls.NodeFault.{NodeFault}
 use Rattle.cbdc_types.specs.declared.calls.NodeFault.TheVariants.{Broken, Refused as Refuses, ClockEnd, Full, DiskFault, Memory}
-use Rattle.cbdc_model.specs.Records.{Batch, Entry, Record, Shape, record_of, lock_of, entries_in, stamp_in, kind_of, decisions_in, Genesis, Lock, Finish, Forget, Start, Prepare, Commit, Discard, Done}
+use Rattle.cbdc_model.specs.Records.{Batch, Entry, Record, Shape, record_of, lock_of, entries_in, stamp_in, decisions_in}
 use Rattle.cbdc_model.specs.Slots.{Phase, slot, slot_stamp, Idle, InLock, InFinish, InPrepare, InCommit, InDiscard}
 use Rattle.cbdc_model.specs.Replies.{entries}
 use Rattle.cbdc_model.specs.After.{FitsReplies}
@@ -17,7 +17,7 @@ use Rattle.cbdc_model.specs.Sights.{Sight}
 use Rattle.ledger_laws.specs.Laws.{IsGranted}
 use Rattle.ledger_laws.proofs.Answered.{IsStale, LockAnswered, FinishAnswered, ForgetAnswered, lock_stored, lock_appends, finish_stored, finish_appends, forget_stored, forget_appends}
 use Rattle.ledger_laws.proofs.Granted.{lock_granted, finish_granted, forget_granted}
-use Rattle.ledger_laws.proofs.Last.{LastIs, nothing_yet, of_kind, last_is, slot_by}
+use Rattle.ledger_laws.proofs.Last.{phase_stamp}
 use Rattle.lane_laws.specs.Batches.{own}
 use Rattle.lane_laws.specs.Granting.{MayLock, MayFinish, MayForget}
 use Rattle.lane_laws.specs.Faults.{IsAnswered, IsNoRefusal}
@@ -229,40 +229,10 @@ module _ (lane number : ℕ) (L M : List Record) (same : own lane M ≡ own lane
 
 module _ (J : List Record) (b : Batch) (n : (slot J b.lane).number ≡ b.number) where
   pub locked_stamp : (slot J b.lane).phase ≡ InLock → slot_stamp J b.lane ≡ stamp_in (record_of 2 J b)
-  locked_stamp q = by_last (last_is J b n)
-    where
-      is_lock : (kind : ℕ) (r : Record) → record_of kind J b ≡ Some r → kind_of r ≡ kind → (slot_by (Some r)).phase ≡ InLock → record_of 2 J b ≡ Some r
-      is_lock kind (Lock stamp c es) e k p = subst (λ m. record_of m J b ≡ Some (Lock stamp c es)) (sym k) e
-      is_lock kind (Genesis header hs) e k p = absurd (let z : Idle ≡ InLock = p in cc)
-      is_lock kind (Start header) e k p = absurd (let z : Idle ≡ InLock = p in cc)
-      is_lock kind (Finish stamp c ds) e k p = absurd (let z : InFinish ≡ InLock = p in cc)
-      is_lock kind (Forget stamp c) e k p = absurd (let z : Idle ≡ InLock = p in cc)
-      is_lock kind (Prepare stamp c txs) e k p = absurd (let z : InPrepare ≡ InLock = p in cc)
-      is_lock kind (Commit stamp c os) e k p = absurd (let z : InCommit ≡ InLock = p in cc)
-      is_lock kind (Discard stamp c) e k p = absurd (let z : InDiscard ≡ InLock = p in cc)
-      is_lock kind (Done stamp c) e k p = absurd (let z : Idle ≡ InLock = p in cc)
-
-      by_last : LastIs J b → slot_stamp J b.lane ≡ stamp_in (record_of 2 J b)
-      by_last (nothing_yet z p) = absurd (let w : Idle ≡ InLock = sym p ∙ q in cc)
-      by_last (of_kind kind r e w k p) = w ∙ sym (ap stamp_in (is_lock kind r e k (sym p ∙ q)))
+  locked_stamp q = phase_stamp J b n InLock q (λ i. let z : Idle ≡ InLock = sym i ∙ q in cc)
 
   pub finished_stamp : (slot J b.lane).phase ≡ InFinish → slot_stamp J b.lane ≡ stamp_in (record_of 3 J b)
-  finished_stamp q = by_last (last_is J b n)
-    where
-      is_finish : (kind : ℕ) (r : Record) → record_of kind J b ≡ Some r → kind_of r ≡ kind → (slot_by (Some r)).phase ≡ InFinish → record_of 3 J b ≡ Some r
-      is_finish kind (Finish stamp c ds) e k p = subst (λ m. record_of m J b ≡ Some (Finish stamp c ds)) (sym k) e
-      is_finish kind (Genesis header hs) e k p = absurd (let z : Idle ≡ InFinish = p in cc)
-      is_finish kind (Start header) e k p = absurd (let z : Idle ≡ InFinish = p in cc)
-      is_finish kind (Lock stamp c es) e k p = absurd (let z : InLock ≡ InFinish = p in cc)
-      is_finish kind (Forget stamp c) e k p = absurd (let z : Idle ≡ InFinish = p in cc)
-      is_finish kind (Prepare stamp c txs) e k p = absurd (let z : InPrepare ≡ InFinish = p in cc)
-      is_finish kind (Commit stamp c os) e k p = absurd (let z : InCommit ≡ InFinish = p in cc)
-      is_finish kind (Discard stamp c) e k p = absurd (let z : InDiscard ≡ InFinish = p in cc)
-      is_finish kind (Done stamp c) e k p = absurd (let z : Idle ≡ InFinish = p in cc)
-
-      by_last : LastIs J b → slot_stamp J b.lane ≡ stamp_in (record_of 3 J b)
-      by_last (nothing_yet z p) = absurd (let w : Idle ≡ InFinish = sym p ∙ q in cc)
-      by_last (of_kind kind r e w k p) = w ∙ sym (ap stamp_in (is_finish kind r e k (sym p ∙ q)))
+  finished_stamp q = phase_stamp J b n InFinish q (λ i. let z : Idle ≡ InFinish = sym i ∙ q in cc)
 
 -- ---- a fault of a call that nothing refuses
 

@@ -1,24 +1,14 @@
 -- Records of another lane: what a lane's own records say stays.
-use Rattle.std.proofs.Common.{◌≡◌, ◌≢◌, true, false, ◌==◌, ℕ, List, [], ◌∷◌, ◌++◌, refl, sym, ap, ◌∙◌, subst, arith}
-use Rattle.cbdc_model.specs.Records.{Batch, Record, record_of, is_in_lane, Genesis, Lock, Finish, Forget, Start, Prepare, Commit, Discard, Done}
+use Rattle.std.proofs.Common.{◌≡◌, ◌≢◌, true, false, ℕ, List, [], ◌∷◌, ◌++◌, refl, sym, ap, ◌∙◌, subst, arith}
+use Rattle.cbdc_model.specs.Records.{Batch, Record, record_of, is_in_lane}
 use Rattle.cbdc_model.specs.Slots.{slot}
+use Rattle.ledger_laws.proofs.ByKind.{lanes_apart}
 use Rattle.lane_laws.specs.Batches.{own}
 use Rattle.lane_laws.proofs.Own.{own_out, record_own, slot_own}
 use Rattle.ledger_runs.specs.Faults.{AreOfLane, GrowBy}
 
-elsewhere : (l lane other : ℕ) → other ≢ lane → (l == other) ≡ true → (l == lane) ≡ false
-elsewhere l lane other apart h = grind (arith, h, apart)
-
 not_of : (lane other : ℕ) (r : Record) → other ≢ lane → is_in_lane other r ≡ true → is_in_lane lane r ≡ false
-not_of lane other (Genesis header hs) apart h = refl
-not_of lane other (Start header) apart h = refl
-not_of lane other (Lock stamp b es) apart h = elsewhere b.lane lane other apart h
-not_of lane other (Finish stamp b ds) apart h = elsewhere b.lane lane other apart h
-not_of lane other (Forget stamp b) apart h = elsewhere b.lane lane other apart h
-not_of lane other (Prepare stamp b txs) apart h = elsewhere b.lane lane other apart h
-not_of lane other (Commit stamp b os) apart h = elsewhere b.lane lane other apart h
-not_of lane other (Discard stamp b) apart h = elsewhere b.lane lane other apart h
-not_of lane other (Done stamp b) apart h = elsewhere b.lane lane other apart h
+not_of lane other r apart h = lanes_apart other lane r h (grind (arith, apart))
 
 own_stays : (lane other : ℕ) → other ≢ lane → (more old : List Record) → AreOfLane other more → own lane (more ++ old) ≡ own lane old
 own_stays lane other apart [] old all = refl

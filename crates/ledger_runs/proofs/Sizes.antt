@@ -3,10 +3,11 @@ use Rattle.std.proofs.Common.{◌≡◌, ℕ, zero, suc, ◌+◌, ◌-◌, ◌<�
 use Rattle.std.specs.Prelude.{slice_get, option_map}
 use Rattle.std.proofs.lemmas.List.{reverse-append, length-append}
 use Rattle.std.proofs.lemmas.Bool.{le-ltb, ltb-true, ltb-false}
-use Rattle.cbdc_model.specs.Records.{Batch, Compact, Outcome, Record, is_of, outcomes_of, Genesis, Lock, Finish, Forget, Start, Prepare, Commit, Discard, Done}
+use Rattle.cbdc_model.specs.Records.{Batch, Compact, Outcome, Record, is_of, outcomes_of, Prepare}
 use Rattle.cbdc_model.specs.Waves.{prepared, IsCut}
 use Rattle.cbdc_model.specs.Places.{PlaceIn, Sized, sized_before, sized_onto, place_of, outcome_at, outcome_in}
 use Rattle.ledger_laws.proofs.Slots.{same_batch_is}
+pub use Rattle.run_laws.proofs.Numbers.{prepared_more}
 use Rattle.ledger_runs.specs.Telling.{decided_in, decided_of, AreDecided}
 
 -- ---- batches of more records
@@ -21,14 +22,7 @@ before_behind lane (Prepare stamp c txs) os others = elim (c.lane == lane)
       | true ↦ refl
       | false ↦ refl
     ]
-before_behind lane (Genesis header hs) os others = refl
-before_behind lane (Start header) os others = refl
-before_behind lane (Lock stamp c es) os others = refl
-before_behind lane (Finish stamp c ds) os others = refl
-before_behind lane (Forget stamp c) os others = refl
-before_behind lane (Commit stamp c xs) os others = refl
-before_behind lane (Discard stamp c) os others = refl
-before_behind lane (Done stamp c) os others = refl
+before_behind lane other os others = refl
 
 sized_behind : (lane : ℕ) (a : List Record) (os others : List Sized) → sized_onto lane a (os ++ others) ≡ sized_onto lane a os ++ others
 sized_behind lane [] os others = refl
@@ -58,30 +52,7 @@ sized_of lane b (Prepare stamp c txs ∷ d) os all = elim (c.lane == lane)
           ap (λ x. sized_onto lane d (its_size x txs ∷ os)) (same_batch_is c b all.0) ∙ sized_of lane b d (its_size b txs ∷ os) all.1 ∙ turned (its_size b) txs (prepared lane d) os
       | false ↦ sized_of lane b d os all.1
     ]
-sized_of lane b (Genesis header hs ∷ d) os all = sized_of lane b d os all.1
-sized_of lane b (Start header ∷ d) os all = sized_of lane b d os all.1
-sized_of lane b (Lock stamp c es ∷ d) os all = sized_of lane b d os all.1
-sized_of lane b (Finish stamp c ds ∷ d) os all = sized_of lane b d os all.1
-sized_of lane b (Forget stamp c ∷ d) os all = sized_of lane b d os all.1
-sized_of lane b (Commit stamp c xs ∷ d) os all = sized_of lane b d os all.1
-sized_of lane b (Discard stamp c ∷ d) os all = sized_of lane b d os all.1
-sized_of lane b (Done stamp c ∷ d) os all = sized_of lane b d os all.1
-
-pub prepared_more : (lane : ℕ) (newer older : List Record) → prepared lane (newer ++ older) ≡ prepared lane newer ++ prepared lane older
-prepared_more lane [] older = refl
-prepared_more lane (Prepare stamp c txs ∷ newer) older = elim (c.lane == lane)
-    as (λ l. (if l then txs ∷ prepared lane (newer ++ older) else prepared lane (newer ++ older)) ≡ (if l then txs ∷ prepared lane newer else prepared lane newer) ++ prepared lane older) [
-      | true ↦ ap (λ l. txs ∷ l) (prepared_more lane newer older)
-      | false ↦ prepared_more lane newer older
-    ]
-prepared_more lane (Genesis header hs ∷ newer) older = prepared_more lane newer older
-prepared_more lane (Start header ∷ newer) older = prepared_more lane newer older
-prepared_more lane (Lock stamp c es ∷ newer) older = prepared_more lane newer older
-prepared_more lane (Finish stamp c ds ∷ newer) older = prepared_more lane newer older
-prepared_more lane (Forget stamp c ∷ newer) older = prepared_more lane newer older
-prepared_more lane (Commit stamp c xs ∷ newer) older = prepared_more lane newer older
-prepared_more lane (Discard stamp c ∷ newer) older = prepared_more lane newer older
-prepared_more lane (Done stamp c ∷ newer) older = prepared_more lane newer older
+sized_of lane b (other ∷ d) os all = sized_of lane b d os all.1
 
 -- ---- how many transactions they have
 
@@ -114,14 +85,7 @@ before_total lane (Prepare stamp c txs) J os = elim (c.lane == lane)
       | true ↦ omega arith
       | false ↦ refl
     ]
-before_total lane (Genesis header hs) J os = refl
-before_total lane (Start header) J os = refl
-before_total lane (Lock stamp c es) J os = refl
-before_total lane (Finish stamp c ds) J os = refl
-before_total lane (Forget stamp c) J os = refl
-before_total lane (Commit stamp c xs) J os = refl
-before_total lane (Discard stamp c) J os = refl
-before_total lane (Done stamp c) J os = refl
+before_total lane other J os = refl
 
 sized_total : (lane : ℕ) (d : List Record) (os : List Sized) → total (sized_onto lane d os) ≡ total os + joint (prepared lane d)
 sized_total lane [] os = omega arith
@@ -136,14 +100,7 @@ before_count lane (Prepare stamp c txs) J os = elim (c.lane == lane)
       | true ↦ omega arith
       | false ↦ refl
     ]
-before_count lane (Genesis header hs) J os = refl
-before_count lane (Start header) J os = refl
-before_count lane (Lock stamp c es) J os = refl
-before_count lane (Finish stamp c ds) J os = refl
-before_count lane (Forget stamp c) J os = refl
-before_count lane (Commit stamp c xs) J os = refl
-before_count lane (Discard stamp c) J os = refl
-before_count lane (Done stamp c) J os = refl
+before_count lane other J os = refl
 
 sized_count : (lane : ℕ) (d : List Record) (os : List Sized) → length (sized_onto lane d os) ≡ length os + length (prepared lane d)
 sized_count lane [] os = omega arith

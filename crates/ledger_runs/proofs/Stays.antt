@@ -2,7 +2,7 @@
 use Rattle.std.proofs.Common.{◌≡◌, ℕ, ◌+◌, ◌<◌, Bool, true, false, ◌&&◌, ◌==◌, if◌then◌else◌, List, [], ◌∷◌, ◌++◌, map, reverse, length, min, refl, sym, ap, ◌∙◌, subst, arith, append_assoc, append-nil}
 use Rattle.std.specs.Prelude.{is_some}
 use Rattle.std.proofs.lemmas.List.{append_cancel_right, length-append}
-use Rattle.cbdc_model.specs.Records.{Shape, Batch, same_batch, Compact, Outcome, Record, record_of, kind_of, is_of, outcomes_of, outcomes_in, Genesis, Lock, Finish, Forget, Start, Prepare, Commit, Discard, Done}
+use Rattle.cbdc_model.specs.Records.{Shape, Batch, same_batch, Compact, Outcome, Record, record_of, kind_of, is_of, outcomes_of, outcomes_in, Prepare}
 use Rattle.cbdc_model.specs.Ranges.{home_of}
 use Rattle.cbdc_model.specs.Waves.{Adds, prepared, has_prepare}
 use Rattle.cbdc_model.specs.Places.{Sized, sized_before, sized_onto}
@@ -38,14 +38,7 @@ own_before lane J (Prepare stamp c txs) front rest os e own = elim (c.lane == la
   | true ↦ λ l. ((lane_is c.lane lane l, ap (λ K. is_some (record_of 6 K c)) e ∙ in_journal front rest (Prepare stamp c txs) 6 c (itself 6 c)), own)
   | false ↦ λ l. own
 ] refl
-own_before lane J (Genesis header hs) front rest os e own = own
-own_before lane J (Start header) front rest os e own = own
-own_before lane J (Lock stamp c es) front rest os e own = own
-own_before lane J (Finish stamp c ds) front rest os e own = own
-own_before lane J (Forget stamp c) front rest os e own = own
-own_before lane J (Commit stamp c xs) front rest os e own = own
-own_before lane J (Discard stamp c) front rest os e own = own
-own_before lane J (Done stamp c) front rest os e own = own
+own_before lane J other front rest os e own = own
 
 own_all : (lane : ℕ) (J front more rest : List Record) (os : List Sized) → J ≡ front ++ (more ++ rest) → EachSized (IsOwn lane J) os → EachSized (IsOwn lane J) (sized_onto lane more os)
 own_all lane J front [] rest os e own = own

@@ -4,7 +4,7 @@ use Rattle.std.specs.Prelude.{sum_by}
 use Rattle.std.proofs.lemmas.List.{take_more, reverse-append}
 use Rattle.std.proofs.lemmas.List.Elements.{All-cons, All-nil}
 use Rattle.std.proofs.lemmas.List.Sums.{sum_by-append, sum_by-cons}
-use Rattle.cbdc_model.specs.Records.{Header, Record, Genesis, Lock, Finish, Forget, Start, Prepare, Commit, Discard, Done}
+use Rattle.cbdc_model.specs.Records.{Header, Record, Genesis, Start}
 use Rattle.cbdc_model.specs.Grammar.{IsInGrammar}
 use Rattle.cbdc_model.specs.After.{After, IsJournal}
 use Rattle.cbdc_model.specs.Room.{size_of}
@@ -30,13 +30,7 @@ first_journal h r later may = begins r may.0 (grammar_of h (r ∷ later) may 0 r
     begins : (r : Record) → exact.IsFirstRecord r → IsInGrammar h r → IsJournal h (r ∷ [])
     begins (Genesis header hs) first grammar = (tt, (grammar, refl))
     begins (Start header) first grammar = (tt, (grammar, refl))
-    begins (Lock stamp b es) first grammar = absurd first
-    begins (Finish stamp b ds) first grammar = absurd first
-    begins (Forget stamp b) first grammar = absurd first
-    begins (Prepare stamp b txs) first grammar = absurd first
-    begins (Commit stamp b os) first grammar = absurd first
-    begins (Discard stamp b) first grammar = absurd first
-    begins (Done stamp b) first grammar = absurd first
+    begins other first grammar = absurd first
 
 -- one record more, newest first
 pub went_on : {A : Type 0} (xs : List A) (i : ℕ) (x : A) → i < length xs → x ≡ get_or xs i x → reverse (take (i + 1) xs) ≡ x ∷ reverse (take i xs)

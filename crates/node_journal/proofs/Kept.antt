@@ -2,7 +2,7 @@
 use Rattle.std.proofs.Common.{◌≡◌, ℕ, zero, suc, ◌+◌, ◌*◌, ◌^◌, ◌≤◌, ◌<◌, true, false, List, [], ◌∷◌, length, All, refl, arith, mul-le-mul_left}
 use Rattle.std.proofs.lemmas.List.Elements.{All-head, All-tail}
 use Rattle.cbdc_types.specs.Limits.{IsWithinLimits}
-use Rattle.cbdc_model.specs.Records.{Header, Batch, Record, lock_of, txs_of, same_batch, Genesis, Lock, Finish, Forget, Start, Prepare, Commit, Discard, Done}
+use Rattle.cbdc_model.specs.Records.{Header, Batch, Record, lock_of, txs_of, same_batch, Lock, Prepare}
 use Rattle.cbdc_model.specs.Slots.{Phase, slot, Idle, InLock, InFinish, InPrepare, InCommit, InDiscard}
 use Rattle.cbdc_model.specs.Grammar.{IsInGrammar}
 use Rattle.cbdc_model.specs.Room.{lane_room, room_in, kept_below, kept_room}
@@ -10,35 +10,21 @@ use Rattle.cbdc_model.specs.Due.{open_batch}
 
 pub lock_few : (h : Header) (J : List Record) (b : Batch) → All (IsInGrammar h) J → length (lock_of J b) ≤ h.shape.batch
 lock_few h [] b all = omega arith
-lock_few h (Genesis header hs ∷ J) b all = lock_few h J b (All-tail (IsInGrammar h) (Genesis header hs) J all)
 lock_few h (Lock stamp c es ∷ J) b all =
     elim (same_batch c b) as (λ t. same_batch c b ≡ t → length (lock_of (Lock stamp c es ∷ J) b) ≤ h.shape.batch) [
       | true ↦ λ e. rw e (All-head (IsInGrammar h) (Lock stamp c es) J all).3.1
       | false ↦ λ e. rw e (lock_few h J b (All-tail (IsInGrammar h) (Lock stamp c es) J all))
     ] refl
-lock_few h (Finish stamp c ds ∷ J) b all = lock_few h J b (All-tail (IsInGrammar h) (Finish stamp c ds) J all)
-lock_few h (Forget stamp c ∷ J) b all = lock_few h J b (All-tail (IsInGrammar h) (Forget stamp c) J all)
-lock_few h (Start header ∷ J) b all = lock_few h J b (All-tail (IsInGrammar h) (Start header) J all)
-lock_few h (Prepare stamp c txs ∷ J) b all = lock_few h J b (All-tail (IsInGrammar h) (Prepare stamp c txs) J all)
-lock_few h (Commit stamp c os ∷ J) b all = lock_few h J b (All-tail (IsInGrammar h) (Commit stamp c os) J all)
-lock_few h (Discard stamp c ∷ J) b all = lock_few h J b (All-tail (IsInGrammar h) (Discard stamp c) J all)
-lock_few h (Done stamp c ∷ J) b all = lock_few h J b (All-tail (IsInGrammar h) (Done stamp c) J all)
+lock_few h (other ∷ J) b all = lock_few h J b (All-tail (IsInGrammar h) other J all)
 
 txs_few : (h : Header) (J : List Record) (b : Batch) → All (IsInGrammar h) J → length (txs_of J b) ≤ h.shape.batch
 txs_few h [] b all = omega arith
-txs_few h (Genesis header hs ∷ J) b all = txs_few h J b (All-tail (IsInGrammar h) (Genesis header hs) J all)
-txs_few h (Lock stamp c es ∷ J) b all = txs_few h J b (All-tail (IsInGrammar h) (Lock stamp c es) J all)
-txs_few h (Finish stamp c ds ∷ J) b all = txs_few h J b (All-tail (IsInGrammar h) (Finish stamp c ds) J all)
-txs_few h (Forget stamp c ∷ J) b all = txs_few h J b (All-tail (IsInGrammar h) (Forget stamp c) J all)
-txs_few h (Start header ∷ J) b all = txs_few h J b (All-tail (IsInGrammar h) (Start header) J all)
 txs_few h (Prepare stamp c txs ∷ J) b all =
     elim (same_batch c b) as (λ t. same_batch c b ≡ t → length (txs_of (Prepare stamp c txs ∷ J) b) ≤ h.shape.batch) [
       | true ↦ λ e. rw e (All-head (IsInGrammar h) (Prepare stamp c txs) J all).3.1
       | false ↦ λ e. rw e (txs_few h J b (All-tail (IsInGrammar h) (Prepare stamp c txs) J all))
     ] refl
-txs_few h (Commit stamp c os ∷ J) b all = txs_few h J b (All-tail (IsInGrammar h) (Commit stamp c os) J all)
-txs_few h (Discard stamp c ∷ J) b all = txs_few h J b (All-tail (IsInGrammar h) (Discard stamp c) J all)
-txs_few h (Done stamp c ∷ J) b all = txs_few h J b (All-tail (IsInGrammar h) (Done stamp c) J all)
+txs_few h (other ∷ J) b all = txs_few h J b (All-tail (IsInGrammar h) other J all)
 
 room_few : (p : Phase) (m n k : ℕ) → m ≤ k → n ≤ k → room_in p m n ≤ 110 + 57 * k
 room_few Idle m n k le re = omega arith

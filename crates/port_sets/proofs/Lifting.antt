@@ -2,14 +2,15 @@
 use Rattle.std.proofs.Common.{◌≡◌, inl, inr, ℕ, ◌≤◌, Bool, true, false, List, [], ◌∷◌, ◌++◌, length, Option, Some, None, Result, Ok, Err, refl, sym, ap, ◌∙◌, subst, arith}
 use Rattle.cbdc_types.specs.declared.calls.NodeFault.{NodeFault}
 use Rattle.cbdc_types.specs.declared.calls.NodeFault.TheVariants.{Broken, Refused as Refuses, ClockEnd, Full, DiskFault, Memory}
-use Rattle.cbdc_model.specs.Records.{Header, Record, last_stamp, stamp_of, Genesis, Lock, Finish, Forget, Start, Prepare, Commit, Discard, Done}
-use Rattle.cbdc_model.specs.After.{After, IsJournal}
+use Rattle.cbdc_model.specs.Records.{Header, Record, last_stamp}
+use Rattle.cbdc_model.specs.After.{IsJournal}
 use Rattle.cbdc_model.specs.Due.{Due, Writes, unless_broken}
 use Rattle.cbdc_model.specs.Sights.{Sight, HasRisen, IsSameNode, Stays, Appends, Fails, Meets, AllMay, Finds as Found, IsBrokenSince, Told}
 use Rattle.lane_driver.specs.Told.{IsStillNode}
 use Rattle.node_lock.specs.declared.views.Hand.{Hand}
 use Rattle.node_lock.specs.Tickets.{Called}
 use Rattle.node_lock.specs.Viewing.{viewed}
+use Rattle.node_ports.proofs.Stamps.{after_last}
 use Rattle.port_sets.specs.Asking.{all_may}
 
 -- ---- what came between
@@ -19,20 +20,6 @@ none_between lane [] h = refl
 none_between lane (x ∷ xs) h = absurd (let z : false ≡ true = h.0 in cc)
 
 -- a journal's stamps rise
-none_before : (past : List Record) (n : ℕ) → past ≡ [] → last_stamp past ≤ n
-none_before past n e = subst (λ p. last_stamp p ≤ n) (sym e) (omega arith)
-
-after_last : (h : Header) (past : List Record) (r : Record) → After h past r → last_stamp past ≤ stamp_of r
-after_last h past (Genesis header hs) a = none_before past 0 a.1
-after_last h past (Start header) a = none_before past 0 a.1
-after_last h past (Lock stamp b es) a = omega (arith, a.1.0)
-after_last h past (Finish stamp b ds) a = omega (arith, a.1.0)
-after_last h past (Forget stamp b) a = omega (arith, a.1.0)
-after_last h past (Prepare stamp b txs) a = omega (arith, a.1.0)
-after_last h past (Commit stamp b os) a = omega (arith, a.1.0)
-after_last h past (Discard stamp b) a = omega (arith, a.1.0)
-after_last h past (Done stamp b) a = omega (arith, a.1.0)
-
 pub ends_rise : (h : Header) (more old : List Record) → IsJournal h (more ++ old) → last_stamp old ≤ last_stamp (more ++ old)
 ends_rise h [] old j = omega arith
 ends_rise h (r ∷ []) [] j = omega arith

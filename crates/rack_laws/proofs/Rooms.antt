@@ -1,7 +1,7 @@
 -- A record that had room leaves room for what is kept behind it.
 use Rattle.std.proofs.Common.{◌≡◌, ◌≢◌, ℕ, ◌+◌, ◌*◌, ◌<◌, ◌≤◌, List, [], ◌∷◌, length, refl, arith}
 use Rattle.std.proofs.lemmas.List.Sums.{sum_by-cons}
-use Rattle.cbdc_model.specs.Records.{Header, Batch, Compact, Outcome, Record, txs_of, Genesis, Lock, Finish, Forget, Start, Prepare, Commit, Discard, Done, lock_of}
+use Rattle.cbdc_model.specs.Records.{Header, Batch, Compact, Outcome, Record, txs_of, Lock, Finish, Forget, Prepare, Commit, Discard, Done, lock_of}
 use Rattle.cbdc_model.specs.Slots.{slot, InPrepare, InCommit, InDiscard}
 use Rattle.cbdc_model.specs.After.{After}
 use Rattle.cbdc_model.specs.Room.{size_of, lane_room, kept_room, need_of}
@@ -53,8 +53,6 @@ moved h J N lane others inside = kept_moves J N lane (h.shape.coordinators * h.s
 
 pub room_behind : (h : Header) (J : List Record) (r : Record) (limit : ℕ) → (J ≡ [] → ⊥) → After h J r → used_of J + kept_room h.shape J ≤ limit → used_of J + need_of h.shape J r ≤ limit
     → used_of (r ∷ J) + kept_room h.shape (r ∷ J) ≤ limit
-room_behind h J (Genesis header hs) limit some after room need = absurd (some after.1)
-room_behind h J (Start header) limit some after room need = absurd (some after.1)
 room_behind h J (Lock stamp b es) limit some after room need =
     omega (arith, moved h J (Lock stamp b es ∷ J) b.lane (λ l apart. past_lock J stamp b es l apart) after.0.1.0, room_idle J b.lane after.1.1, locked_room J stamp b es, need, sum_by-cons size_of (Lock stamp b es) J)
 room_behind h J (Finish stamp b ds) limit some after room need =
@@ -86,3 +84,4 @@ room_behind h J (Discard stamp b) limit some after room need =
     omega (arith, moved h J (Discard stamp b ∷ J) b.lane (λ l apart. past_discard J stamp b l apart) after.0.1.0, room_committed J b.lane after.1.2, discarded_room J stamp b, room, sum_by-cons size_of (Discard stamp b) J)
 room_behind h J (Done stamp b) limit some after room need =
     omega (arith, moved h J (Done stamp b ∷ J) b.lane (λ l apart. past_done J stamp b l apart) after.0.1.0, room_discarded J b.lane after.1.2, done_room J stamp b, room, sum_by-cons size_of (Done stamp b) J)
+room_behind h J other limit some after room need = absurd (some after.1)

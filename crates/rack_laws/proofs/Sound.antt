@@ -6,7 +6,7 @@ use Rattle.std.proofs.lemmas.Bool.{cases_lt}
 use Rattle.std.proofs.lemmas.List.{reverse-append, append_assoc}
 use Rattle.cbdc_types.specs.Limits.{IsWithinLimits}
 use Rattle.cbdc_types.specs.declared.answer.UnsoundKind.{UnsoundKind}
-use Rattle.cbdc_model.specs.Records.{Shape, Batch, Compact, Record, Row, journal, record_of, kind_of, is_of, Genesis, Lock, Finish, Forget, Start, Prepare, Commit, Discard, Done}
+use Rattle.cbdc_model.specs.Records.{Shape, Batch, Compact, Record, Row, journal, record_of, kind_of, is_of, Prepare}
 use Rattle.cbdc_model.specs.Coins.{Output, FullTx, genesis_id}
 use Rattle.cbdc_model.specs.After.{IsJournal}
 use Rattle.cbdc_model.specs.Book.{value}
@@ -103,14 +103,7 @@ module _ (K : Shape) (mint : List Output) (submissions : List FullTx) (X : ℕ �
               | inr past ↦ absurd (cons_not newer older (Prepare stamp b txs) (sym e ∙ kept_beyond K mint submissions X kept n past))
             ] in
             subst (λ J. is_some (record_of 9 J b) ≡ true) (sym (journals_are (home_of K b.lane))) (prepared_done stamp b txs n newer older inside e)
-        by_kind n (Genesis header hs) newer older e = tt
-        by_kind n (Lock stamp b es) newer older e = tt
-        by_kind n (Finish stamp b ds) newer older e = tt
-        by_kind n (Forget stamp b) newer older e = tt
-        by_kind n (Start header) newer older e = tt
-        by_kind n (Commit stamp b os) newer older e = tt
-        by_kind n (Discard stamp b) newer older e = tt
-        by_kind n (Done stamp b) newer older e = tt
+        by_kind n other newer older e = tt
 
     -- every batch that was prepared is done
     pub all_done : AllDone K (journals_of rows) rows

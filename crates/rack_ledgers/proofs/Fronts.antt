@@ -2,7 +2,7 @@
 use Rattle.std.proofs.Common.{◌≡◌, ◌⊎◌, inl, inr, ⊎_elim, ℕ, ◌≤◌, List, [], ◌∷◌, ◌++◌, length, reverse, refl, sym, ap, ap₂, ◌∙◌, subst, arith, append_assoc, length-append}
 use Rattle.std.proofs.lemmas.List.{reverse-append, reverse-reverse, append-nil}
 use Rattle.cbdc_types.specs.Limits.{IsWithinLimits}
-use Rattle.cbdc_model.specs.Records.{Header, Record, Genesis, Lock, Finish, Forget, Start, Prepare, Commit, Discard, Done}
+use Rattle.cbdc_model.specs.Records.{Header, Record, Genesis, Start}
 use Rattle.cbdc_model.specs.Grammar.{IsInGrammar}
 use Rattle.cbdc_model.specs.After.{After, IsFirst, IsJournal}
 use Rattle.record_log.specs.Bodies.{body_of}
@@ -114,13 +114,7 @@ one_journal h k J L r s bytes one other =
 begins_journal : (h : Header) (r : Record) → IsWithinLimits h.shape → IsFirst r → IsInGrammar h r → BeginsJournal r
 begins_journal h (Genesis header hs) limits first is = (subst (λ (k : Header). IsWithinLimits k.shape) (sym is.0) limits, subst (λ (k : Header). IsInGrammar k (Genesis header hs)) (sym is.0) is)
 begins_journal h (Start header) limits first is = (subst (λ (k : Header). IsWithinLimits k.shape) (sym is.0) limits, subst (λ (k : Header). IsInGrammar k (Start header)) (sym is.0) is)
-begins_journal h (Lock stamp b es) limits first is = absurd first
-begins_journal h (Finish stamp b ds) limits first is = absurd first
-begins_journal h (Forget stamp b) limits first is = absurd first
-begins_journal h (Prepare stamp b txs) limits first is = absurd first
-begins_journal h (Commit stamp b os) limits first is = absurd first
-begins_journal h (Discard stamp b) limits first is = absurd first
-begins_journal h (Done stamp b) limits first is = absurd first
+begins_journal h other limits first is = absurd first
 
 first_row : (h : Header) (R : List Record) (rest bytes : List ℕ) → IsWithinLimits h.shape → Begins h R → bytes ≡ rows (bodies_of R) ++ rest → 1 ≤ length rest → HasRow BeginsJournal bytes
 first_row h [] rest bytes limits begins parts some = absurd begins

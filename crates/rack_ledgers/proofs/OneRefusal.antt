@@ -2,7 +2,7 @@
 use Rattle.std.proofs.Common.{◌≡◌, ℕ, List, [], ◌∷◌, ◌++◌, length, reverse, refl, sym, ap, ap₂, ◌∙◌, subst, arith}
 use Rattle.cbdc_types.specs.Limits.{IsWithinLimits}
 use Rattle.cbdc_types.specs.declared.calls.NodeOpenFault.TheVariants.{DiskFault, NotReady, OtherKind, Damaged, Full, Memory}
-use Rattle.cbdc_model.specs.Records.{Header, Record, Genesis, Lock, Finish, Forget, Start, Prepare, Commit, Discard, Done}
+use Rattle.cbdc_model.specs.Records.{Header, Record, Genesis, Start}
 use Rattle.cbdc_model.specs.Grammar.{IsInGrammar}
 use Rattle.cbdc_model.specs.Room.{kept_room}
 use Rattle.cbdc_model.specs.Due.{used_of}
@@ -111,14 +111,7 @@ no_start h (Start header) x limits shard is grammar same =
     let one : Start header ≡ x = same_record header h (Start header) x is.0 limits is.1 grammar same in
     let here : IsInGrammar h (Start header) = subst (IsInGrammar h) (sym one) grammar in
     absurd (omega (arith, here.2, shard.0))
-no_start h (Genesis header hs) x limits shard is grammar same = absurd is
-no_start h (Lock stamp b es) x limits shard is grammar same = absurd is
-no_start h (Finish stamp b ds) x limits shard is grammar same = absurd is
-no_start h (Forget stamp b) x limits shard is grammar same = absurd is
-no_start h (Prepare stamp b txs) x limits shard is grammar same = absurd is
-no_start h (Commit stamp b os) x limits shard is grammar same = absurd is
-no_start h (Discard stamp b) x limits shard is grammar same = absurd is
-no_start h (Done stamp b) x limits shard is grammar same = absurd is
+no_start h other x limits shard is grammar same = absurd is
 
 -- a shard's first record is none of a coordinator's journal
 no_genesis : (h : Header) (q x : Record) → IsWithinLimits h.shape → IsCoord h → IsGenesis q → IsInGrammar h x → body_of q ≡ body_of x → ⊥
@@ -126,14 +119,7 @@ no_genesis h (Genesis header hs) x limits coordinator is grammar same =
     let one : Genesis header hs ≡ x = same_record header h (Genesis header hs) x is.0 limits is.1 grammar same in
     let here : IsInGrammar h (Genesis header hs) = subst (IsInGrammar h) (sym one) grammar in
     absurd (omega (arith, here.2.0, coordinator))
-no_genesis h (Start header) x limits coordinator is grammar same = absurd is
-no_genesis h (Lock stamp b es) x limits coordinator is grammar same = absurd is
-no_genesis h (Finish stamp b ds) x limits coordinator is grammar same = absurd is
-no_genesis h (Forget stamp b) x limits coordinator is grammar same = absurd is
-no_genesis h (Prepare stamp b txs) x limits coordinator is grammar same = absurd is
-no_genesis h (Commit stamp b os) x limits coordinator is grammar same = absurd is
-no_genesis h (Discard stamp b) x limits coordinator is grammar same = absurd is
-no_genesis h (Done stamp b) x limits coordinator is grammar same = absurd is
+no_genesis h other x limits coordinator is grammar same = absurd is
 
 -- ---- the laws
 

@@ -4,7 +4,7 @@ use Rattle.cbdc_types.specs.declared.answer.Answer.{Answer}
 use Rattle.cbdc_types.specs.declared.answer.Answer.TheVariants as answers
 use Rattle.cbdc_types.specs.declared.calls.NodeOpenFault.{NodeOpenFault}
 use Rattle.cbdc_types.specs.declared.calls.NodeOpenFault.TheVariants as faults
-use Rattle.cbdc_model.specs.Records.{Header, Record, Genesis, Lock, Finish, Forget, Start, Prepare, Commit, Discard, Done}
+use Rattle.cbdc_model.specs.Records.{Header, Record, Genesis, Start}
 use Rattle.cbdc_model.specs.Room.{kept_room}
 use Rattle.cbdc_model.specs.Due.{used_of}
 use Rattle.outside.specs.Counts.{Rose}
@@ -66,36 +66,15 @@ module _ (Is : Header → Type 0) (node : ℕ) (ledger : Option Header) (limit :
 -- a first record is of one kind
 pub start_first : (r : Record) → IsStart r → IsFirstRecord r
 start_first (Start h) is = is
-start_first (Genesis h hs) is = absurd is
-start_first (Lock stamp b es) is = absurd is
-start_first (Finish stamp b ds) is = absurd is
-start_first (Forget stamp b) is = absurd is
-start_first (Prepare stamp b txs) is = absurd is
-start_first (Commit stamp b os) is = absurd is
-start_first (Discard stamp b) is = absurd is
-start_first (Done stamp b) is = absurd is
+start_first other is = absurd is
 
 pub genesis_first : (r : Record) → IsGenesis r → IsFirstRecord r
 genesis_first (Genesis h hs) is = is
-genesis_first (Start h) is = absurd is
-genesis_first (Lock stamp b es) is = absurd is
-genesis_first (Finish stamp b ds) is = absurd is
-genesis_first (Forget stamp b) is = absurd is
-genesis_first (Prepare stamp b txs) is = absurd is
-genesis_first (Commit stamp b os) is = absurd is
-genesis_first (Discard stamp b) is = absurd is
-genesis_first (Done stamp b) is = absurd is
+genesis_first other is = absurd is
 
 one_kind : (r : Record) → IsStart r → IsGenesis r → ⊥
 one_kind (Start h) start is = is
-one_kind (Genesis h hs) start is = start
-one_kind (Lock stamp b es) start is = start
-one_kind (Finish stamp b ds) start is = start
-one_kind (Forget stamp b) start is = start
-one_kind (Prepare stamp b txs) start is = start
-one_kind (Commit stamp b os) start is = start
-one_kind (Discard stamp b) start is = start
-one_kind (Done stamp b) start is = start
+one_kind other start is = start
 
 pub not_both_kinds : (bytes : List ℕ) → HasRow IsStart bytes → HasRow IsGenesis bytes → ⊥
 not_both_kinds bytes start genesis =

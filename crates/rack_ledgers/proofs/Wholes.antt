@@ -1,7 +1,7 @@
 -- How many records at the front of a disk are whole, as far as two.
 use Rattle.std.proofs.Common.{◌≡◌, ℕ, ◌≤◌, List, [], ◌∷◌, ◌++◌, length, refl, sym, ◌∙◌, ap, subst, arith, append_assoc, length-append}
 use Rattle.std.proofs.lemmas.List.Elements.{All-nil, All-cons, All-head, All-tail}
-use Rattle.cbdc_model.specs.Records.{Header, Record, Genesis, Lock, Finish, Forget, Start, Prepare, Commit, Discard, Done}
+use Rattle.cbdc_model.specs.Records.{Header, Record, Genesis, Start}
 use Rattle.cbdc_model.specs.Grammar.{IsInGrammar}
 use Rattle.record_log.specs.Bodies.{body_of}
 use Rattle.record_log.specs.Exact.{IsFirstRecord}
@@ -21,13 +21,7 @@ one_first q r q_is r_is same =
 own_header : (g h : Header) (r : Record) → IsFirstRecord r → IsInGrammar g r → IsInGrammar h r → g ≡ h
 own_header g h (Genesis header hs) is one other = sym one.0 ∙ other.0
 own_header g h (Start header) is one other = sym one.0 ∙ other.0
-own_header g h (Lock stamp b es) is one other = absurd is
-own_header g h (Finish stamp b ds) is one other = absurd is
-own_header g h (Forget stamp b) is one other = absurd is
-own_header g h (Prepare stamp b txs) is one other = absurd is
-own_header g h (Commit stamp b os) is one other = absurd is
-own_header g h (Discard stamp b) is one other = absurd is
-own_header g h (Done stamp b) is one other = absurd is
+own_header g h r is one other = absurd is
 
 row_len : (P : Record → Type 0) (rest : List ℕ) → HasRow P rest → 1 ≤ length rest
 row_len P rest has = omega (arith, ap length has.parts)

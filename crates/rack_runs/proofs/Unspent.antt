@@ -3,7 +3,7 @@ use Rattle.std.proofs.Common.{◌≡◌, ◌⊎◌, inl, inr, ℕ, suc, ◌+◌,
 use Rattle.std.specs.Prelude.{All}
 use Rattle.std.proofs.lemmas.List.{length-append}
 use Rattle.std.proofs.lemmas.List.Elements.{All-nil, All-head, All-tail}
-use Rattle.cbdc_model.specs.Records.{Digest, same_digest, Shape, Header, Batch, Answered, Record, record_of, kind_of, is_of, is_held, entries_in, lock_of, Genesis, Lock, Finish, Forget, Start, Prepare, Commit, Discard, Done}
+use Rattle.cbdc_model.specs.Records.{Digest, same_digest, Shape, Header, Batch, Answered, Record, record_of, kind_of, is_of, is_held, entries_in, lock_of, Genesis, Lock, Finish}
 use Rattle.cbdc_model.specs.Ranges.{shard_of, shard_node}
 use Rattle.cbdc_model.specs.Status.{Status, status, has, held_inputs, taken_inputs, made_outputs, returned_inputs, finished_status, Unspent, Locked, Absent}
 use Rattle.cbdc_model.specs.Grammar.{AreHere, IsEntry, IsInGrammar}
@@ -90,14 +90,7 @@ module _ (h : Header) where
 
   entries_here : (r : Record) → IsInGrammar h r → Entries (entries_in (Some r))
   entries_here (Lock stamp b es) g = g.5
-  entries_here (Genesis header hs) g = All-nil (IsEntry h.shape h.node)
-  entries_here (Start header) g = All-nil (IsEntry h.shape h.node)
-  entries_here (Finish stamp b ds) g = All-nil (IsEntry h.shape h.node)
-  entries_here (Forget stamp b) g = All-nil (IsEntry h.shape h.node)
-  entries_here (Prepare stamp b txs) g = All-nil (IsEntry h.shape h.node)
-  entries_here (Commit stamp b os) g = All-nil (IsEntry h.shape h.node)
-  entries_here (Discard stamp b) g = All-nil (IsEntry h.shape h.node)
-  entries_here (Done stamp b) g = All-nil (IsEntry h.shape h.node)
+  entries_here other g = All-nil (IsEntry h.shape h.node)
 
   abbrev pub record_lies : List Record → Type 0
   record_lies J = ((x : Digest) → status J x ≡ Unspent → Here x) × ((b : Batch) → Entries (lock_of J b))
@@ -124,12 +117,7 @@ module _ (h : Header) where
         | false ↦ λ v. old.0 x v
       ] u
       here (Finish stamp b ds) g x u = finished_here (lock_of past b) ds x (status past x) (old.1 b) (old.0 x) u
-      here (Forget stamp b) g x u = old.0 x u
-      here (Start header) g x u = old.0 x u
-      here (Prepare stamp b txs) g x u = old.0 x u
-      here (Commit stamp b os) g x u = old.0 x u
-      here (Discard stamp b) g x u = old.0 x u
-      here (Done stamp b) g x u = old.0 x u
+      here other g x u = old.0 x u
 
   nothing_lies : record_lies []
   nothing_lies = (λ x u. absurd (let z : Absent ≡ Unspent = u in cc), λ b. All-nil (IsEntry h.shape h.node))

@@ -8,7 +8,7 @@ use Rattle.std.proofs.lemmas.List.Elements.{All-nil, All-cons, All-head, All-tai
 use Rattle.outside.specs.declared.disk.Disk.{Ghosts}
 use Rattle.cbdc_types.specs.Limits.{IsWithinLimits}
 use Rattle.cbdc_types.specs.declared.calls.LockCall.{LockCall}
-use Rattle.cbdc_model.specs.Records.{Digest, Shape, Header, Batch, Compact, Record, journal, record_of, last_stamp, stamp_of, Genesis, Lock, Finish, Forget, Start, Prepare, Commit, Discard, Done}
+use Rattle.cbdc_model.specs.Records.{Digest, Shape, Header, Batch, Compact, Record, journal, record_of, last_stamp, stamp_of, Genesis, Start, Prepare, Commit, Discard, Done}
 use Rattle.cbdc_model.specs.Slots.{Phase, slot, Idle, InPrepare, InCommit, InDiscard}
 use Rattle.cbdc_model.specs.Ranges.{home_of, shard_node, part, node_count}
 use Rattle.cbdc_model.specs.Replies.{answered}
@@ -44,6 +44,7 @@ use Rattle.rack_runs.specs.Kinds.{MayComeNext, StaysCaused}
 use Rattle.rack_runs.specs.Works.{FitsBatch}
 use Rattle.node_journal.specs.Nodes.{NodeOf, sight}
 use Rattle.file_runs.specs.Ledgers.{IsLedger, node_journals, HaveCheckedJournals}
+use Rattle.rack_ledgers.proofs.Once.{first_header}
 use Rattle.rack_laws.proofs.Opened.{at_place, sight_there}
 use Rattle.rack_runs.proofs.Behind.{by_all, log_journal, shard_journal}
 
@@ -66,15 +67,7 @@ some_behind (r ∷ more) J some none = absurd (let z : r ∷ (more ++ J) ≡ [] 
 -- a journal has one header
 one_header : (h g : Header) (J : List Record) → IsJournal h J → IsJournal g J → h ≡ g
 one_header h g [] i j = absurd i
-one_header h g (Genesis header hs ∷ []) i j = sym i.1.0.0 ∙ j.1.0.0
-one_header h g (Start header ∷ []) i j = sym i.1.0.0 ∙ j.1.0.0
-one_header h g (Lock stamp b es ∷ []) i j = absurd i.0
-one_header h g (Finish stamp b ds ∷ []) i j = absurd i.0
-one_header h g (Forget stamp b ∷ []) i j = absurd i.0
-one_header h g (Prepare stamp b txs ∷ []) i j = absurd i.0
-one_header h g (Commit stamp b os ∷ []) i j = absurd i.0
-one_header h g (Discard stamp b ∷ []) i j = absurd i.0
-one_header h g (Done stamp b ∷ []) i j = absurd i.0
+one_header h g (r ∷ []) i j = first_header h g r i.0 i.1.0 j.1.0
 one_header h g (r ∷ (q ∷ past)) i j = one_header h g (q ∷ past) i.1 j.1
 
 -- at a coordinator the number of a lane's slot is no greater than the last stamp
@@ -90,13 +83,11 @@ number_next : (h : Header) (past : List Record) (r : Record) → (past ≡ [] �
     → (lane : ℕ) → (slot (r ∷ past) lane).number ≤ last_stamp (r ∷ past)
 number_next h past (Genesis header hs) some low a le lane = absurd (some a.1)
 number_next h past (Start header) some low a le lane = absurd (some a.1)
-number_next h past (Lock stamp b es) some low a le lane = absurd (omega (arith, low, a.0.2.0))
-number_next h past (Finish stamp b ds) some low a le lane = absurd (omega (arith, low, a.0.2.0))
-number_next h past (Forget stamp b) some low a le lane = absurd (omega (arith, low, a.0.2.0))
 number_next h past (Prepare stamp b txs) some low a le lane = number_up lane stamp b InPrepare past (omega (arith, a.1.0, a.1.3, le b.lane)) (omega (arith, a.1.0, le lane))
 number_next h past (Commit stamp b os) some low a le lane = number_up lane stamp b InCommit past (omega (arith, a.1.0, a.1.3, le b.lane)) (omega (arith, a.1.0, le lane))
 number_next h past (Discard stamp b) some low a le lane = number_up lane stamp b InDiscard past (omega (arith, a.1.0, a.1.3, le b.lane)) (omega (arith, a.1.0, le lane))
 number_next h past (Done stamp b) some low a le lane = number_up lane stamp b Idle past (omega (arith, a.1.0, a.1.3, le b.lane)) (omega (arith, a.1.0, le lane))
+number_next h past other some low a le lane = absurd (omega (arith, low, a.0.2.0))
 
 number_low : (h : Header) (J : List Record) → h.node < h.shape.coordinators → IsJournal h J → (lane : ℕ) → (slot J lane).number ≤ last_stamp J
 number_low h [] low j lane = absurd j
@@ -105,13 +96,7 @@ number_low h (r ∷ []) low j lane = first r j.0
     first : (r : Record) → IsFirst r → (slot (r ∷ []) lane).number ≤ last_stamp (r ∷ [])
     first (Genesis header hs) is = omega arith
     first (Start header) is = omega arith
-    first (Lock stamp b es) is = absurd is
-    first (Finish stamp b ds) is = absurd is
-    first (Forget stamp b) is = absurd is
-    first (Prepare stamp b txs) is = absurd is
-    first (Commit stamp b os) is = absurd is
-    first (Discard stamp b) is = absurd is
-    first (Done stamp b) is = absurd is
+    first other is = absurd is
 number_low h (r ∷ (q ∷ past)) low j lane = number_next h (q ∷ past) r (λ none. absurd (let z : q ∷ past ≡ [] = none in cc)) low j.0 (λ l. number_low h (q ∷ past) low j.1 l) lane
 
 -- ---- the pieces of files

@@ -1,9 +1,9 @@
--- What was read and may stand under a header is in the grammar, and what is in the grammar may stand there and can be read.
-use Rattle.std.proofs.Common.{◌≡◌, ℕ, ◌+◌, ◌*◌, ◌<◌, ◌≤◌, Bool, List, [], ◌∷◌, ◌++◌, length, get_or, Ok, Err, refl, sym, ap, subst, ◌∙◌, arith, All}
+-- What is in the grammar can be read, and a body is that of one record.
+use Rattle.std.proofs.Common.{◌≡◌, ℕ, ◌+◌, ◌*◌, ◌<◌, ◌≤◌, Bool, List, [], ◌∷◌, ◌++◌, length, Ok, Err, refl, sym, ap, subst, ◌∙◌, arith, All}
 use Rattle.std.specs.List.{AllByRecursion}
 use Rattle.std.proofs.Math.Nat.{mul-le-mul}
 use Rattle.std.proofs.lemmas.List.{append-nil}
-use Rattle.std.proofs.lemmas.List.Elements.{All-from_recursion, recursion_from_All, All-head, All-tail, All-weaker}
+use Rattle.std.proofs.lemmas.List.Elements.{recursion_from_All, All-head, All-tail, All-weaker}
 use Rattle.cbdc_types.specs.Limits.{ShapeOf, IsWithinLimits}
 use Rattle.cbdc_model.specs.Records.{Digest, Header, Batch, Compact, Reply, Outcome, Answered, Record, Held, Missing, Taken, Won, Lacks, Blocked, Genesis, Lock, Finish, Forget, Start, Prepare, Commit, Discard, Done}
 use Rattle.cbdc_model.specs.Grammar.{IsEarly, IsLater, IsHash, IsHashList, IsBatchOf, RisesFrom, IsReply, IsOutcome, IsEntry, IsCompact, IsInGrammar}
@@ -13,81 +13,8 @@ use Rattle.byte_fields.proofs.Fields.{ok_is}
 use Rattle.byte_fields.proofs.Parts.{FitsBatch, FitsHashes, FitsCompact, FitsReply, FitsAnswered, FitsOutcome, FitsDecision}
 use Rattle.record_log.specs.Bodies.{body_of}
 use Rattle.record_log.specs.Reading.{body_at}
-use Rattle.record_log.specs.Standing.{MayReply, MayDecide, MayEnter, MayStand, MayBegin}
-use Rattle.record_log.specs.Exact.{IsBody, IsFirstRecord, IsFirstBody}
+use Rattle.record_log.specs.Exact.{IsBody, IsFirstBody}
 use Rattle.record_log.proofs.Records.{FitsHeader, FitsHead, FitsRecord, body_read}
-
--- ---- from what was read to the grammar
-
-hash_list : (xs : List Digest) → FitsHashes xs → IsHashList xs
-hash_list xs fits = (fits.0, All-from_recursion IsHash xs fits.1)
-
-reply_in : (K : ShapeOf) (r : Reply) → FitsReply r → MayReply K r → IsReply K r
-reply_in K Held fits may = tt
-reply_in K (Missing x) fits may = fits
-reply_in K (Taken x by) fits may = (fits.0, may)
-
-outcome_in : (K : ShapeOf) (o : Outcome) → FitsOutcome o → MayDecide K o → IsOutcome K o
-outcome_in K Won fits may = tt
-outcome_in K (Lacks shard x) fits may = (may, fits.1)
-outcome_in K (Blocked shard x by) fits may = (may.0, fits.1, may.1)
-
-entry_in : (h : Header) (a : Answered) → FitsAnswered a → MayEnter h a → IsEntry h.shape h.node a
-entry_in h a fits may = record {
-  id = fits.entry.id;
-  inputs = hash_list a.entry.inputs fits.entry.inputs;
-  outputs = hash_list a.entry.outputs fits.entry.outputs;
-  some = may.some;
-  inputs_here = may.inputs;
-  outputs_here = may.outputs;
-  reply = reply_in h.shape a.reply fits.reply may.reply;
-}
-
-compact_in : (t : Compact) → FitsCompact t → IsCompact t
-compact_in t fits = record { id = fits.id; inputs = hash_list t.inputs fits.inputs; outputs = hash_list t.outputs fits.outputs }
-
-entries_in : (h : Header) (es : List Answered) → AllByRecursion FitsAnswered es → All (MayEnter h) es → All (IsEntry h.shape h.node) es
-entries_in h es fits may k d lt = entry_in h (get_or es k d) (All-from_recursion FitsAnswered es fits k d lt) (may k d lt)
-
-outcomes_in : (K : ShapeOf) (os : List Outcome) → AllByRecursion FitsOutcome os → All (MayDecide K) os → All (IsOutcome K) os
-outcomes_in K os fits may k d lt = outcome_in K (get_or os k d) (All-from_recursion FitsOutcome os fits k d lt) (may k d lt)
-
-pub is_in_grammar : (h : Header) (r : Record) → FitsRecord r → MayStand h r → IsInGrammar h r
-is_in_grammar h (Genesis header hs) fits may = (may.0, subst (λ (k : Header). IsHash k.genesis) may.0 fits.0.genesis, may.1, fits.1.0, All-from_recursion IsHash hs fits.1.1, may.2)
-is_in_grammar h (Lock stamp b es) fits may = (may.0, may.1, may.2, may.3, may.4, entries_in h es fits.1.1 may.5)
-is_in_grammar h (Finish stamp b ds) fits may = may
-is_in_grammar h (Forget stamp b) fits may = may
-is_in_grammar h (Start header) fits may = (may.0, subst (λ (k : Header). IsHash k.genesis) may.0 fits.genesis, may.1)
-is_in_grammar h (Prepare stamp b txs) fits may = (may.0, may.1, may.2, may.3, All-weaker FitsCompact IsCompact compact_in txs (All-from_recursion FitsCompact txs fits.1.1))
-is_in_grammar h (Commit stamp b os) fits may = (may.0, may.1, may.2, may.3, outcomes_in h.shape os fits.1.1 may.4)
-is_in_grammar h (Discard stamp b) fits may = may
-is_in_grammar h (Done stamp b) fits may = may
-
--- ---- from the grammar to what may stand
-
-may_reply : (K : ShapeOf) (r : Reply) → IsReply K r → MayReply K r
-may_reply K Held is = tt
-may_reply K (Missing x) is = tt
-may_reply K (Taken x by) is = is.1
-
-may_decide : (K : ShapeOf) (o : Outcome) → IsOutcome K o → MayDecide K o
-may_decide K Won is = tt
-may_decide K (Lacks shard x) is = is.0
-may_decide K (Blocked shard x by) is = (is.0, is.2)
-
-may_enter : (h : Header) (a : Answered) → IsEntry h.shape h.node a → MayEnter h a
-may_enter h a is = record { some = is.some; inputs = is.inputs_here; outputs = is.outputs_here; reply = may_reply h.shape a.reply is.reply }
-
-pub may_stand : (h : Header) (r : Record) → IsInGrammar h r → MayStand h r
-may_stand h (Genesis header hs) is = (is.0, is.2, is.5)
-may_stand h (Lock stamp b es) is = (is.0, is.1, is.2, is.3, is.4, All-weaker (IsEntry h.shape h.node) (MayEnter h) (may_enter h) es is.5)
-may_stand h (Finish stamp b ds) is = is
-may_stand h (Forget stamp b) is = is
-may_stand h (Start header) is = (is.0, is.2)
-may_stand h (Prepare stamp b txs) is = (is.0, is.1, is.2, is.3)
-may_stand h (Commit stamp b os) is = (is.0, is.1, is.2, is.3, All-weaker (IsOutcome h.shape) (MayDecide h.shape) (may_decide h.shape) os is.4)
-may_stand h (Discard stamp b) is = is
-may_stand h (Done stamp b) is = is
 
 -- ---- from the grammar to what fits
 
@@ -151,8 +78,8 @@ fits_record h (Done stamp b) limits is = fits_later h.shape stamp b limits is.0 
 -- ---- bodies
 
 -- what was read up to the end of the bytes is spelled so
-pub spelled_so : (bytes : List ℕ) (r : Record) (rest : List ℕ) → IsBytes bytes → body_at bytes ≡ Ok (r, rest) → length rest ≡ 0 → (bytes ≡ body_of r) × FitsRecord r
-spelled_so bytes r [] fits e none = let taken = body_read.takes bytes r [] fits e in (taken.0.parts ∙ append-nil (body_of r), taken.1)
+pub spelled_so : (bytes : List ℕ) (r : Record) (rest : List ℕ) → IsBytes bytes → body_at bytes ≡ Ok (r, rest) → length rest ≡ 0 → bytes ≡ body_of r
+spelled_so bytes r [] fits e none = (body_read.takes bytes r [] fits e).0.parts ∙ append-nil (body_of r)
 spelled_so bytes r (b ∷ rest) fits e none = absurd (omega (arith, none))
 
 pub is_read : (h : Header) (bytes : List ℕ) (r : Record) → IsWithinLimits h.shape → IsBody h bytes r → body_at bytes ≡ Ok (r, [])
@@ -169,38 +96,10 @@ no_fault bytes r f e g = absurd (cc)
 
 -- ---- first bodies
 
-pub begins : (bytes : List ℕ) (r : Record) → FitsRecord r → MayBegin r → IsFirstRecord r
-begins bytes (Genesis header hs) fits may = (fits.0.shape, is_in_grammar header (Genesis header hs) fits may)
-begins bytes (Start header) fits may = (fits.shape, is_in_grammar header (Start header) fits may)
-begins bytes (Lock stamp b es) fits may = absurd may
-begins bytes (Finish stamp b ds) fits may = absurd may
-begins bytes (Forget stamp b) fits may = absurd may
-begins bytes (Prepare stamp b txs) fits may = absurd may
-begins bytes (Commit stamp b os) fits may = absurd may
-begins bytes (Discard stamp b) fits may = absurd may
-begins bytes (Done stamp b) fits may = absurd may
-
-pub may_begin : (r : Record) → IsFirstRecord r → MayBegin r
-may_begin (Genesis header hs) is = may_stand header (Genesis header hs) is.1
-may_begin (Start header) is = may_stand header (Start header) is.1
-may_begin (Lock stamp b es) is = absurd is
-may_begin (Finish stamp b ds) is = absurd is
-may_begin (Forget stamp b) is = absurd is
-may_begin (Prepare stamp b txs) is = absurd is
-may_begin (Commit stamp b os) is = absurd is
-may_begin (Discard stamp b) is = absurd is
-may_begin (Done stamp b) is = absurd is
-
 pub is_read_first : (bytes : List ℕ) (r : Record) → IsFirstBody bytes r → body_at bytes ≡ Ok (r, [])
 is_read_first bytes (Genesis header hs) is = is_read header bytes (Genesis header hs) is.1.0 (is.0, is.1.1)
 is_read_first bytes (Start header) is = is_read header bytes (Start header) is.1.0 (is.0, is.1.1)
-is_read_first bytes (Lock stamp b es) is = absurd is.1
-is_read_first bytes (Finish stamp b ds) is = absurd is.1
-is_read_first bytes (Forget stamp b) is = absurd is.1
-is_read_first bytes (Prepare stamp b txs) is = absurd is.1
-is_read_first bytes (Commit stamp b os) is = absurd is.1
-is_read_first bytes (Discard stamp b) is = absurd is.1
-is_read_first bytes (Done stamp b) is = absurd is.1
+is_read_first bytes other is = absurd is.1
 
 -- ---- laws
 

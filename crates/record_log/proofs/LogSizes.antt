@@ -4,7 +4,7 @@ use Rattle.std.specs.Prelude.{sum_by}
 use Rattle.std.proofs.lemmas.List.Elements.{All-head, All-tail, All-weaker}
 use Rattle.std.proofs.lemmas.List.Sums.{sum_by-le, sum_by-cons}
 use Rattle.cbdc_types.specs.Limits.{IsWithinLimits}
-use Rattle.cbdc_model.specs.Records.{Shape, Header, Compact, Reply, Outcome, Answered, Record, Held, Missing, Taken, Won, Lacks, Blocked, Genesis, Lock, Finish, Forget, Start, Prepare, Commit, Discard, Done}
+use Rattle.cbdc_model.specs.Records.{Shape, Header, Compact, Reply, Outcome, Answered, Record, Held, Missing, Taken, Won, Lacks, Blocked, Genesis, Lock, Finish, Start, Prepare, Commit}
 use Rattle.cbdc_model.specs.Grammar.{IsInGrammar, IsEntry, IsCompact, IsOutcome}
 use Rattle.cbdc_model.specs.Room.{size_of, reply_size, outcome_size, compact_size, answered_size}
 use Rattle.record_log.specs.Bodies.{body_of}
@@ -37,14 +37,11 @@ size_small h (Genesis header hs) limits is = omega (arith, is.3)
 size_small h (Lock stamp b es) limits is =
     omega (arith, is.3.1, limits.batch, sum_by-le answered_size 16425 es (All-weaker (IsEntry h.shape h.node) (λ a. answered_size a ≤ 16425) (answered_le h.shape h.node) es is.5))
 size_small h (Finish stamp b ds) limits is = omega (arith, is.3.1, limits.batch)
-size_small h (Forget stamp b) limits is = omega arith
-size_small h (Start header) limits is = omega arith
 size_small h (Prepare stamp b txs) limits is =
     omega (arith, is.3.1, limits.batch, sum_by-le compact_size 16368 txs (All-weaker IsCompact (λ t. compact_size t ≤ 16368) compact_le txs is.4))
 size_small h (Commit stamp b os) limits is =
     omega (arith, is.3.1, limits.batch, sum_by-le outcome_size 57 os (All-weaker (IsOutcome h.shape) (λ o. outcome_size o ≤ 57) (λ o i. outcome_le o) os is.4))
-size_small h (Discard stamp b) limits is = omega arith
-size_small h (Done stamp b) limits is = omega arith
+size_small h other limits is = omega arith
 
 -- a gate, a length and the body
 pub size_is : (h : Header) (r : Record) → IsWithinLimits h.shape → IsInGrammar h r → 9 + length (body_of r) ≡ size_of r
@@ -56,24 +53,12 @@ body_small h r limits is = omega (arith, size_is h r limits is, size_small h r l
 pub first_small : (r : Record) → IsFirstRecord r → length (body_of r) < 2 ^ 64
 first_small (Genesis header hs) is = body_small header (Genesis header hs) is.0 is.1
 first_small (Start header) is = body_small header (Start header) is.0 is.1
-first_small (Lock stamp b es) is = absurd is
-first_small (Finish stamp b ds) is = absurd is
-first_small (Forget stamp b) is = absurd is
-first_small (Prepare stamp b txs) is = absurd is
-first_small (Commit stamp b os) is = absurd is
-first_small (Discard stamp b) is = absurd is
-first_small (Done stamp b) is = absurd is
+first_small other is = absurd is
 
 first_limits : (h : Header) (r : Record) → IsFirstRecord r → IsInGrammar h r → IsWithinLimits h.shape
 first_limits h (Genesis header hs) is may = subst (λ (k : Header). IsWithinLimits k.shape) may.0 is.0
 first_limits h (Start header) is may = subst (λ (k : Header). IsWithinLimits k.shape) may.0 is.0
-first_limits h (Lock stamp b es) is may = absurd is
-first_limits h (Finish stamp b ds) is may = absurd is
-first_limits h (Forget stamp b) is may = absurd is
-first_limits h (Prepare stamp b txs) is may = absurd is
-first_limits h (Commit stamp b os) is may = absurd is
-first_limits h (Discard stamp b) is may = absurd is
-first_limits h (Done stamp b) is may = absurd is
+first_limits h other is may = absurd is
 
 -- the header of a journal is within its limits
 pub limits_of : (h : Header) (records : List Record) → MayHold h records → IsWithinLimits h.shape

@@ -400,14 +400,7 @@ takes_1 whole t bytes r rest fits e =
 
 kind_small : (r : Record) → FitsByte (kind_of r)
 kind_small (Genesis h hs) = omega arith
-kind_small (Lock stamp b xs) = omega arith
-kind_small (Finish stamp b xs) = omega arith
-kind_small (Forget stamp b) = omega arith
-kind_small (Start h) = omega arith
-kind_small (Prepare stamp b xs) = omega arith
-kind_small (Commit stamp b xs) = omega arith
-kind_small (Discard stamp b) = omega arith
-kind_small (Done stamp b) = omega arith
+kind_small other = omega arith
 
 body_again : (whole : List ℕ) (r : Record) (rest : List ℕ) → FitsRecord r → from_1 whole (kind_of r) (record_rest r ++ rest) ≡ Ok (r, rest)
 body_again whole (Genesis h hs) rest fits = genesis_read.again (Genesis h hs) rest (0, h, hs, refl, fits.0, fits.1, refl)
@@ -422,14 +415,7 @@ body_again whole (Done stamp b) rest fits = done_read.again (Done stamp b) rest 
 
 body_same : (r : Record) → kind_of r ∷ record_rest r ≡ body_of r
 body_same (Genesis h hs) = refl
-body_same (Lock stamp b xs) = refl
-body_same (Finish stamp b xs) = refl
-body_same (Forget stamp b) = refl
-body_same (Start h) = refl
-body_same (Prepare stamp b xs) = refl
-body_same (Commit stamp b xs) = refl
-body_same (Discard stamp b) = refl
-body_same (Done stamp b) = refl
+body_same other = refl
 
 pub body_read : IsRead body_at body_of FitsRecord
 unfolding body_at

@@ -1,7 +1,7 @@
 -- Which record a body is.
 use Rattle.std.specs.Prelude.{◌≡◌, ℕ, List, Result, Ok, Err}
 use Rattle.cbdc_types.specs.Limits.{IsWithinLimits}
-use Rattle.cbdc_model.specs.Records.{Header, Record, Genesis, Lock, Finish, Forget, Start, Prepare, Commit, Discard, Done}
+use Rattle.cbdc_model.specs.Records.{Header, Record, Genesis, Start}
 use Rattle.cbdc_model.specs.Grammar.{IsInGrammar}
 use Rattle.record_log.specs.declared.fault.RecordFault.{RecordFault}
 use Rattle.record_log.specs.declared.fault.RecordFault.TheVariants.{NotARecord, Memory}
@@ -15,13 +15,7 @@ IsBody h bytes r = (bytes ≡ body_of r) × IsInGrammar h r
 abbrev pub IsFirstRecord : Record → Type 0
 IsFirstRecord (Genesis header hs) = IsWithinLimits header.shape × IsInGrammar header (Genesis header hs)
 IsFirstRecord (Start header) = IsWithinLimits header.shape × IsInGrammar header (Start header)
-IsFirstRecord (Lock stamp b es) = ⊥
-IsFirstRecord (Finish stamp b ds) = ⊥
-IsFirstRecord (Forget stamp b) = ⊥
-IsFirstRecord (Prepare stamp b txs) = ⊥
-IsFirstRecord (Commit stamp b os) = ⊥
-IsFirstRecord (Discard stamp b) = ⊥
-IsFirstRecord (Done stamp b) = ⊥
+IsFirstRecord other = ⊥
 
 -- the bytes are the body of this first record
 abbrev pub IsFirstBody : List ℕ → Record → Type 0

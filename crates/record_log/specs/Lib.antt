@@ -3,7 +3,6 @@ pub mod Exact
 pub mod Faults
 pub mod Laws
 pub mod Reading
-pub mod Standing
 pub mod Held
 pub mod LogReading
 pub mod Logs

@@ -12,7 +12,6 @@ mod measure;
 mod opening;
 mod reading;
 mod sizes;
-mod standing;
 mod writing;
 
 pub use fault::RecordFault;

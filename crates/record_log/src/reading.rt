@@ -1,18 +1,19 @@
 // Reading a record.
 ghost use Rattle.std.specs.Prelude.{◌≡◌, ◌↔◌, IfOk, IsTrue, if◌then◌else◌, Some, None, bytes_eq};
+ghost use Rattle.cbdc_types.specs.Limits.{IsWithinLimits};
+ghost use Rattle.cbdc_model.specs.Grammar.{IsInGrammar};
 ghost use Rattle.byte_fields.specs.Faults.{Gives};
 ghost use Rattle.record_log.specs.Bodies.{magic};
-ghost use Rattle.record_log.specs.Exact.{IsBody, IsFirstBody, ReadsRecord};
+ghost use Rattle.record_log.specs.Exact.{IsBody, IsFirstBody, IsFirstRecord, ReadsRecord};
 ghost use Rattle.record_log.specs.Reading.{is_shape, magic_at, shape_at, header_at, zero_at, head_at, genesis_at, lock_at, finish_at, forget_at, start_at, prepare_at, commit_at, discard_at, done_at, body_at};
-ghost use Rattle.record_log.specs.Standing.{MayBegin};
 
 use crate::fault::RecordFault;
-use crate::standing::may_stand;
 use byte_fields::{Fault, ReadError, batch_id, byte, hash_in, list, number, small_number, split};
 use cbdc_types::{
     Answered, BatchId, CompactTx, Hash, Header, InputKind, NodeId, Outcome, Record, RecordKind,
     Shape, Stamp,
 };
+use record_grammar::is_in_grammar;
 use std::alloc::Global;
 
 // The stamp and the batch of a record that isn't the first.
@@ -349,7 +350,7 @@ pub fn read_record(alloc: Global, bytes: &[u8], header: &Header) -> Result<Recor
     let _limit = header.shape.batch();
     match body(alloc, bytes) {
         Ok((record, rest)) => {
-            if rest.is_empty() && may_stand(header, &record) {
+            if rest.is_empty() && is_in_grammar(header, &record) {
                 Ok(record)
             } else {
                 Err(RecordFault::NotARecord)
@@ -360,13 +361,22 @@ pub fn read_record(alloc: Global, bytes: &[u8], header: &Header) -> Result<Recor
     }
 }
 
+// Whether it may stand in a journal with this header.
+fn is_under(header: &Header, record: &Record) -> bool
+    ensures { IsTrue result ↔ (IsWithinLimits header.now.shape × IsInGrammar header.now record.now) }
+{
+    // The shape is within its limits, as each is.
+    let _limit = header.shape.batch();
+    is_in_grammar(header, record)
+}
+
 // Whether it is a Genesis or a Start that may stand under its own header.
 fn is_first(record: &Record) -> bool
-    ensures { IsTrue result ↔ MayBegin record.now }
+    ensures { IsTrue result ↔ IsFirstRecord record.now }
 {
     match record {
-        Record::Genesis { header, hashes: _ } => may_stand(header, record),
-        Record::Start { header } => may_stand(header, record),
+        Record::Genesis { header, hashes: _ } => is_under(header, record),
+        Record::Start { header } => is_under(header, record),
         _ => false,
     }
 }

@@ -1,10 +1,10 @@
 -- A lane's turn leaves what is open of the other lanes as it stands.
-use Rattle.std.proofs.Common.{◌≡◌, ◌≢◌, inl, inr, ℕ, ◌+◌, ◌<◌, Bool, true, false, ◌==◌, List, [], ◌∷◌, ◌++◌, length, get_or, drop, is_some, refl, sym, ap, ◌∙◌, subst, append_assoc, arith}
+use Rattle.std.proofs.Common.{◌≡◌, ◌≢◌, inl, inr, ℕ, ◌+◌, ◌<◌, Bool, true, false, List, [], ◌∷◌, ◌++◌, length, get_or, drop, is_some, refl, sym, ap, ◌∙◌, subst, append_assoc, arith}
 use Rattle.std.proofs.lemmas.List.Elements.{All-nil, All-cons, All-head, All-tail}
 use Rattle.cbdc_types.specs.declared.batch.OpenLane.{OpenLane}
 use Rattle.cbdc_types.specs.declared.batch.Phase.{Phase as OpenPhase}
 use Rattle.cbdc_types.specs.declared.batch.Phase.TheVariants.{Prepared, Committed, Discarded}
-use Rattle.cbdc_model.specs.Records.{Shape, Batch, Compact, Outcome, Record, record_of, entries_in, stamp_in, is_in_lane, Genesis, Lock, Finish, Forget, Start, Prepare, Commit, Discard, Done}
+use Rattle.cbdc_model.specs.Records.{Shape, Batch, Compact, Outcome, Record, record_of, entries_in, stamp_in, is_in_lane}
 use Rattle.cbdc_model.specs.Slots.{Phase, slot, slot_stamp}
 use Rattle.cbdc_model.specs.Replies.{entries}
 use Rattle.cbdc_model.specs.Outcomes.{decisions}
@@ -13,6 +13,7 @@ use Rattle.cbdc_model.specs.Lanes.{may_come, Made}
 use Rattle.cbdc_model.specs.Sights.{Sight}
 use Rattle.lane_laws.specs.Batches.{own, view}
 use Rattle.lane_laws.specs.Resuming.{IsOpenAt, IsPreparedAt, IsCommittedAt, IsDiscardedAt}
+use Rattle.ledger_laws.proofs.ByKind.{lanes_apart}
 use Rattle.lane_laws.proofs.Own.{own_out, slot_own, stamp_own}
 use Rattle.lane_laws.proofs.Views.{view_home, view_shard}
 use Rattle.lane_laws.proofs.Grants.{lock_on, finish_on, forget_on}
@@ -23,19 +24,8 @@ use Rattle.recovery.proofs.Rest.{split_rest, more_behind}
 
 -- ---- the records of another lane
 
-is_other : (l lane other : ℕ) → other ≢ lane → (l == lane) ≡ true → (l == other) ≡ false
-is_other l lane other apart h = grind (arith, h, apart)
-
 other_lane : (lane other : ℕ) (r : Record) → other ≢ lane → is_in_lane lane r ≡ true → is_in_lane other r ≡ false
-other_lane lane other (Genesis header hs) apart h = refl
-other_lane lane other (Start header) apart h = refl
-other_lane lane other (Lock stamp b es) apart h = is_other b.lane lane other apart h
-other_lane lane other (Finish stamp b ds) apart h = is_other b.lane lane other apart h
-other_lane lane other (Forget stamp b) apart h = is_other b.lane lane other apart h
-other_lane lane other (Prepare stamp b txs) apart h = is_other b.lane lane other apart h
-other_lane lane other (Commit stamp b os) apart h = is_other b.lane lane other apart h
-other_lane lane other (Discard stamp b) apart h = is_other b.lane lane other apart h
-other_lane lane other (Done stamp b) apart h = is_other b.lane lane other apart h
+other_lane lane other r apart h = lanes_apart lane other r h (grind (arith, apart))
 
 module _ (K : Shape) (pieces : List (List Compact)) (lane : ℕ) (X Y : ℕ → List Record) (made : Made K pieces true lane X Y) where
   not_alone : (r : Record) → may_come true lane r ≡ true → ⊥

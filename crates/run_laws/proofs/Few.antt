@@ -6,7 +6,7 @@ use Rattle.std.proofs.lemmas.Bool.{eqb-true}
 use Rattle.std.proofs.lemmas.Map.Steps.{length-le_from_distinct_below}
 use Rattle.std.proofs.Math.Nat.{mul-le-mul}
 use Rattle.cbdc_types.specs.Limits.{IsWithinLimits}
-use Rattle.cbdc_model.specs.Records.{Shape, Batch, Compact, Record, Row, journal, record_of, stamp_of, stamp_in, last_stamp, kind_of, is_of, Genesis, Lock, Finish, Forget, Start, Prepare, Commit, Discard, Done}
+use Rattle.cbdc_model.specs.Records.{Shape, Batch, Compact, Record, Row, journal, record_of, stamp_of, stamp_in, last_stamp, kind_of, is_of, Lock, Finish, Forget, Prepare, Commit, Discard, Done}
 use Rattle.cbdc_model.specs.Causes.{IsCaused}
 use Rattle.cbdc_model.specs.Clean.{IsProperCompact}
 use Rattle.cbdc_model.specs.Grammar.{IsInGrammar}
@@ -35,8 +35,6 @@ too_late stamp lt le = omega arith
 
 -- a late record is none of those with early stamps
 placed : (K : Shape) (minting : Minted) (n : ℕ) (J : List Record) (r : Record) → Next K n J r → IsInGrammar (header_of K minting.id n) r → 2 ^ 62 < stamp_of r → Placed K n r
-placed K minting n J (Genesis header hs) next g late = absurd next
-placed K minting n J (Start header) next g late = absurd next
 placed K minting n J (Lock stamp b es) next g late = absurd (too_late stamp late g.0.1)
 placed K minting n J (Prepare stamp b txs) next g late = absurd (too_late stamp late g.0.1)
 placed K minting n J (Finish stamp b ds) next g late =
@@ -49,6 +47,7 @@ placed K minting n J (Discard stamp b) next g late =
     record { batch = b; is_of = same_batch_self b; lane = refl; below = g.1.0; place = at_home next.2 (omega arith) (omega arith) }
 placed K minting n J (Done stamp b) next g late =
     record { batch = b; is_of = same_batch_self b; lane = refl; below = g.1.0; place = at_home next.2 (omega arith) (omega arith) }
+placed K minting n J other next g late = absurd next
 
 some_late : (o : ℕ → List Record) (kind n : ℕ) (b : Batch) → 2 ^ 62 < stamp_in (record_of kind (o n) b) → is_some (record_of kind (o n) b) ≡ true
 some_late o kind n b lt = elim (record_of kind (o n) b) as (λ f. 2 ^ 62 < stamp_in f → is_some f ≡ true) [ None ↦ λ h. absurd (omega arith) | Some r ↦ λ h. refl ] lt

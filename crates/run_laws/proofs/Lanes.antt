@@ -1,10 +1,10 @@
 -- What a record changes of the lanes' slots, and of what is kept for them.
-use Rattle.std.proofs.Common.{◌≡◌, ℕ, Bool, true, false, List, ◌∷◌, length, refl, ◌∙◌, ap, ap₂, arith}
-use Rattle.cbdc_model.specs.Records.{Batch, Compact, Answered, Outcome, Record, is_in_lane, entries_in, txs_in, lock_of, txs_of, Genesis, Lock, Finish, Forget, Start, Prepare, Commit, Discard, Done}
-use Rattle.cbdc_model.specs.Slots.{Phase, Slot, slot, Idle, InLock, InFinish, InPrepare, InCommit, InDiscard}
+use Rattle.std.proofs.Common.{◌≡◌, ℕ, true, false, if◌then◌else◌, List, ◌∷◌, Some, length, refl, ◌∙◌, ap, ap₂}
+use Rattle.cbdc_model.specs.Records.{Batch, Compact, Answered, Record, is_in_lane, entries_in, txs_in, lock_of, txs_of, Lock, Prepare}
+use Rattle.cbdc_model.specs.Slots.{Phase, Slot, slot, Idle}
 use Rattle.cbdc_model.specs.Due.{open_batch}
 use Rattle.ledger_laws.proofs.ByKind.{lanes_apart, found_apart}
-use Rattle.ledger_laws.proofs.Last.{slot_stays}
+use Rattle.ledger_laws.proofs.Last.{slot_by, slot_next, slot_stays}
 use Rattle.run_laws.proofs.Scales.{Scale, Fair}
 use Rattle.run_laws.proofs.Numbers.{same_number, other_number}
 
@@ -14,50 +14,15 @@ pub record IsSameLane (J N : List Record) (lane : ℕ) : Type 0 where
   pub locks : (n : ℕ) → lock_of N (record { lane = lane; number = n }) ≡ lock_of J (record { lane = lane; number = n })
   pub txs : (n : ℕ) → txs_of N (record { lane = lane; number = n }) ≡ txs_of J (record { lane = lane; number = n })
 
--- the lane of a record, and that of a first one none
-abbrev pub IsOfLane : ℕ → Record → Type 0
-IsOfLane lane (Genesis header hs) = ⊥
-IsOfLane lane (Lock stamp b es) = b.lane ≡ lane
-IsOfLane lane (Finish stamp b ds) = b.lane ≡ lane
-IsOfLane lane (Forget stamp b) = b.lane ≡ lane
-IsOfLane lane (Start header) = ⊥
-IsOfLane lane (Prepare stamp b txs) = b.lane ≡ lane
-IsOfLane lane (Commit stamp b os) = b.lane ≡ lane
-IsOfLane lane (Discard stamp b) = b.lane ≡ lane
-IsOfLane lane (Done stamp b) = b.lane ≡ lane
-
-of_lane : (lane : ℕ) (r : Record) → IsOfLane lane r → is_in_lane lane r ≡ true
-of_lane lane (Genesis header hs) of = absurd of
-of_lane lane (Start header) of = absurd of
-of_lane lane other of = grind (arith, of)
-
 -- the others stay
-pub others_stay : (J : List Record) (r : Record) (lane other : ℕ) → IsOfLane lane r → (lane ≡ other → ⊥) → IsSameLane J (r ∷ J) other
+pub others_stay : (J : List Record) (r : Record) (lane other : ℕ) → is_in_lane lane r ≡ true → (lane ≡ other → ⊥) → IsSameLane J (r ∷ J) other
 others_stay J r lane other of apart =
-    let h : is_in_lane other r ≡ false = lanes_apart lane other r (of_lane lane r of) (other_number lane other apart) in
+    let h : is_in_lane other r ≡ false = lanes_apart lane other r of (other_number lane other apart) in
     record { slots = slot_stays r J other h; locks = λ n. ap entries_in (found_apart 2 r J _ h); txs = λ n. ap txs_in (found_apart 6 r J _ h) }
 
--- the slot that each record leaves
-pub locked_slot : (J : List Record) (stamp : ℕ) (b : Batch) (es : List Answered) → slot (Lock stamp b es ∷ J) b.lane ≡ record { number = b.number; phase = InLock }
-locked_slot J stamp b es = let e = same_number b.lane in rw e refl
-
-pub finished_slot : (J : List Record) (stamp : ℕ) (b : Batch) (ds : List Bool) → slot (Finish stamp b ds ∷ J) b.lane ≡ record { number = b.number; phase = InFinish }
-finished_slot J stamp b ds = let e = same_number b.lane in rw e refl
-
-pub forgotten_slot : (J : List Record) (stamp : ℕ) (b : Batch) → slot (Forget stamp b ∷ J) b.lane ≡ record { number = b.number; phase = Idle }
-forgotten_slot J stamp b = let e = same_number b.lane in rw e refl
-
-pub prepared_slot : (J : List Record) (stamp : ℕ) (b : Batch) (txs : List Compact) → slot (Prepare stamp b txs ∷ J) b.lane ≡ record { number = b.number; phase = InPrepare }
-prepared_slot J stamp b txs = let e = same_number b.lane in rw e refl
-
-pub committed_slot : (J : List Record) (stamp : ℕ) (b : Batch) (os : List Outcome) → slot (Commit stamp b os ∷ J) b.lane ≡ record { number = b.number; phase = InCommit }
-committed_slot J stamp b os = let e = same_number b.lane in rw e refl
-
-pub discarded_slot : (J : List Record) (stamp : ℕ) (b : Batch) → slot (Discard stamp b ∷ J) b.lane ≡ record { number = b.number; phase = InDiscard }
-discarded_slot J stamp b = let e = same_number b.lane in rw e refl
-
-pub done_slot : (J : List Record) (stamp : ℕ) (b : Batch) → slot (Done stamp b ∷ J) b.lane ≡ record { number = b.number; phase = Idle }
-done_slot J stamp b = let e = same_number b.lane in rw e refl
+-- the slot that a record leaves to its lane
+pub new_slot : (J : List Record) (r : Record) (lane : ℕ) → is_in_lane lane r ≡ true → slot (r ∷ J) lane ≡ slot_by (Some r)
+new_slot J r lane of = slot_next r J lane ∙ ap (λ c. if c then slot_by (Some r) else slot J lane) of
 
 -- its own Lock and Prepare are found first
 pub lock_found : (J : List Record) (stamp : ℕ) (b : Batch) (es : List Answered) → lock_of (Lock stamp b es ∷ J) b ≡ es

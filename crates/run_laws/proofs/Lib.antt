@@ -42,7 +42,7 @@ pub mod FreeRuns
 mod Row
 pub mod Sums
 pub mod Scales
-mod Numbers
+pub mod Numbers
 pub mod Weights
 mod Lanes
 mod Budgets

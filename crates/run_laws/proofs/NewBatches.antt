@@ -127,8 +127,6 @@ module _ (K : Shape) (minting : Minted) (P Q : Compact → Type 0) (some : 0 < K
     new_of n newer rest r e h = by_kind r e (new_next n newer rest r e h) (oks_at n newer rest r e h)
       where
         by_kind : (r : Record) → J n ≡ newer ++ r ∷ rest → Next K n rest r → Oks rest → (b : Batch) × (is_of b r ≡ true) × IsNewOf b
-        by_kind (Genesis header hs) e next oks = absurd next
-        by_kind (Start header) e next oks = absurd next
         by_kind (Prepare stamp c txs) e next oks =
             (c, same_batch_self c, at_log c n newer rest (Prepare stamp c txs) next.2 (prepared_here stamp c txs rest) (λ d. omega (arith, oks.more.done_below c d, next.4)) e h)
         by_kind (Commit stamp c os) e next oks =
@@ -143,6 +141,7 @@ module _ (K : Shape) (minting : Minted) (P Q : Compact → Type 0) (some : 0 < K
             (c, same_batch_self c, at_node c n newer rest (Finish stamp c ds) next.1 (oks.ok.locked c next.2 next.3).0 (λ f. true_false _ f (oks.more.in_lock c next.2 next.3)) e h)
         by_kind (Forget stamp c) e next oks =
             (c, same_batch_self c, at_node c n newer rest (Forget stamp c) next.1 (oks.more.in_finish c next.2 next.3).0 (λ f. true_false _ f (oks.more.in_finish c next.2 next.3).1) e h)
+        by_kind other e next oks = absurd next
 
     rows_add : Adds IsNewOf I J
     rows_add = record { grows = grows; each = new_of }

@@ -176,8 +176,6 @@ module _ (K : Shape) (minting : Minted) (P : Compact → Type 0) (some : 0 < K.s
     of_open n newer rest r e h = by_kind r e (its_own K lane [] I J made n newer rest r e h).0 (its_own K lane [] I J made n newer rest r e h).2 (new_next n newer rest r e h)
       where
         by_kind : (r : Record) → J n ≡ newer ++ r ∷ rest → is_in_lane lane r ≡ true → Holds [] r → Next K n rest r → is_of B r ≡ true
-        by_kind (Genesis header hs) e l k next = absurd next
-        by_kind (Start header) e l k next = absurd next
         by_kind (Prepare stamp c txs) e l k next = absurd (held_none txs k)
         by_kind (Commit stamp c os) e l k next = at_log c n newer rest (Commit stamp c os) l next.2 next.4 e h
         by_kind (Discard stamp c) e l k next = at_log c n newer rest (Discard stamp c) l next.2 next.4 e h
@@ -191,6 +189,7 @@ module _ (K : Shape) (minting : Minted) (P : Compact → Type 0) (some : 0 < K.s
         by_kind (Forget stamp c) e l k next =
             let oks = oks_at n newer rest (Forget stamp c) e h in
             at_node c n newer rest (Forget stamp c) l next.1 (oks.1.in_finish c next.2 next.3).0 (λ f. true_false _ f (oks.1.in_finish c next.2 next.3).1) e h
+        by_kind other e l k next = absurd next
 
     pub adds_open : Adds (λ c. c ≡ B) I J
     adds_open = record { grows = made.grows; each = λ n newer rest r e h. (B, of_open n newer rest r e h, refl) }

@@ -42,7 +42,7 @@ pub prepared_more : (lane : ℕ) (newer older : List Record) → prepared lane (
 prepared_more lane [] older = refl
 prepared_more lane (r ∷ newer) older = ap (prepared_before lane r) (prepared_more lane newer older) ∙ prepared_on lane r (prepared lane newer) (prepared lane older)
 
-first_prepared : (lane : ℕ) (J : List Record) → AllFirst J → prepared lane J ≡ []
+pub first_prepared : (lane : ℕ) (J : List Record) → AllFirst J → prepared lane J ≡ []
 first_prepared lane [] f = refl
 first_prepared lane (Genesis header hs ∷ J) f = first_prepared lane J f.1
 first_prepared lane (Start header ∷ J) f = first_prepared lane J f.1
@@ -126,6 +126,18 @@ module _ (K : Shape) (m : Minted) (P : Compact → Type 0) (some : 0 < K.shards)
       let whole : Once (J n) = (fine n (J n) (lists.begins n) (end_self (J n))).once in
       found_stays ends.0 V (subst (λ L. Once L) ends.1 whole) kind b h ∙ ap (λ L. record_of kind L b) (sym ends.1)
 
+  -- the slot that a record of this batch leaves, in a phase
+  abbrev left : ℕ → List Record → Batch → Phase → Slot
+  left lane rest b p = if b.lane == lane then (record { number = b.number; phase = p }) else slot rest lane
+
+  number_kept : (lane : ℕ) (rest : List Record) (b : Batch) (p : Phase) → (slot rest b.lane).number ≡ b.number → (slot rest lane).number ≡ length (prepared lane rest)
+      → (left lane rest b p).number ≡ length (prepared lane rest)
+  number_kept lane rest b p same h = elim (b.lane == lane)
+      as (λ c. (b.lane == lane) ≡ c → (if c then (record { number = b.number; phase = p }) else slot rest lane).number ≡ length (prepared lane rest)) [
+        | true ↦ λ e. sym same ∙ ap (λ l. (slot rest l).number) (lane_is b.lane lane e) ∙ h
+        | false ↦ λ e. h
+      ] refl
+
   -- at a coordinator
   number_step : (n lane : ℕ) → n < K.coordinators → (rest : List Record) (r : Record) → Next K n rest r → (slot rest lane).number ≡ length (prepared lane rest)
       → (slot (r ∷ rest) lane).number ≡ length (prepared lane (r ∷ rest))
@@ -136,21 +148,9 @@ module _ (K : Shape) (m : Minted) (P : Compact → Type 0) (some : 0 < K.shards)
         | true ↦ λ e. (let there : (slot rest b.lane).number ≡ (slot rest lane).number = ap (λ l. (slot rest l).number) (lane_is b.lane lane e) in omega (arith, next.4, there, h))
         | false ↦ λ e. h
       ] refl
-  number_step n lane low rest (Commit stamp b os) next h = elim (b.lane == lane)
-      as (λ c. (b.lane == lane) ≡ c → (if c then (record { number = b.number; phase = InCommit }) else slot rest lane).number ≡ length (prepared lane rest)) [
-        | true ↦ λ e. sym next.4 ∙ ap (λ l. (slot rest l).number) (lane_is b.lane lane e) ∙ h
-        | false ↦ λ e. h
-      ] refl
-  number_step n lane low rest (Discard stamp b) next h = elim (b.lane == lane)
-      as (λ c. (b.lane == lane) ≡ c → (if c then (record { number = b.number; phase = InDiscard }) else slot rest lane).number ≡ length (prepared lane rest)) [
-        | true ↦ λ e. sym next.4 ∙ ap (λ l. (slot rest l).number) (lane_is b.lane lane e) ∙ h
-        | false ↦ λ e. h
-      ] refl
-  number_step n lane low rest (Done stamp b) next h = elim (b.lane == lane)
-      as (λ c. (b.lane == lane) ≡ c → (if c then (record { number = b.number; phase = Idle }) else slot rest lane).number ≡ length (prepared lane rest)) [
-        | true ↦ λ e. sym next.4 ∙ ap (λ l. (slot rest l).number) (lane_is b.lane lane e) ∙ h
-        | false ↦ λ e. h
-      ] refl
+  number_step n lane low rest (Commit stamp b os) next h = number_kept lane rest b InCommit next.4 h
+  number_step n lane low rest (Discard stamp b) next h = number_kept lane rest b InDiscard next.4 h
+  number_step n lane low rest (Done stamp b) next h = number_kept lane rest b Idle next.4 h
   number_step n lane low rest other next h = absurd (omega (arith, low, next.1.0))
 
   -- a lane's number is how often it has prepared
@@ -160,29 +160,20 @@ module _ (K : Shape) (m : Minted) (P : Compact → Type 0) (some : 0 < K.shards)
       (ap (λ s. s.number) (first_slot lane (first_of K m n) (all_are_first n)) ∙ sym (ap length (first_prepared lane (first_of K m n) (all_are_first n))))
       (λ rest r next h. number_step n lane low rest r next h) V begins ends
 
+  coord_kept : (n lane : ℕ) (rest : List Record) (b : Batch) (p : Phase) → IsCoordSlot K n b.lane p → IsCoordSlot K n lane (slot rest lane).phase → IsCoordSlot K n lane (left lane rest b p).phase
+  coord_kept n lane rest b p own h = elim (b.lane == lane)
+      as (λ c. (b.lane == lane) ≡ c → IsCoordSlot K n lane (if c then (record { number = b.number; phase = p }) else slot rest lane).phase) [
+        | true ↦ λ e. subst (λ l. IsCoordSlot K n l p) (lane_is b.lane lane e) own
+        | false ↦ λ e. h
+      ] refl
+
   coord_step : (n lane : ℕ) → n < K.coordinators → (rest : List Record) (r : Record) → Next K n rest r → IsCoordSlot K n lane (slot rest lane).phase → IsCoordSlot K n lane (slot (r ∷ rest) lane).phase
   coord_step n lane low rest (Genesis header hs) next h = absurd next
   coord_step n lane low rest (Start header) next h = absurd next
-  coord_step n lane low rest (Prepare stamp b txs) next h = elim (b.lane == lane)
-      as (λ c. (b.lane == lane) ≡ c → IsCoordSlot K n lane (if c then (record { number = b.number; phase = InPrepare }) else slot rest lane).phase) [
-        | true ↦ λ e. next.2 ∙ ap (λ l. l / K.lanes) (lane_is b.lane lane e)
-        | false ↦ λ e. h
-      ] refl
-  coord_step n lane low rest (Commit stamp b os) next h = elim (b.lane == lane)
-      as (λ c. (b.lane == lane) ≡ c → IsCoordSlot K n lane (if c then (record { number = b.number; phase = InCommit }) else slot rest lane).phase) [
-        | true ↦ λ e. next.2 ∙ ap (λ l. l / K.lanes) (lane_is b.lane lane e)
-        | false ↦ λ e. h
-      ] refl
-  coord_step n lane low rest (Discard stamp b) next h = elim (b.lane == lane)
-      as (λ c. (b.lane == lane) ≡ c → IsCoordSlot K n lane (if c then (record { number = b.number; phase = InDiscard }) else slot rest lane).phase) [
-        | true ↦ λ e. next.2 ∙ ap (λ l. l / K.lanes) (lane_is b.lane lane e)
-        | false ↦ λ e. h
-      ] refl
-  coord_step n lane low rest (Done stamp b) next h = elim (b.lane == lane)
-      as (λ c. (b.lane == lane) ≡ c → IsCoordSlot K n lane (if c then (record { number = b.number; phase = Idle }) else slot rest lane).phase) [
-        | true ↦ λ e. tt
-        | false ↦ λ e. h
-      ] refl
+  coord_step n lane low rest (Prepare stamp b txs) next h = coord_kept n lane rest b InPrepare next.2 h
+  coord_step n lane low rest (Commit stamp b os) next h = coord_kept n lane rest b InCommit next.2 h
+  coord_step n lane low rest (Discard stamp b) next h = coord_kept n lane rest b InDiscard next.2 h
+  coord_step n lane low rest (Done stamp b) next h = coord_kept n lane rest b Idle tt h
   coord_step n lane low rest other next h = absurd (omega (arith, low, next.1.0))
 
   pub coord_slot : (n lane : ℕ) → n < K.coordinators → (V : List Record) → IsEnd (first_of K m n) V → IsEnd V (J n) → IsCoordSlot K n lane (slot V lane).phase
@@ -191,21 +182,18 @@ module _ (K : Shape) (m : Minted) (P : Compact → Type 0) (some : 0 < K.shards)
       (subst (λ s. IsCoordSlot K n lane s.phase) (sym (first_slot lane (first_of K m n) (all_are_first n))) tt)
       (λ rest r next h. coord_step n lane low rest r next h) V begins ends
 
+  shard_kept : (lane : ℕ) (rest : List Record) (b : Batch) (p : Phase) → IsShardSlot p → IsShardSlot (slot rest lane).phase → IsShardSlot (left lane rest b p).phase
+  shard_kept lane rest b p own h = elim (b.lane == lane) as (λ c. IsShardSlot (if c then (record { number = b.number; phase = p }) else slot rest lane).phase) [
+    | true ↦ own
+    | false ↦ h
+  ]
+
   shard_step : (n lane : ℕ) → K.coordinators ≤ n → (rest : List Record) (r : Record) → Next K n rest r → IsShardSlot (slot rest lane).phase → IsShardSlot (slot (r ∷ rest) lane).phase
   shard_step n lane high rest (Genesis header hs) next h = absurd next
   shard_step n lane high rest (Start header) next h = absurd next
-  shard_step n lane high rest (Lock stamp b es) next h = elim (b.lane == lane) as (λ c. IsShardSlot (if c then (record { number = b.number; phase = InLock }) else slot rest lane).phase) [
-    | true ↦ tt
-    | false ↦ h
-  ]
-  shard_step n lane high rest (Finish stamp b ds) next h = elim (b.lane == lane) as (λ c. IsShardSlot (if c then (record { number = b.number; phase = InFinish }) else slot rest lane).phase) [
-    | true ↦ tt
-    | false ↦ h
-  ]
-  shard_step n lane high rest (Forget stamp b) next h = elim (b.lane == lane) as (λ c. IsShardSlot (if c then (record { number = b.number; phase = Idle }) else slot rest lane).phase) [
-    | true ↦ tt
-    | false ↦ h
-  ]
+  shard_step n lane high rest (Lock stamp b es) next h = shard_kept lane rest b InLock tt h
+  shard_step n lane high rest (Finish stamp b ds) next h = shard_kept lane rest b InFinish tt h
+  shard_step n lane high rest (Forget stamp b) next h = shard_kept lane rest b Idle tt h
   shard_step n lane high rest other next h = absurd (omega (arith, high, next.1))
 
   pub shard_slot : (n lane : ℕ) → K.coordinators ≤ n → (V : List Record) → IsEnd (first_of K m n) V → IsEnd V (J n) → IsShardSlot (slot V lane).phase
@@ -213,19 +201,17 @@ module _ (K : Shape) (m : Minted) (P : Compact → Type 0) (some : 0 < K.shards)
       grown n (λ V. IsShardSlot (slot V lane).phase) (subst (λ s. IsShardSlot s.phase) (sym (first_slot lane (first_of K m n) (all_are_first n))) tt)
       (λ rest r next h. shard_step n lane high rest r next h) V begins ends
 
-  up : (lane : ℕ) (rest : List Record) (b : Batch) (p : Phase) → (slot rest b.lane).number ≤ b.number → (slot rest lane).number ≤ (if b.lane == lane then (record { number = b.number; phase = p }) else slot rest lane).number
+  up : (lane : ℕ) (rest : List Record) (b : Batch) (p : Phase) → (slot rest b.lane).number ≤ b.number → (slot rest lane).number ≤ (left lane rest b p).number
   up lane rest b p le = elim (b.lane == lane) as (λ c. (b.lane == lane) ≡ c → (slot rest lane).number ≤ (if c then (record { number = b.number; phase = p }) else slot rest lane).number) [
     | true ↦ λ e. (let there : (slot rest b.lane).number ≡ (slot rest lane).number = ap (λ l. (slot rest l).number) (lane_is b.lane lane e) in omega (arith, le, there))
     | false ↦ λ e. omega arith
   ] refl
 
-  level : (lane : ℕ) (rest : List Record) (b : Batch) (p : Phase) → (slot rest b.lane).number ≡ b.number → (slot rest lane).number ≤ (if b.lane == lane then (record { number = b.number; phase = p }) else slot rest lane).number
+  level : (lane : ℕ) (rest : List Record) (b : Batch) (p : Phase) → (slot rest b.lane).number ≡ b.number → (slot rest lane).number ≤ (left lane rest b p).number
   level lane rest b p same = up lane rest b p (omega (arith, same))
 
   -- a lane's number never falls
   rises : (n lane : ℕ) (rest : List Record) (r : Record) → Next K n rest r → (slot rest lane).number ≤ (slot (r ∷ rest) lane).number
-  rises n lane rest (Genesis header hs) next = absurd next
-  rises n lane rest (Start header) next = absurd next
   rises n lane rest (Lock stamp b es) next = up lane rest b InLock (omega (arith, next.3))
   rises n lane rest (Finish stamp b ds) next = level lane rest b InFinish next.3
   rises n lane rest (Forget stamp b) next = level lane rest b Idle next.3
@@ -233,6 +219,7 @@ module _ (K : Shape) (m : Minted) (P : Compact → Type 0) (some : 0 < K.shards)
   rises n lane rest (Commit stamp b os) next = level lane rest b InCommit next.4
   rises n lane rest (Discard stamp b) next = level lane rest b InDiscard next.4
   rises n lane rest (Done stamp b) next = level lane rest b Idle next.4
+  rises n lane rest other next = absurd next
 
   pub number_grows : (n lane : ℕ) (V W : List Record) → IsEnd (first_of K m n) V → IsEnd V W → IsEnd W (J n) → (slot V lane).number ≤ (slot W lane).number
   number_grows n lane V W begins more ends =

@@ -2,7 +2,7 @@
 -- there and the batches of the plan up to each lane's number.
 use Rattle.std.proofs.Common.{◌≡◌, inl, inr, ℕ, ◌+◌, ◌-◌, ◌*◌, ◌<◌, ◌≤◌, Bool, true, false, ◌&&◌, ◌==◌, List, [], ◌∷◌, ◌++◌, length, reverse, Some, is_some, refl, sym, ap, ◌∙◌, subst, arith, append_assoc}
 use Rattle.std.specs.List.{filter}
-use Rattle.cbdc_model.specs.Records.{Shape, Batch, Compact, Entry, Answered, Outcome, Record, Row, journal, record_of, is_of, txs_in, lock_of, txs_of, Genesis, Lock, Finish, Forget, Start, Prepare, Commit, Discard, Done}
+use Rattle.cbdc_model.specs.Records.{Shape, Batch, Compact, Entry, Answered, Outcome, Record, Row, journal, record_of, is_in_lane, is_of, txs_in, lock_of, txs_of, Lock, Finish, Forget, Prepare, Commit, Discard, Done}
 use Rattle.cbdc_model.specs.Slots.{slot, InLock, InFinish, InPrepare, InCommit, InDiscard}
 use Rattle.cbdc_model.specs.Replies.{entries}
 use Rattle.cbdc_model.specs.Ranges.{home_of, shard_node, part, is_no_part, Concerned}
@@ -22,8 +22,8 @@ use Rattle.run_laws.proofs.NewRecords.{in_journal, still_found}
 use Rattle.run_laws.specs.Ample.{Coming, records_of, coming_at_shard, unwritten}
 use Rattle.run_laws.proofs.Sums.{total, sum_below, sum_moves}
 use Rattle.run_laws.proofs.Scales.{Scale, Fair, lock_at, finish_at, forget_at}
-use Rattle.run_laws.proofs.Numbers.{Fine, Piece, lists, further, fine, found_in, piece_there}
-use Rattle.run_laws.proofs.Lanes.{IsOfLane, others_stay, locked_slot, finished_slot, forgotten_slot, prepared_slot, committed_slot, discarded_slot, done_slot, lock_found, txs_found, kept_for, kept_same, kept_in, slot_parts, kept_idle}
+use Rattle.run_laws.proofs.Numbers.{Fine, Piece, same_number, lists, further, fine, found_in, piece_there}
+use Rattle.run_laws.proofs.Lanes.{others_stay, new_slot, lock_found, txs_found, kept_for, kept_same, kept_in, slot_parts, kept_idle}
 use Rattle.run_laws.proofs.Weights.{weight, all_at_home, home_in_records, kept_shard, from_lock, shard_in_records}
 use Rattle.run_laws.proofs.Budgets.{not_yet, not_there, unwritten_is, budget, budget_open, budget_new}
 use Rattle.run_laws.proofs.Growth.{home_in, fits_long, IsOpenBatch, open_where, kept_covered}
@@ -62,7 +62,7 @@ module _ (K : Shape) (m : Minted) (P : Compact → Type 0) (some : 0 < K.shards)
         ≤ total s.taken (E n) + sum_below (λ lane. B n lane (slot V lane).number) (K.coordinators * K.lanes)
 
     -- a record that weighs no more, with what is kept behind it, than what was kept and the batches that come with it
-    within_step : (n : ℕ) (rest : List Record) (r : Record) (lane : ℕ) → lane < K.coordinators * K.lanes → IsOfLane lane r
+    within_step : (n : ℕ) (rest : List Record) (r : Record) (lane : ℕ) → lane < K.coordinators * K.lanes → is_in_lane lane r ≡ true
         → s.taken r + kept_for s (r ∷ rest) lane + B n lane (slot rest lane).number ≤ kept_for s rest lane + B n lane (slot (r ∷ rest) lane).number → IsWithin n rest → IsWithin n (r ∷ rest)
     within_step n rest r lane lt of own h =
         let keeps : sum_below (λ l. kept_for s (r ∷ rest) l) (K.coordinators * K.lanes) + kept_for s rest lane ≡ sum_below (λ l. kept_for s rest l) (K.coordinators * K.lanes) + kept_for s (r ∷ rest) lane
@@ -149,56 +149,56 @@ module _ (K : Shape) (m : Minted) (P : Compact → Type 0) (some : 0 < K.shards)
         = piece_there K m P some after new b.lane (home_in K b.lane lanes lane) (E (home_of K b.lane)) newer rest t b txs p.done (begins (home_of K b.lane))
         (subst (λ k. IsEnd (E k) rest) home h) (subst (λ k. X k ≡ newer ++ Prepare t b txs ∷ rest) home e) refl p.prepares in
         let parts : batches b.lane ≡ piece.front ++ txs ∷ (piece.back ++ p.left) = p.parts ∙ ap (λ q. q ++ p.left) piece.parts ∙ append_assoc piece.front (txs ∷ piece.back) p.left in
-        let number : (slot (Prepare t b txs ∷ rest) b.lane).number ≡ b.number = ap (λ x. x.number) (prepared_slot rest t b txs) in
+        let number : (slot (Prepare t b txs ∷ rest) b.lane).number ≡ b.number = ap (λ x. x.number) (new_slot rest (Prepare t b txs) b.lane (same_number b.lane)) in
         let adds : B n b.lane (slot rest b.lane).number + weight s n (records_of K b.lane txs) ≤ B n b.lane (slot (Prepare t b txs ∷ rest) b.lane).number
         = budget_new K E batches s n b.lane piece.front (piece.back ++ p.left) txs (slot rest b.lane).number (slot (Prepare t b txs ∷ rest) b.lane).number parts (omega (arith, piece.counts)) (omega (arith, piece.counts, next.4, number)) in
         let none : kept_for s rest b.lane ≡ 0 = kept_idle s fair rest b.lane next.3 in
         let long : length (txs_of (Prepare t b txs ∷ rest) b) ≡ length txs = ap length (txs_found rest t b txs) in
         let keeps : kept_for s (Prepare t b txs ∷ rest) b.lane ≡ s.kept InPrepare (length (lock_of (Prepare t b txs ∷ rest) b)) (length txs)
-        = kept_in s (Prepare t b txs ∷ rest) b InPrepare (prepared_slot rest t b txs) ∙ ap (λ k. s.kept InPrepare (length (lock_of (Prepare t b txs ∷ rest) b)) k) long in
+        = kept_in s (Prepare t b txs ∷ rest) b InPrepare (new_slot rest (Prepare t b txs) b.lane (same_number b.lane)) ∙ ap (λ k. s.kept InPrepare (length (lock_of (Prepare t b txs ∷ rest) b)) k) long in
         let weighs = fair.prepare (home_of K b.lane) t (length (lock_of (Prepare t b txs ∷ rest) b)) b txs in
         omega (arith, adds, none, keeps, weighs, all_at_home s n K b.lane txs home, home_in_records s n K b.lane txs)
 
     own_commit : (n : ℕ) (rest : List Record) (t : ℕ) (b : Batch) (os : List Outcome) → Next K n rest (Commit t b os)
         → s.taken (Commit t b os) + kept_for s (Commit t b os ∷ rest) b.lane + B n b.lane (slot rest b.lane).number ≤ kept_for s rest b.lane + B n b.lane (slot (Commit t b os ∷ rest) b.lane).number
     own_commit n rest t b os next =
-        let same : B n b.lane (slot (Commit t b os ∷ rest) b.lane).number ≡ B n b.lane (slot rest b.lane).number = ap (λ k. B n b.lane k) (ap (λ x. x.number) (committed_slot rest t b os) ∙ sym next.4) in
+        let same : B n b.lane (slot (Commit t b os ∷ rest) b.lane).number ≡ B n b.lane (slot rest b.lane).number = ap (λ k. B n b.lane k) (ap (λ x. x.number) (new_slot rest (Commit t b os) b.lane (same_number b.lane)) ∙ sym next.4) in
         let was : kept_for s rest b.lane ≡ s.kept InPrepare (length (lock_of rest b)) (length os)
         = kept_in s rest b InPrepare (slot_parts s rest b InPrepare next.3 next.4) ∙ ap (λ k. s.kept InPrepare (length (lock_of rest b)) k) (sym next.5) in
-        let keeps : kept_for s (Commit t b os ∷ rest) b.lane ≡ s.kept InCommit (length (lock_of (Commit t b os ∷ rest) b)) (length (txs_of (Commit t b os ∷ rest) b)) = kept_in s (Commit t b os ∷ rest) b InCommit (committed_slot rest t b os) in
+        let keeps : kept_for s (Commit t b os ∷ rest) b.lane ≡ s.kept InCommit (length (lock_of (Commit t b os ∷ rest) b)) (length (txs_of (Commit t b os ∷ rest) b)) = kept_in s (Commit t b os ∷ rest) b InCommit (new_slot rest (Commit t b os) b.lane (same_number b.lane)) in
         omega (arith, same, was, keeps, fair.commit t (length (lock_of rest b)) (length (lock_of (Commit t b os ∷ rest) b)) (length (txs_of (Commit t b os ∷ rest) b)) b os)
 
     own_discard : (n : ℕ) (rest : List Record) (t : ℕ) (b : Batch) → Next K n rest (Discard t b)
         → s.taken (Discard t b) + kept_for s (Discard t b ∷ rest) b.lane + B n b.lane (slot rest b.lane).number ≤ kept_for s rest b.lane + B n b.lane (slot (Discard t b ∷ rest) b.lane).number
     own_discard n rest t b next =
-        let same : B n b.lane (slot (Discard t b ∷ rest) b.lane).number ≡ B n b.lane (slot rest b.lane).number = ap (λ k. B n b.lane k) (ap (λ x. x.number) (discarded_slot rest t b) ∙ sym next.4) in
+        let same : B n b.lane (slot (Discard t b ∷ rest) b.lane).number ≡ B n b.lane (slot rest b.lane).number = ap (λ k. B n b.lane k) (ap (λ x. x.number) (new_slot rest (Discard t b) b.lane (same_number b.lane)) ∙ sym next.4) in
         let was : kept_for s rest b.lane ≡ s.kept InCommit (length (lock_of rest b)) (length (txs_of rest b)) = kept_in s rest b InCommit (slot_parts s rest b InCommit next.3 next.4) in
-        let keeps : kept_for s (Discard t b ∷ rest) b.lane ≡ s.kept InDiscard (length (lock_of (Discard t b ∷ rest) b)) (length (txs_of (Discard t b ∷ rest) b)) = kept_in s (Discard t b ∷ rest) b InDiscard (discarded_slot rest t b) in
+        let keeps : kept_for s (Discard t b ∷ rest) b.lane ≡ s.kept InDiscard (length (lock_of (Discard t b ∷ rest) b)) (length (txs_of (Discard t b ∷ rest) b)) = kept_in s (Discard t b ∷ rest) b InDiscard (new_slot rest (Discard t b) b.lane (same_number b.lane)) in
         omega (arith, same, was, keeps, fair.discard t (length (lock_of rest b)) (length (txs_of rest b)) (length (lock_of (Discard t b ∷ rest) b)) (length (txs_of (Discard t b ∷ rest) b)) b)
 
     own_done : (n : ℕ) (rest : List Record) (t : ℕ) (b : Batch) → Next K n rest (Done t b)
         → s.taken (Done t b) + kept_for s (Done t b ∷ rest) b.lane + B n b.lane (slot rest b.lane).number ≤ kept_for s rest b.lane + B n b.lane (slot (Done t b ∷ rest) b.lane).number
     own_done n rest t b next =
-        let same : B n b.lane (slot (Done t b ∷ rest) b.lane).number ≡ B n b.lane (slot rest b.lane).number = ap (λ k. B n b.lane k) (ap (λ x. x.number) (done_slot rest t b) ∙ sym next.4) in
+        let same : B n b.lane (slot (Done t b ∷ rest) b.lane).number ≡ B n b.lane (slot rest b.lane).number = ap (λ k. B n b.lane k) (ap (λ x. x.number) (new_slot rest (Done t b) b.lane (same_number b.lane)) ∙ sym next.4) in
         let was : kept_for s rest b.lane ≡ s.kept InDiscard (length (lock_of rest b)) (length (txs_of rest b)) = kept_in s rest b InDiscard (slot_parts s rest b InDiscard next.3 next.4) in
-        let keeps : kept_for s (Done t b ∷ rest) b.lane ≡ 0 = kept_idle s fair (Done t b ∷ rest) b.lane (ap (λ x. x.phase) (done_slot rest t b)) in
+        let keeps : kept_for s (Done t b ∷ rest) b.lane ≡ 0 = kept_idle s fair (Done t b ∷ rest) b.lane (ap (λ x. x.phase) (new_slot rest (Done t b) b.lane (same_number b.lane))) in
         omega (arith, same, was, keeps, fair.done t (length (lock_of rest b)) (length (txs_of rest b)) b)
 
     own_finish : (n : ℕ) (rest : List Record) (t : ℕ) (b : Batch) (ds : List Bool) → Next K n rest (Finish t b ds)
         → s.taken (Finish t b ds) + kept_for s (Finish t b ds ∷ rest) b.lane + B n b.lane (slot rest b.lane).number ≤ kept_for s rest b.lane + B n b.lane (slot (Finish t b ds ∷ rest) b.lane).number
     own_finish n rest t b ds next =
-        let same : B n b.lane (slot (Finish t b ds ∷ rest) b.lane).number ≡ B n b.lane (slot rest b.lane).number = ap (λ k. B n b.lane k) (ap (λ x. x.number) (finished_slot rest t b ds) ∙ sym next.3) in
+        let same : B n b.lane (slot (Finish t b ds ∷ rest) b.lane).number ≡ B n b.lane (slot rest b.lane).number = ap (λ k. B n b.lane k) (ap (λ x. x.number) (new_slot rest (Finish t b ds) b.lane (same_number b.lane)) ∙ sym next.3) in
         let was : kept_for s rest b.lane ≡ s.kept InLock (length ds) (length (txs_of rest b))
         = kept_in s rest b InLock (slot_parts s rest b InLock next.2 next.3) ∙ ap (λ k. s.kept InLock k (length (txs_of rest b))) (sym (fits_long (lock_of rest b) ds next.4)) in
-        let keeps : kept_for s (Finish t b ds ∷ rest) b.lane ≡ s.kept InFinish (length (lock_of (Finish t b ds ∷ rest) b)) (length (txs_of (Finish t b ds ∷ rest) b)) = kept_in s (Finish t b ds ∷ rest) b InFinish (finished_slot rest t b ds) in
+        let keeps : kept_for s (Finish t b ds ∷ rest) b.lane ≡ s.kept InFinish (length (lock_of (Finish t b ds ∷ rest) b)) (length (txs_of (Finish t b ds ∷ rest) b)) = kept_in s (Finish t b ds ∷ rest) b InFinish (new_slot rest (Finish t b ds) b.lane (same_number b.lane)) in
         omega (arith, same, was, keeps, fair.finish t (length (txs_of rest b)) (length (lock_of (Finish t b ds ∷ rest) b)) (length (txs_of (Finish t b ds ∷ rest) b)) b ds)
 
     own_forget : (n : ℕ) (rest : List Record) (t : ℕ) (b : Batch) → Next K n rest (Forget t b)
         → s.taken (Forget t b) + kept_for s (Forget t b ∷ rest) b.lane + B n b.lane (slot rest b.lane).number ≤ kept_for s rest b.lane + B n b.lane (slot (Forget t b ∷ rest) b.lane).number
     own_forget n rest t b next =
-        let same : B n b.lane (slot (Forget t b ∷ rest) b.lane).number ≡ B n b.lane (slot rest b.lane).number = ap (λ k. B n b.lane k) (ap (λ x. x.number) (forgotten_slot rest t b) ∙ sym next.3) in
+        let same : B n b.lane (slot (Forget t b ∷ rest) b.lane).number ≡ B n b.lane (slot rest b.lane).number = ap (λ k. B n b.lane k) (ap (λ x. x.number) (new_slot rest (Forget t b) b.lane (same_number b.lane)) ∙ sym next.3) in
         let was : kept_for s rest b.lane ≡ s.kept InFinish (length (lock_of rest b)) (length (txs_of rest b)) = kept_in s rest b InFinish (slot_parts s rest b InFinish next.2 next.3) in
-        let keeps : kept_for s (Forget t b ∷ rest) b.lane ≡ 0 = kept_idle s fair (Forget t b ∷ rest) b.lane (ap (λ x. x.phase) (forgotten_slot rest t b)) in
+        let keeps : kept_for s (Forget t b ∷ rest) b.lane ≡ 0 = kept_idle s fair (Forget t b ∷ rest) b.lane (ap (λ x. x.phase) (new_slot rest (Forget t b) b.lane (same_number b.lane))) in
         omega (arith, same, was, keeps, fair.forget t (length (lock_of rest b)) (length (txs_of rest b)) b)
 
     own_lock : (j : ℕ) (newer rest : List Record) (t : ℕ) (b : Batch) (es : List Answered) → j < K.shards → X (shard_node K j) ≡ newer ++ Lock t b es ∷ rest → IsEnd (E (shard_node K j)) rest
@@ -219,27 +219,25 @@ module _ (K : Shape) (m : Minted) (P : Compact → Type 0) (some : 0 < K.shards)
         let concerned : is_no_part (part K.shards j 0 (txs_of (X (home_of K b.lane)) b)) ≡ false = not_empty es _ is next.5 in
         let v : IsEnd rest (X (shard_node K j)) = (newer ++ Lock t b es ∷ [], e ∙ past newer rest (Lock t b es)) in
         let room = lock_room j prep.0 b (txs_of (X (home_of K b.lane)) b) rest lt lane prep.1 concerned h v next.3 in
-        let number : (slot (Lock t b es ∷ rest) b.lane).number ≡ b.number = ap (λ x. x.number) (locked_slot rest t b es) in
+        let number : (slot (Lock t b es ∷ rest) b.lane).number ≡ b.number = ap (λ x. x.number) (new_slot rest (Lock t b es) b.lane (same_number b.lane)) in
         let up : B (shard_node K j) b.lane (slot (Lock t b es ∷ rest) b.lane).number ≡ B (shard_node K j) b.lane b.number = ap (λ k. B (shard_node K j) b.lane k) number in
         let none : kept_for s rest b.lane ≡ 0 = kept_idle s fair rest b.lane next.2 in
         let long : length (lock_of (Lock t b es ∷ rest) b) ≡ length es = ap length (lock_found rest t b es) in
         let keeps : kept_for s (Lock t b es ∷ rest) b.lane ≡ s.kept InLock (length es) (length (txs_of (Lock t b es ∷ rest) b))
-        = kept_in s (Lock t b es ∷ rest) b InLock (locked_slot rest t b es) ∙ ap (λ k. s.kept InLock k (length (txs_of (Lock t b es ∷ rest) b))) long in
+        = kept_in s (Lock t b es ∷ rest) b InLock (new_slot rest (Lock t b es) b.lane (same_number b.lane)) ∙ ap (λ k. s.kept InLock k (length (txs_of (Lock t b es ∷ rest) b))) long in
         let weighs = fair.lock (shard_node K j) t (length (txs_of (Lock t b es ∷ rest) b)) b es in
         let first : s.coming (lock_at (shard_node K j) (entries es)) ≡ s.coming (lock_at (shard_node K j) (part K.shards j 0 (txs_of (X (home_of K b.lane)) b))) = ap (λ q. s.coming (lock_at (shard_node K j) q)) is in
         let second : s.coming (finish_at (shard_node K j) (length (entries es))) ≡ s.coming (finish_at (shard_node K j) (length (part K.shards j 0 (txs_of (X (home_of K b.lane)) b)))) = ap (λ q. s.coming (finish_at (shard_node K j) (length q))) is in
         omega (arith, room, up, none, keeps, weighs, first, second)
 
     step : (n : ℕ) (newer rest : List Record) (r : Record) → X n ≡ newer ++ r ∷ rest → IsEnd (E n) rest → Next K n rest r → Seen K X n rest r → IsInGrammar (header_of K m.id n) r → IsWithin n rest → IsWithin n (r ∷ rest)
-    step n newer rest (Genesis header hs) e h next seen g w = absurd next
-    step n newer rest (Start header) e h next seen g w = absurd next
-    step n newer rest (Prepare t b txs) e h next seen g w = within_step n rest (Prepare t b txs) b.lane g.1.0 refl (own_prepare n newer rest t b txs e h next g.1.0) w
-    step n newer rest (Commit t b os) e h next seen g w = within_step n rest (Commit t b os) b.lane g.1.0 refl (own_commit n rest t b os next) w
-    step n newer rest (Discard t b) e h next seen g w = within_step n rest (Discard t b) b.lane g.1.0 refl (own_discard n rest t b next) w
-    step n newer rest (Done t b) e h next seen g w = within_step n rest (Done t b) b.lane g.1.0 refl (own_done n rest t b next) w
-    step n newer rest (Finish t b ds) e h next seen g w = within_step n rest (Finish t b ds) b.lane g.1.0 refl (own_finish n rest t b ds next) w
-    step n newer rest (Forget t b) e h next seen g w = within_step n rest (Forget t b) b.lane g.1.0 refl (own_forget n rest t b next) w
-    step n newer rest (Lock t b es) e h next seen g w = within_step n rest (Lock t b es) b.lane g.1.0 refl (at_shard_of n e h next seen) w
+    step n newer rest (Prepare t b txs) e h next seen g w = within_step n rest (Prepare t b txs) b.lane g.1.0 (same_number b.lane) (own_prepare n newer rest t b txs e h next g.1.0) w
+    step n newer rest (Commit t b os) e h next seen g w = within_step n rest (Commit t b os) b.lane g.1.0 (same_number b.lane) (own_commit n rest t b os next) w
+    step n newer rest (Discard t b) e h next seen g w = within_step n rest (Discard t b) b.lane g.1.0 (same_number b.lane) (own_discard n rest t b next) w
+    step n newer rest (Done t b) e h next seen g w = within_step n rest (Done t b) b.lane g.1.0 (same_number b.lane) (own_done n rest t b next) w
+    step n newer rest (Finish t b ds) e h next seen g w = within_step n rest (Finish t b ds) b.lane g.1.0 (same_number b.lane) (own_finish n rest t b ds next) w
+    step n newer rest (Forget t b) e h next seen g w = within_step n rest (Forget t b) b.lane g.1.0 (same_number b.lane) (own_forget n rest t b next) w
+    step n newer rest (Lock t b es) e h next seen g w = within_step n rest (Lock t b es) b.lane g.1.0 (same_number b.lane) (at_shard_of n e h next seen) w
       where
         at_shard_of : (n : ℕ) → X n ≡ newer ++ Lock t b es ∷ rest → IsEnd (E n) rest → Next K n rest (Lock t b es) → Seen K X n rest (Lock t b es)
             → s.taken (Lock t b es) + kept_for s (Lock t b es ∷ rest) b.lane + B n b.lane (slot rest b.lane).number ≤ kept_for s rest b.lane + B n b.lane (slot (Lock t b es ∷ rest) b.lane).number
@@ -248,6 +246,7 @@ module _ (K : Shape) (m : Minted) (P : Compact → Type 0) (some : 0 < K.shards)
             subst (λ k. X k ≡ newer ++ Lock t b es ∷ rest → IsEnd (E k) rest → Next K k rest (Lock t b es) → Seen K X k rest (Lock t b es)
             → s.taken (Lock t b es) + kept_for s (Lock t b es ∷ rest) b.lane + B k b.lane (slot rest b.lane).number ≤ kept_for s rest b.lane + B k b.lane (slot (Lock t b es ∷ rest) b.lane).number) at
             (λ e h next seen. own_lock (n - K.coordinators) newer rest t b es (omega (arith, next.1.0, next.1.1)) e h next seen g.1.0) e h next seen
+    step n newer rest other e h next seen g w = absurd next
 
     -- so it is of each journal between
     pub within : (n : ℕ) → n < K.coordinators + K.shards → (V : List Record) → IsEnd (E n) V → IsEnd V (X n) → IsWithin n V

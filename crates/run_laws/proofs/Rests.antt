@@ -1,6 +1,6 @@
 -- In kept journals a lane that is idle at its coordinator is settled.
 use Rattle.std.proofs.Common.{◌≡◌, ◌⊎◌, inl, inr, ℕ, ◌+◌, ◌-◌, ◌/◌, ◌<◌, ◌≤◌, true, false, ◌&&◌, ◌==◌, nat_lt, if◌then◌else◌, List, [], ◌∷◌, ◌++◌, Some, None, is_some, refl, sym, ap, ◌∙◌, subst, arith}
-use Rattle.cbdc_model.specs.Records.{Shape, Batch, Compact, Record, Row, kind_of, is_of, record_of, journal, last_stamp, Genesis, Lock, Finish, Forget, Start, Prepare, Commit, Discard, Done}
+use Rattle.cbdc_model.specs.Records.{Shape, Batch, Compact, Record, Row, kind_of, is_of, record_of, journal, last_stamp, Lock, Finish, Forget, Prepare, Commit, Discard, Done}
 use Rattle.cbdc_model.specs.Ranges.{home_of, shard_node}
 use Rattle.cbdc_model.specs.Slots.{slot, slot_stamp, Idle}
 use Rattle.cbdc_model.specs.Clean.{IsProperCompact}
@@ -8,7 +8,7 @@ use Rattle.cbdc_model.specs.History.{Minted, minted, first_rows}
 use Rattle.cbdc_model.specs.Sights.{Sight}
 use Rattle.lane_laws.specs.Batches.{Settled}
 use Rattle.ledger_laws.proofs.Next.{Steady}
-use Rattle.ledger_laws.proofs.ByKind.{at_a_node}
+use Rattle.ledger_laws.proofs.ByKind.{found_passes, at_a_node}
 use Rattle.ledger_laws.proofs.Slots.{JournalOk}
 use Rattle.ledger_laws.proofs.More.{MoreOk}
 use Rattle.ledger_laws.proofs.Moves.{split_test, all_structure, all_more}
@@ -18,32 +18,18 @@ use Rattle.ledger_laws.proofs.Settling.{shard_idle, shard_number, shard_stamp}
 use Rattle.run_laws.specs.Runs.{seen_by, RestLaw, CheckedRestLaw}
 use Rattle.run_laws.proofs.Checked.{Any, rows_of}
 
--- a record that was found is of that kind and batch
-found : (kind : ℕ) (J : List Record) (b : Batch) (r : Record) → record_of kind J b ≡ Some r → ((kind_of r == kind) && is_of b r) ≡ true
-found kind [] b r e = absurd (let z : None ≡ Some r = e in cc)
-found kind (q ∷ J) b r e =
-    elim ((kind_of q == kind) && is_of b q) as (λ t. ((kind_of q == kind) && is_of b q) ≡ t → (if t then Some q else record_of kind J b) ≡ Some r → ((kind_of r == kind) && is_of b r) ≡ true) [
-      | true ↦ λ t f. subst (λ x. ((kind_of x == kind) && is_of b x) ≡ true) (same q r f) t
-      | false ↦ λ t f. found kind J b r f
-    ] refl e
-  where
-    same : (q r : Record) → Some q ≡ Some r → q ≡ r
-    same q r f = cc
-
 -- no record of a batch stands before the lane came to it
 none_later : (J : List Record) → JournalOk J → MoreOk J → (kind : ℕ) (b : Batch) → (slot J b.lane).number < b.number → record_of kind J b ≡ None
 none_later J ok more kind b lt =
     elim (record_of kind J b) as (λ o. record_of kind J b ≡ o → o ≡ None) [
       | None ↦ λ e. refl
-      | Some r ↦ λ e. absurd (below r e (found kind J b r e))
+      | Some r ↦ λ e. absurd (below r e (found_passes kind J b r e))
     ] refl
   where
     some : (k : ℕ) (r : Record) → (k ≡ kind) → record_of kind J b ≡ Some r → is_some (record_of k J b) ≡ true
     some k r s e = subst (λ m. is_some (record_of m J b) ≡ true) (sym s) (ap is_some e)
 
     below : (r : Record) → record_of kind J b ≡ Some r → ((kind_of r == kind) && is_of b r) ≡ true → ⊥
-    below (Genesis header hs) e t = grind (arith, t)
-    below (Start header) e t = grind (arith, t)
     below (Lock stamp c es) e t = omega (arith, lt, ok.lock_below b (some 2 _ (split_test 2 kind c b t).0 e))
     below (Finish stamp c ds) e t = omega (arith, lt, ok.finish_below b (some 3 _ (split_test 3 kind c b t).0 e))
     below (Forget stamp c) e t = omega (arith, lt, more.forget_below b (some 4 _ (split_test 4 kind c b t).0 e))
@@ -51,6 +37,7 @@ none_later J ok more kind b lt =
     below (Commit stamp c os) e t = omega (arith, lt, more.commit_below b (some 7 _ (split_test 7 kind c b t).0 e))
     below (Discard stamp c) e t = omega (arith, lt, more.discard_below b (some 8 _ (split_test 8 kind c b t).0 e))
     below (Done stamp c) e t = omega (arith, lt, more.done_below b (some 9 _ (split_test 9 kind c b t).0 e))
+    below other e t = grind (arith, t)
 
 -- behind the last node there is no journal
 pub none_beyond : (K : Shape) (minting : Minted) (P : Compact → Type 0) (later : List Row) → Steady K minting P later → (n : ℕ) → K.coordinators + K.shards ≤ n

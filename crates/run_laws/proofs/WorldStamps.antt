@@ -15,8 +15,6 @@ use Rattle.run_laws.proofs.Codes.{code_of}
 -- a caused record's stamp is at most one more than all that stand
 pub caused_le : (K : Shape) (J : ℕ → List Record) (n top : ℕ) (r : Record) → ((m : ℕ) → last_stamp (J m) ≤ top) → ((kind m : ℕ) (b : Batch) → stamp_in (record_of kind (J m) b) ≤ top)
     → IsCaused K J n r → stamp_of r ≤ suc top
-caused_le K J n top (Genesis header hs) low all c = omega arith
-caused_le K J n top (Start header) low all c = omega arith
 caused_le K J n top (Prepare stamp b txs) low all c = omega (arith, low n, c)
 caused_le K J n top (Lock stamp b es) low all c = omega (arith, low n, all 6 (b.lane / K.lanes) b, c.2)
 caused_le K J n top (Finish stamp b ds) low all c = omega (arith, low n, all 7 (b.lane / K.lanes) b, c.2)
@@ -27,6 +25,7 @@ caused_le K J n top (Discard stamp b) low all c =
     omega (arith, low n, greatest_le (λ s. stamp_in (at_shards K J 3 b s)) top K.shards (λ s. all 3 (shard_node K s) b), c.1)
 caused_le K J n top (Done stamp b) low all c =
     omega (arith, low n, greatest_le (λ s. stamp_in (at_shards K J 4 b s)) top K.shards (λ s. all 4 (shard_node K s) b), c.1)
+caused_le K J n top other low all c = omega arith
 
 abbrev pub is_late : Record → Bool
 is_late r = nat_lt (2 ^ 62) (stamp_of r)

@@ -3,7 +3,7 @@ use Rattle.std.proofs.Common.{◌≡◌, ℕ, suc, ◌+◌, ◌^◌, ◌≤◌, 
 use Rattle.std.proofs.lemmas.Bool.Decides.{nat_tests}
 use Rattle.std.proofs.lemmas.List.Elements.{All-head, All-tail, All-cons, All-nil}
 use Rattle.cbdc_types.specs.declared.calls.Refused.{Refused}
-use Rattle.cbdc_model.specs.Records.{Digest, Header, Batch, Entry, Reply, Answered, Record, is_held, lock_of, Genesis, Lock, Finish, Forget, Start, Prepare, Commit, Discard, Done}
+use Rattle.cbdc_model.specs.Records.{Digest, Header, Batch, Entry, Reply, Answered, Record, is_held, lock_of, Genesis, Lock, Finish, Forget}
 use Rattle.cbdc_model.specs.Slots.{Phase, slot, Idle, InLock, InFinish, InPrepare, InCommit, InDiscard}
 use Rattle.cbdc_model.specs.Status.{Status, status, has, held_inputs, finished_status, made_outputs, returned_inputs, taken_inputs, Unspent, Locked, Absent}
 use Rattle.cbdc_model.specs.Replies.{answered, replies, reply_to, refusal, first_reply}
@@ -85,12 +85,7 @@ holder_in h (Finish stamp b ds ∷ J) x by all e = holder_in h J x by (All-tail 
         cases false true r s by e = cc
         cases false false true s by e = cc
         cases false false false s by e = e
-holder_in h (Forget stamp b ∷ J) x by all e = holder_in h J x by (All-tail (IsInGrammar h) (Forget stamp b) J all) e
-holder_in h (Start header ∷ J) x by all e = holder_in h J x by (All-tail (IsInGrammar h) (Start header) J all) e
-holder_in h (Prepare stamp b txs ∷ J) x by all e = holder_in h J x by (All-tail (IsInGrammar h) (Prepare stamp b txs) J all) e
-holder_in h (Commit stamp b os ∷ J) x by all e = holder_in h J x by (All-tail (IsInGrammar h) (Commit stamp b os) J all) e
-holder_in h (Discard stamp b ∷ J) x by all e = holder_in h J x by (All-tail (IsInGrammar h) (Discard stamp b) J all) e
-holder_in h (Done stamp b ∷ J) x by all e = holder_in h J x by (All-tail (IsInGrammar h) (Done stamp b) J all) e
+holder_in h (other ∷ J) x by all e = holder_in h J x by (All-tail (IsInGrammar h) other J all) e
 
 refusal_fits : (h : Header) (s : Status) (x : Digest) (claimed : Bool) (b : Batch) (rest : Reply) → ((by : Batch) → s ≡ Locked by → IsBatchOf h.shape by) → IsHash x → IsBatchOf h.shape b → IsReply h.shape rest
     → IsReply h.shape (first_reply (refusal s x claimed b) rest)

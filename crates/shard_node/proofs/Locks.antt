@@ -7,7 +7,7 @@ use Rattle.cbdc_types.specs.declared.calls.LockCall.{LockCall}
 use Rattle.cbdc_types.specs.declared.calls.Replied.{Replied}
 use Rattle.cbdc_types.specs.declared.calls.NodeFault.{NodeFault}
 use Rattle.cbdc_types.specs.declared.calls.NodeFault.TheVariants.{DiskFault, Full}
-use Rattle.cbdc_model.specs.Records.{Header, Record, Answered, Genesis, Lock, Finish, Forget, Start, Prepare, Commit, Discard, Done}
+use Rattle.cbdc_model.specs.Records.{Header, Record, Answered, Lock}
 use Rattle.cbdc_model.specs.Slots.{slot, Idle, InLock}
 use Rattle.cbdc_types.specs.Limits.{IsWithinLimits}
 use Rattle.cbdc_model.specs.Grammar.{IsShard}
@@ -49,14 +49,7 @@ lock_is J c r (Lock stamp b es) of is =
     let entries_are : es ≡ answered J c.batch [] c.part = same ∙ ap (λ x. answered J c.batch [] x) of.2 in
     let batch : b ≡ c.batch = of.1 in
     cc
-lock_is J c r (Genesis header hs) of is = absurd of
-lock_is J c r (Finish stamp b ds) of is = absurd of
-lock_is J c r (Forget stamp b) of is = absurd of
-lock_is J c r (Start header) of is = absurd of
-lock_is J c r (Prepare stamp b txs) of is = absurd of
-lock_is J c r (Commit stamp b os) of is = absurd of
-lock_is J c r (Discard stamp b) of is = absurd of
-lock_is J c r (Done stamp b) of is = absurd of
+lock_is J c r other of is = absurd of
 
 lock_keeps : (h : Header) (J : List Record) (c : LockCall) → IsLockCall h c → (slot J c.batch.lane).phase ≡ Idle → kept_room h.shape (lock_record J c ∷ J) ≡ kept_room h.shape J + (76 + length c.part)
 lock_keeps h J c call idle =

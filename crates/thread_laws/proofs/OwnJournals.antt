@@ -1,6 +1,6 @@
 -- What a journal says by itself of its lanes' open batches.
 use Rattle.std.proofs.Common.{◌≡◌, ◌⊎◌, inl, inr, ℕ, ◌+◌, ◌≤◌, true, false, ◌&&◌, ◌==◌, List, [], ◌∷◌, ◌++◌, length, Some, is_some, refl, sym, ap, ◌∙◌, subst, arith}
-use Rattle.cbdc_model.specs.Records.{Header, Batch, Compact, Outcome, Record, record_of, kind_of, is_of, same_batch, txs_of, outcomes_of, Genesis, Lock, Finish, Forget, Start, Prepare, Commit, Discard, Done}
+use Rattle.cbdc_model.specs.Records.{Header, Batch, Compact, Outcome, Record, record_of, kind_of, is_of, same_batch, txs_of, outcomes_of, Genesis, Start, Prepare, Commit}
 use Rattle.cbdc_model.specs.Slots.{Phase, slot, Idle, InLock, InFinish, InPrepare, InCommit, InDiscard}
 use Rattle.cbdc_model.specs.Grammar.{IsInGrammar}
 use Rattle.cbdc_model.specs.After.{IsFirst as BeginsAs, After, IsJournal}
@@ -66,13 +66,7 @@ module _ (h : Header) (J : List Record) (first : AllFirst J) where
 begins : (r : Record) → BeginsAs r → IsFirst r
 begins (Genesis header hs) f = tt
 begins (Start header) f = tt
-begins (Lock stamp b es) f = f
-begins (Finish stamp b ds) f = f
-begins (Forget stamp b) f = f
-begins (Prepare stamp b txs) f = f
-begins (Commit stamp b os) f = f
-begins (Discard stamp b) f = f
-begins (Done stamp b) f = f
+begins other f = f
 
 some_same : (q r : Record) → Some q ≡ Some r → q ≡ r
 some_same q r e = cc
@@ -120,13 +114,9 @@ module _ (h : Header) (q : Record) (past : List Record) where
     matches_next : (r : Record) → Step r → Matches (r ∷ J) b
     matches_next (Genesis header hs) next = absurd next
     matches_next (Start header) next = absurd next
-    matches_next (Lock stamp c es) next = aside (Lock stamp c es) refl refl
-    matches_next (Finish stamp c ds) next = aside (Finish stamp c ds) refl refl
-    matches_next (Forget stamp c) next = aside (Forget stamp c) refl refl
     matches_next (Prepare stamp c txs) next = matches_prepare stamp c txs next
     matches_next (Commit stamp c os) next = matches_commit stamp c os next
-    matches_next (Discard stamp c) next = aside (Discard stamp c) refl refl
-    matches_next (Done stamp c) next = aside (Done stamp c) refl refl
+    matches_next other next = aside other refl refl
 
   next_own : (own : OwnOk h J) (r : Record) → After h J r → Step r → OwnOk h (r ∷ J)
   next_own own r after next = record {

@@ -1,14 +1,14 @@
 use Rattle.std.proofs.Common.{◌≡◌, true, sym, subst, ◌∙◌, arith, eq-eqb, length}
 use Rattle.std.proofs.lemmas.Bool.{eqb-true}
-use Rattle.record_log.specs.Standing.{MayBegin}
-use Rattle.record_log.proofs.Grammar.{spelled_so, begins, is_read_first, same_read, no_fault, may_begin}
+use Rattle.record_log.specs.Exact.{IsFirstRecord}
+use Rattle.record_log.proofs.Grammar.{spelled_so, is_read_first, same_read, no_fault}
 use Rattle.record_log.proofs.reading.read_first.Goals as goal
 use Rattle.record_log.proofs.reading.read_first.Goals.{else-is_empty-via-then-is_empty+else-is_first, else-is_empty-via-else-is_empty}
 
 pub returns-then-is_first-clause-found : goal.returns-then-is_first-clause-found
 returns-then-is_first-clause-found c =
-    let read = spelled_so c.args.bytes.now c.in-Ok.record c.in-Ok.rest.now (λ i. omega (arith, c.type_inv.bytes i)) c.in-Ok.ensures (eqb-true _ _ (sym c.is_empty.ensures ∙ c.if-is_empty.true)) in
-    (read.0, begins c.args.bytes.now c.in-Ok.record read.1 (c.is_first.ensures.0 c.if-is_first.true))
+    let spelled = spelled_so c.args.bytes.now c.in-Ok.record c.in-Ok.rest.now (λ i. omega (arith, c.type_inv.bytes i)) c.in-Ok.ensures (eqb-true _ _ (sym c.is_empty.ensures ∙ c.if-is_empty.true)) in
+    (spelled, c.is_first.ensures.0 c.if-is_first.true)
 
 pub returns-then-is_first-clause-only : goal.returns-then-is_first-clause-only
 returns-then-is_first-clause-only c = λ r is. (same_read c.args.bytes.now c.in-Ok.record r c.in-Ok.rest.now c.in-Ok.ensures (is_read_first c.args.bytes.now r is)).0
@@ -18,7 +18,7 @@ returns-else-is_empty-clause-only c = λ r is.
     let same = same_read c.args.bytes.now c.in-Ok.record r c.in-Ok.rest.now c.in-Ok.ensures (is_read_first c.args.bytes.now r is) in
     elim c.else-is_empty.branch [
       | else-is_empty-via-then-is_empty+else-is_first w ↦
-          let stands : w.is_first.result ≡ true = w.is_first.ensures.1 (subst (MayBegin) (sym same.0) (may_begin r is.1)) in
+          let stands : w.is_first.result ≡ true = w.is_first.ensures.1 (subst IsFirstRecord (sym same.0) is.1) in
           let fails = w.if-is_first.false in
           absurd (cc)
       | else-is_empty-via-else-is_empty w ↦
