@@ -227,8 +227,8 @@ pub fn counts(state: &State, words: &[&str], told: &mut Told) {
     }
 }
 
-/// Tells `yes` or `no`, which was asked in two ways; where these differ that is told too.
-pub fn yes_twice(is_so: bool, is_too: bool, told: &mut Told) {
+// Tells `yes` or `no`, which was asked in two ways; where these differ that is told too.
+fn yes_twice(is_so: bool, is_too: bool, told: &mut Told) {
     told.yes(is_too);
     told.check_is(if is_so { "yes" } else { "no" }, is_too);
 }

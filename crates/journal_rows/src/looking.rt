@@ -1,12 +1,11 @@
 // What the plain programs say of journals: of hashes and lanes behind each record, of sizes and room, of which record stands.
-use crate::calls::yes_twice;
 use crate::state::{State, journals_of};
 use cbdc_types::{Header, LaneId, List, Record, Shape};
 use plain_check::{
-    Listed, Phase, Row, first_refusal_of, is_after, is_caused, is_in_grammar, is_ordered,
-    journal_of, kept_room, lane_room, need_of, outcome_of, size_of, slot_of, slot_stamp, status_of,
-    used_of,
+    Listed, Phase, Row, first_refusal_of, is_after, is_caused, is_ordered, journal_of, kept_room,
+    lane_room, need_of, outcome_of, size_of, slot_of, slot_stamp, status_of, used_of,
 };
+use record_grammar::is_in_grammar;
 use row_records::{Told, rest, verdicts};
 
 // Tells a number, or that there is none.
@@ -109,17 +108,13 @@ pub fn need(state: &State, words: &[&str], told: &mut Told) {
     }
 }
 
-/// `may NODE RECORD`, and `yes` or `no`: whether it is in the grammar of that node, by the definition and by the ledger's own test.
+/// `may NODE RECORD`, and `yes` or `no`: whether it is in the grammar of that node.
 pub fn may(state: &State, words: &[&str], told: &mut Told) {
     let Some(row) = state.row(words, told) else {
         return;
     };
     if let Some(header) = told.given(state.known.header(row.node.0)) {
-        yes_twice(
-            is_in_grammar(&header, &row.what),
-            record_grammar::is_in_grammar(&header, &row.what),
-            told,
-        );
+        told.yes(is_in_grammar(&header, &row.what));
     }
 }
 

@@ -13,7 +13,7 @@ use cbdc_types::{
 use coord_core::LanePhase;
 use coord_log::CoordLog;
 use mem_devices::FaultDisk;
-use plain_check::is_batch_of;
+use record_grammar::is_batch_of;
 use row_records::{Known, Told, finish_call, forget_call, lock_call, replies, rest, txs};
 use shard_node::{ShardNode, is_finish_call, is_forget_call, is_lock_call};
 

@@ -12,7 +12,8 @@ use lane_driver::{LaneFault, LaneReport, Ports, SliceSource, run_batch, run_lane
 use mem_devices::FaultDisk;
 use node_ports::{NodeLogs, NodeShards};
 use outside::{Gate, Point, When};
-use plain_check::{Phase, copy_of_record, is_compact, last_stamp, slot_of, slot_stamp};
+use plain_check::{Phase, copy_of_record, last_stamp, slot_of, slot_stamp};
+use record_grammar::is_compact;
 use row_records::{Told, Wrong};
 use shard_node::ShardNode;
 use std::alloc::{AllocError, Global};

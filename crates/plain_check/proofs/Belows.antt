@@ -12,7 +12,7 @@ no_lie t = search rules
 other_node : (m n k : ℕ) → m < n → n ≤ k → (m == k) ≡ false
 other_node m n k lt le = grind arith
 
-pub numbered_more : (rows past : List Row) (row : Row) (n : ℕ) → rows ≡ row ∷ past → row.node < n → ((k : ℕ) → n ≤ k → journal k past ≡ []) → (k : ℕ) → n ≤ k → journal k rows ≡ []
+numbered_more : (rows past : List Row) (row : Row) (n : ℕ) → rows ≡ row ∷ past → row.node < n → ((k : ℕ) → n ≤ k → journal k past ≡ []) → (k : ℕ) → n ≤ k → journal k rows ≡ []
 numbered_more rows past row n e lt none k le = subst (λ l. journal k l ≡ []) (sym e) (head_away row past k (other_node row.node n k lt le) ∙ none k le)
 
 pub below_more : (rows past : List Row) (row : Row) (n : ℕ) (told : Bool) → rows ≡ row ∷ past → row.node < n

@@ -1,12 +1,11 @@
 pub mod Digests
-pub mod Alls
+pub mod Equality
 pub mod Keys
 pub mod Entitled
 pub mod Placing
 pub mod Counts
 pub mod Once
 pub mod Belows
-pub mod Distinct
 pub mod Finished
 pub mod Firsts
 pub mod Histories

@@ -1,15 +1,38 @@
 -- Proper submissions, one after another.
-use Rattle.std.proofs.Common.{◌≡◌, ◌↔◌, ◌≤◌, inl, inr, Bool, true, false, List, [], ◌∷◌, Contains, refl, sym, subst, rules}
+use Rattle.std.proofs.Common.{◌≡◌, ◌↔◌, inl, inr, Bool, true, false, List, [], ◌∷◌, Contains, refl, sym, subst, arith, rules}
 use Rattle.std.specs.Prelude.{All, IsTrue, Result, IfOk}
 use Rattle.std.proofs.lemmas.Result.{IfOk-weaker}
 use Rattle.cbdc_model.specs.Records.{Compact}
 use Rattle.std.proofs.lemmas.List.Elements.{All-cons, All-tail}
-use Rattle.cbdc_model.specs.Coins.{Input, Output, FullTx, compact}
+use Rattle.cbdc_model.specs.Coins.{FullTx, compact}
 use Rattle.cbdc_model.specs.Clean.{IsProper, IsProperCompact}
 use Rattle.ledger_laws.proofs.Members.{In, in_contains, contains_in}
+use Rattle.base_types.specs.declared.faults.Refusal.{Refusal}
+use Rattle.base_types.specs.declared.faults.Refusal.TheVariants.{BadWitness, Unverified}
+use Rattle.sentinel.specs.declared.verifier.Verdict.TheVariants.{Good, Bad, Absent}
+use Rattle.sentinel.specs.FirstRefusal.{Applies, IsFirstRefusal, IsSoundTx}
+use Rattle.run_laws.proofs.Proper.{proper_law, sound_law}
 
 pub no_lie : IsTrue false → ⊥
 no_lie t = search rules
+
+-- a transaction that a sentinel refuses to which all witnesses are good is not proper
+not_refused : (t : FullTx) (r : Refusal) → IsProper t → Applies t (λ i. Good) r → ⊥
+not_refused t (BadWitness i) p least = unlike least.holds.1
+  where
+    unlike : Good ≡ Bad → ⊥
+    unlike e = cc
+not_refused t (Unverified i) p least = unlike least.holds.1
+  where
+    unlike : Good ≡ Absent → ⊥
+    unlike e = cc
+not_refused t r p applies = (proper_law t (λ i. Good)).0 p r (omega arith) applies
+
+pub sound_is : (t : FullTx) → IsSoundTx t (λ i. Good) → IsTrue true ↔ IsProper t
+sound_is t sound = (λ y. sound_law t (λ i. Good) sound, λ p. search rules)
+
+pub refused_is : (t : FullTx) (r : Refusal) → IsFirstRefusal t (λ i. Good) r → IsTrue false ↔ IsProper t
+refused_is t r refused = (λ n. absurd (no_lie n), λ p. absurd (not_refused t r p refused.applies))
 
 -- an answer to another question, where there is one
 pub told_of : {E : Type 0} (r : Result Bool E) (A B : Type 0) → ((told : Bool) → (IsTrue told ↔ A) → IsTrue told ↔ B) → IfOk r (λ told. IsTrue told ↔ A) → IfOk r (λ told. IsTrue told ↔ B)
@@ -35,18 +58,10 @@ pub proper_none : (all : List FullTx) (k : Compact) → all ≡ [] → IsTrue fa
 proper_none all k e = (λ t. absurd (no_lie t), λ p. absurd (in_contains [] p.0 (subst (λ l. Contains l p.0) e p.1)))
 
 -- what holds of each item of a list, by its first item and its rest
-pub all_then : {X : Type 0} (P : X → Type 0) (all : List X) (x : X) (rest : List X) (told : Bool) → all ≡ x ∷ rest → P x
+all_then : {X : Type 0} (P : X → Type 0) (all : List X) (x : X) (rest : List X) (told : Bool) → all ≡ x ∷ rest → P x
     → (IsTrue told ↔ All P rest) → IsTrue told ↔ All P all
 all_then P all x rest told e px h =
     (λ t. subst (All P) (sym e) (All-cons P x rest px (h.0 t)), λ each. h.1 (All-tail P x rest (subst (All P) e each)))
-
-pub claim_more : (all : List Input) (coin : Input) (rest : List Input) (told : Bool) → all ≡ coin ∷ rest → 1 ≤ coin.output.value
-    → (IsTrue told ↔ All (λ c. 1 ≤ c.output.value) rest) → IsTrue told ↔ All (λ c. 1 ≤ c.output.value) all
-claim_more all coin rest told e worth h = all_then (λ c. 1 ≤ c.output.value) all coin rest told e worth h
-
-pub worth_more : (all : List Output) (o : Output) (rest : List Output) (told : Bool) → all ≡ o ∷ rest → 1 ≤ o.value
-    → (IsTrue told ↔ All (λ p. 1 ≤ p.value) rest) → IsTrue told ↔ All (λ p. 1 ≤ p.value) all
-worth_more all o rest told e worth h = all_then (λ p. 1 ≤ p.value) all o rest told e worth h
 
 pub forms_more : (submissions : List FullTx) (all : List Compact) (k : Compact) (rest : List Compact) (told : Bool) → all ≡ k ∷ rest → IsProperCompact submissions k
     → (IsTrue told ↔ All (IsProperCompact submissions) rest) → IsTrue told ↔ All (IsProperCompact submissions) all

@@ -4,12 +4,20 @@ use Rattle.std.specs.List.{AllZip}
 use Rattle.cbdc_model.specs.Records.{Shape, Record}
 use Rattle.cbdc_model.specs.Coins.{FullTx}
 use Rattle.line_text.specs.declared.summary.Summary.{Summary}
+use Rattle.plain_check.specs.declared.counting.Told.{Told}
+use Rattle.plain_check.specs.declared.counting.Told.TheVariants.{Confirmed, Rejected, Refused}
 use Rattle.submissions.specs.Checks.{VerdictsOf, TellsSound, IsSaid}
 use Rattle.submissions.specs.declared.Checked.{Checked}
 use Rattle.printed_lines.specs.declared.report.Report.{Report}
 use Rattle.printed_lines.specs.Recoveries.{resumed_count}
 use Rattle.printed_lines.specs.Decided.{new_batches}
 use Rattle.printed_lines.specs.Runs.{is_confirmed, is_rejected, is_refused, count_in, IsReport, AreReports, AreAllReports}
+
+-- what a report may tell of its submission
+abbrev pub tells : Told → Report → Bool
+tells Confirmed = is_confirmed
+tells Rejected = is_rejected
+tells Refused = is_refused
 
 -- the numbers that end the text of a run
 pub record IsSummary (K : Shape) (E X : ℕ → List Record) (all : List (List Report)) (unspent : ℕ) (s : Summary) : Type 0 where

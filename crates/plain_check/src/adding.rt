@@ -1,7 +1,7 @@
 // What a stage of a run adds to the journals.
-ghost use Rattle.std.specs.Prelude.{◌≡◌, ◌↔◌, ◌<◌, ℕ, true, false, is_some, IsTrue, MatchOption};
+ghost use Rattle.std.specs.Prelude.{◌≡◌, ◌↔◌, ◌<◌, ℕ, is_some, IsTrue};
 ghost use Rattle.std.specs.List.{AllByRecursion};
-ghost use Rattle.cbdc_model.specs.Records.{Batch as ModelBatch, record_of, is_of};
+ghost use Rattle.cbdc_model.specs.Records.{record_of};
 ghost use Rattle.cbdc_model.specs.Ranges.{home_of};
 ghost use Rattle.cbdc_model.specs.Slots.{slot, Idle};
 ghost use Rattle.cbdc_model.specs.World.{AreIdle};
@@ -9,28 +9,9 @@ ghost use Rattle.cbdc_model.specs.Waves.{Adds};
 ghost use Rattle.plain_check.specs.Journals.{journals_in};
 ghost use Rattle.plain_check.specs.Adding.{MayAdd, IsAdded, GrowsByNew};
 
-use crate::{home_journal, is_idle, journal_at, record_of, slot_of};
+use crate::{batch_of, home_journal, is_idle, journal_at, record_of, slot_of};
 use cbdc_types::{BatchId, LaneId, List, Record, RecordKind, Shape};
 use same_records::{home_of, is_journal};
-
-/// The batch of a record, none of a first record.
-#[tactic(auto, using(crate::proofs::Batches::batch_is))]
-pub fn batch_of(r: &Record) -> Option<BatchId>
-    ensures { MatchOption result ((b : ModelBatch)
-        → is_of b r.now ≡ false) (λ own. (b : ModelBatch) → (is_of b r.now ≡ true) ↔ (own ≡ b)) }
-{
-    match r {
-        Record::Genesis { .. } => None,
-        Record::Lock { batch, .. } => Some(*batch),
-        Record::Finish { batch, .. } => Some(*batch),
-        Record::Forget { batch, .. } => Some(*batch),
-        Record::Start { .. } => None,
-        Record::Prepare { batch, .. } => Some(*batch),
-        Record::Commit { batch, .. } => Some(*batch),
-        Record::Discard { batch, .. } => Some(*batch),
-        Record::Done { batch, .. } => Some(*batch),
-    }
-}
 
 // Whether a batch's coordinator has its record of a kind.
 fn has_kind(kind: u64, shape: &Shape, journals: &[List<Record>], batch: &BatchId) -> bool
@@ -59,7 +40,7 @@ fn may_add(
 }
 
 // Whether a record is of a batch of which the stage may write records.
-#[tactic(auto, using(crate::proofs::Batches::new_by, crate::proofs::Batches::not_new))]
+#[tactic(auto, using(crate::proofs::Batches::not_new))]
 fn is_new(
     resumes: bool,
     shape: &Shape,

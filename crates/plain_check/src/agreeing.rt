@@ -8,42 +8,28 @@ use cbdc_types::{FullTx, Hash, Input, Output};
 use compact_tx::{input_hash, tx_id};
 use same_records::is_hash;
 
-// Whether two outputs are the same.
-fn is_output(o: &Output, p: &Output) -> bool
-    ensures { IsTrue result ↔ (o.now ≡ p.now) }
-{
-    is_hash(&o.program, &p.program) && o.value == p.value
-}
-
 // Whether two coins are the same.
+#[tactic(auto, using(crate::proofs::Equality::coin_decides))]
 fn is_coin(c: &Input, d: &Input) -> bool
     ensures { IsTrue result ↔ (c.now ≡ d.now) }
 {
-    is_hash(&c.point.tx, &d.point.tx)
-        && c.point.index == d.point.index
-        && is_output(&c.output, &d.output)
+    c == d
 }
 
 // Whether two lists of outputs are the same.
+#[tactic(auto, using(crate::proofs::Equality::outputs_decide))]
 fn are_outputs(os: &[Output], ps: &[Output]) -> bool
     ensures { IsTrue result ↔ (os.now ≡ ps.now) }
 {
-    match (os.split_first(), ps.split_first()) {
-        (None, None) => true,
-        (Some((o, others)), Some((p, rest))) => is_output(o, p) && are_outputs(others, rest),
-        _ => false,
-    }
+    os == ps
 }
 
 // Whether two lists of coins are the same.
+#[tactic(auto, using(crate::proofs::Equality::coins_decide))]
 fn are_coins(cs: &[Input], ds: &[Input]) -> bool
     ensures { IsTrue result ↔ (cs.now ≡ ds.now) }
 {
-    match (cs.split_first(), ds.split_first()) {
-        (None, None) => true,
-        (Some((c, others)), Some((d, rest))) => is_coin(c, d) && are_coins(others, rest),
-        _ => false,
-    }
+    cs == ds
 }
 
 // The hash of a coin.

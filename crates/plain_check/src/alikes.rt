@@ -156,7 +156,7 @@ fn is_prepared_alike(journals: &[List<Record>], shape: &Shape, node: usize, r: &
 }
 
 // The same of records.
-#[tactic(auto, using(crate::proofs::Finished::prepared_next, crate::proofs::Finished::not_prepared))]
+#[tactic(auto, using(crate::proofs::Finished::not_prepared))]
 fn are_prepared_alike(
     journals: &[List<Record>],
     shape: &Shape,

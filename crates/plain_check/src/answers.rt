@@ -7,12 +7,13 @@ ghost use Rattle.plain_check.specs.Events.{call_in, cause_of, InClock, IsCallAns
 use crate::event_causes::{has_cause, header_at, is_concerned_at};
 use crate::events::ShardCall;
 use crate::{
-    LockPlan, Node, StampPlan, is_in_grammar, journal_in, last_stamp, next_finish, next_forget,
-    next_lock, replies_of,
+    LockPlan, Node, StampPlan, journal_in, last_stamp, next_finish, next_forget, next_lock,
+    replies_of,
 };
 use cbdc_types::{
     BatchId, FinishCall, ForgetCall, Hash, List, LockCall, NodeId, Record, Shape, Stamp,
 };
+use record_grammar::is_in_grammar;
 use std::alloc::{AllocError, Global};
 
 // The batch of a call.

@@ -210,11 +210,18 @@ pub fn count_of_book(alloc: Global, coins: &[Input]) -> Result<usize, AllocError
     Ok(more + 1)
 }
 
+/// The coins that a mint makes.
+pub fn minted_coins(alloc: Global, mint: &[Output]) -> Result<List<Input>, AllocError>
+    ensures { IfOk result (λ l. l ≡ tx_coins (genesis_tx mint.now)) }
+{
+    let t = genesis_tx(alloc, mint)?;
+    coins_of(alloc, &t)
+}
+
 /// The book that a mint is, as coins.
 pub fn genesis_book(alloc: Global, mint: &[Output]) -> Result<List<Input>, AllocError>
     ensures { IfOk result (λ l. book_of l ≡ genesis_book mint.now) }
 {
-    let t = genesis_tx(alloc, mint)?;
-    let made = coins_of(alloc, &t)?;
+    let made = minted_coins(alloc, mint)?;
     put_all(alloc, List::new(alloc), made.as_slice())
 }

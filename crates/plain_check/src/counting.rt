@@ -2,8 +2,8 @@
 ghost use Rattle.std.specs.Prelude.{◌≡◌, ◌*◌, ◌≤◌, length, IfSome};
 ghost use Rattle.std.specs.List.{filter};
 ghost use Rattle.plain_check.specs.Journals.{journals_in};
-ghost use Rattle.printed_lines.specs.Runs.{is_confirmed, is_rejected, is_refused, count_in};
-ghost use Rattle.plain_check.specs.Summaries.{IsSummary};
+ghost use Rattle.printed_lines.specs.Runs.{count_in};
+ghost use Rattle.plain_check.specs.Summaries.{tells, IsSummary};
 
 use crate::deciding::batches_of;
 use crate::recovering::resumed_count;
@@ -12,73 +12,41 @@ use line_text::Summary;
 use printed_lines::Report;
 use same_records::is_won;
 
-fn is_confirmed(report: &Report) -> bool
-    ensures { result ≡ is_confirmed report.now }
+/// What may be told of a submission.
+#[derive(Clone, Copy)]
+pub enum Told {
+    Confirmed,
+    Rejected,
+    Refused,
+}
+
+// Whether a report tells this.
+fn tells(told: Told, report: &Report) -> bool
+    ensures { result ≡ tells told report.now }
 {
     match report {
-        Report::Refused(_) => false,
-        Report::Decided(_, outcome) => is_won(outcome),
+        Report::Refused(_) => match told {
+            Told::Refused => true,
+            Told::Confirmed | Told::Rejected => false,
+        },
+        Report::Decided(_, outcome) => match told {
+            Told::Confirmed => is_won(outcome),
+            Told::Rejected => !is_won(outcome),
+            Told::Refused => false,
+        },
     }
 }
 
-fn is_rejected(report: &Report) -> bool
-    ensures { result ≡ is_rejected report.now }
-{
-    match report {
-        Report::Refused(_) => false,
-        Report::Decided(_, outcome) => !is_won(outcome),
-    }
-}
-
-fn is_refused(report: &Report) -> bool
-    ensures { result ≡ is_refused report.now }
-{
-    match report {
-        Report::Refused(_) => true,
-        Report::Decided(_, _) => false,
-    }
-}
-
-// How many reports confirm their submissions, reject them and refuse them.
-fn confirmed_in(reports: &[Report]) -> usize
-    ensures count { result ≡ length (filter is_confirmed reports.now) }
+// How many reports tell this of their submissions.
+fn count_in(told: Told, reports: &[Report]) -> usize
+    ensures count { result ≡ length (filter (tells told) reports.now) }
     ensures bound { result ≤ length reports.now }
 {
     let Some((report, rest)) = reports.split_first() else {
         return 0;
     };
-    let behind = confirmed_in(rest);
-    if is_confirmed(report) {
-        behind + 1
-    } else {
-        behind
-    }
-}
-
-fn rejected_in(reports: &[Report]) -> usize
-    ensures count { result ≡ length (filter is_rejected reports.now) }
-    ensures bound { result ≤ length reports.now }
-{
-    let Some((report, rest)) = reports.split_first() else {
-        return 0;
-    };
-    let behind = rejected_in(rest);
-    if is_rejected(report) {
-        behind + 1
-    } else {
-        behind
-    }
-}
-
-fn refused_in(reports: &[Report]) -> usize
-    ensures count { result ≡ length (filter is_refused reports.now) }
-    ensures bound { result ≤ length reports.now }
-{
-    let Some((report, rest)) = reports.split_first() else {
-        return 0;
-    };
-    let behind = refused_in(rest);
-    if is_refused(report) {
+    let behind = count_in(told, rest);
+    if tells(told, report) {
         behind + 1
     } else {
         behind
@@ -86,31 +54,13 @@ fn refused_in(reports: &[Report]) -> usize
 }
 
 // The same over all files, where that is a number of 64 bits.
-fn confirmed_of(all: &[List<Report>]) -> Option<u64>
-    ensures { IfSome result (λ n. n ≡ count_in is_confirmed all.now) }
+fn count_over(told: Told, all: &[List<Report>]) -> Option<u64>
+    ensures { IfSome result (λ n. n ≡ count_in (tells told) all.now) }
 {
     let Some((reports, rest)) = all.split_first() else {
         return Some(0);
     };
-    confirmed_of(rest)?.checked_add(confirmed_in(reports.as_slice()) as u64)
-}
-
-fn rejected_of(all: &[List<Report>]) -> Option<u64>
-    ensures { IfSome result (λ n. n ≡ count_in is_rejected all.now) }
-{
-    let Some((reports, rest)) = all.split_first() else {
-        return Some(0);
-    };
-    rejected_of(rest)?.checked_add(rejected_in(reports.as_slice()) as u64)
-}
-
-fn refused_of(all: &[List<Report>]) -> Option<u64>
-    ensures { IfSome result (λ n. n ≡ count_in is_refused all.now) }
-{
-    let Some((reports, rest)) = all.split_first() else {
-        return Some(0);
-    };
-    refused_of(rest)?.checked_add(refused_in(reports.as_slice()) as u64)
+    count_over(told, rest)?.checked_add(count_in(told, reports.as_slice()) as u64)
 }
 
 /// The numbers that end the text of a run, where they are numbers of 64 bits.
@@ -127,9 +77,9 @@ pub fn summary_of(
     Some(Summary {
         resumed: resumed_count(shape, entry),
         batches: batches_of(shape, entry, exit)?,
-        confirmed: confirmed_of(all)?,
-        rejected: rejected_of(all)?,
-        refused: refused_of(all)?,
+        confirmed: count_over(Told::Confirmed, all)?,
+        rejected: count_over(Told::Rejected, all)?,
+        refused: count_over(Told::Refused, all)?,
         unspent,
     })
 }

@@ -20,7 +20,7 @@ pub fn added<'a>(old: &[Record], now: &'a [Record]) -> &'a [Record]
 }
 
 /// Where a search among batches came to: the place, or how many more of the batches behind are to be passed.
-#[derive(Clone, Copy, Debug)]
+#[derive(Clone, Copy)]
 pub enum Search {
     Found(BatchId, usize),
     Past(usize),
@@ -54,14 +54,7 @@ fn find_by(lane: LaneId, r: &Record, q: usize) -> Search
                 Search::Past(q - txs.len())
             }
         }
-        Record::Genesis { .. } => Search::Past(q),
-        Record::Lock { .. } => Search::Past(q),
-        Record::Finish { .. } => Search::Past(q),
-        Record::Forget { .. } => Search::Past(q),
-        Record::Start { .. } => Search::Past(q),
-        Record::Commit { .. } => Search::Past(q),
-        Record::Discard { .. } => Search::Past(q),
-        Record::Done { .. } => Search::Past(q),
+        _ => Search::Past(q),
     }
 }
 
@@ -116,14 +109,7 @@ fn prepares_in(lane: LaneId, records: &[Record]) -> usize
                 behind
             }
         }
-        Record::Genesis { .. } => behind,
-        Record::Lock { .. } => behind,
-        Record::Finish { .. } => behind,
-        Record::Forget { .. } => behind,
-        Record::Start { .. } => behind,
-        Record::Commit { .. } => behind,
-        Record::Discard { .. } => behind,
-        Record::Done { .. } => behind,
+        _ => behind,
     }
 }
 

@@ -2,7 +2,7 @@
 use cbdc_types::{FinishCall, ForgetCall, LockCall, NodeId, Record};
 
 /// A call at a shard.
-#[derive(Debug, Drop)]
+#[derive(Drop)]
 pub enum ShardCall {
     Lock(LockCall),
     Finish(FinishCall),
@@ -10,7 +10,7 @@ pub enum ShardCall {
 }
 
 /// What may happen at a node.
-#[derive(Debug, Drop)]
+#[derive(Drop)]
 pub enum Event {
     /// A record is begun: it is in flight.
     Begin(NodeId, Record),

@@ -8,11 +8,11 @@ ghost use Rattle.cbdc_model.specs.After.{FitsReplies, Follows, After};
 ghost use Rattle.plain_check.specs.Slots.{phase_in};
 
 use crate::copying::entries_in;
-use crate::grammar::is_in_grammar;
 use crate::records::{last_stamp, lock_of, txs_of};
 use crate::replying::replies_of;
 use crate::slots::{Phase, slot_of};
 use cbdc_types::{Answered, BatchId, Header, Record, Stamp};
+use record_grammar::is_in_grammar;
 use same_records::{are_answered, home_of, is_held};
 use std::alloc::{AllocError, Global};
 

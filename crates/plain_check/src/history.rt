@@ -12,7 +12,7 @@ use std::alloc::{AllocError, Global};
 use std::marker::Model;
 
 /// A record with its node. Contracts see the definitions' row.
-#[derive(Clone, Debug, Drop)]
+#[derive(Drop)]
 pub struct Row {
     pub node: NodeId,
     pub what: Record,
@@ -49,25 +49,36 @@ pub fn is_ordered(rows: &[Row]) -> bool
 }
 
 // Puts a node's records behind those so far.
-fn add_journal(node: NodeId, rows: &[Row], out: &mut Vec<Record>) -> Result<(), AllocError>
+fn add_journal(node: usize, rows: &[Row], out: &mut Vec<Record>) -> Result<(), AllocError>
     ensures { OnOk result (out.new.items ≡ out.old.items ++ journal node rows.now) }
 {
     let Some((row, past)) = rows.split_first() else {
         return Ok(());
     };
-    if row.node.0 == node.0 {
+    if row.node.0 as usize == node {
         out.push(copy_of_record(&row.what)?)?;
     }
     add_journal(node, past, out)
+}
+
+/// The journal, newest first, of the node with a number, of a history.
+pub fn journal_at_number(
+    alloc: Global,
+    node: usize,
+    rows: &[Row],
+) -> Result<List<Record>, AllocError>
+    ensures { IfOk result (λ l. l ≡ journal node rows.now) }
+{
+    let mut out = Vec::new(alloc);
+    add_journal(node, rows, &mut out)?;
+    Ok(List::from_vec(out))
 }
 
 /// A node's journal, newest first, of a history.
 pub fn journal_of(alloc: Global, node: NodeId, rows: &[Row]) -> Result<List<Record>, AllocError>
     ensures { IfOk result (λ l. l ≡ journal node rows.now) }
 {
-    let mut out = Vec::new(alloc);
-    add_journal(node, rows, &mut out)?;
-    Ok(List::from_vec(out))
+    journal_at_number(alloc, node.0 as usize, rows)
 }
 
 // Puts those of the transactions that are committed behind those so far.

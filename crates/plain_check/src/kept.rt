@@ -4,10 +4,11 @@ ghost use Rattle.cbdc_model.specs.Records.{journal};
 ghost use Rattle.cbdc_model.specs.After.{After};
 ghost use Rattle.cbdc_model.specs.History.{starts, geneses, first_rows, header_of, IsSteady, TxsPass, IsKept};
 ghost use Rattle.cbdc_model.specs.Clean.{IsProperCompact};
+ghost use Rattle.cbdc_model.specs.Coins.{compact, genesis_tx};
 ghost use Rattle.plain_check.specs.Minting.{compact_mint};
 
 use crate::proper::passes;
-use crate::{Row, is_after, is_caused_at, journal_of};
+use crate::{Row, copy_of_record, is_after, is_caused_at, journal_of};
 use cbdc_types::{CompactTx, FullTx, Hash, Header, List, NodeId, Output, Record, Shape};
 use compact_tx::{compact, genesis_tx};
 use same_records::hashes_on;
@@ -17,7 +18,10 @@ use std::alloc::{AllocError, Global};
 pub fn copy_of_row(row: &Row) -> Result<Row, AllocError>
     ensures { IfOk result (λ t. t ≡ row.now) }
 {
-    row.clone()
+    Ok(Row {
+        node: row.node,
+        what: copy_of_record(&row.what)?,
+    })
 }
 
 /// Puts copies of rows behind those so far.
@@ -39,6 +43,14 @@ pub fn rows_on(alloc: Global, later: &[Row], first: &[Row]) -> Result<List<Row>,
     add_rows(later, &mut out)?;
     add_rows(first, &mut out)?;
     Ok(List::from_vec(out))
+}
+
+/// The compact transaction of a mint.
+pub fn minted_of(alloc: Global, mint: &[Output]) -> Result<CompactTx, AllocError>
+    ensures { IfOk result (λ t. t ≡ compact (genesis_tx mint.now)) }
+{
+    let whole = genesis_tx(alloc, mint)?;
+    compact(alloc, &whole)
 }
 
 // The header of a node's journal.
@@ -102,6 +114,19 @@ pub fn first_rows(alloc: Global, shape: &Shape, mint: &CompactTx) -> Result<List
     Ok(List::from_vec(out))
 }
 
+/// Rows on top of a ledger's first ones, by its mint as a compact transaction.
+pub fn on_first(
+    alloc: Global,
+    shape: &Shape,
+    mint: &CompactTx,
+    later: &[Row],
+) -> Result<List<Row>, AllocError>
+    ensures { IfOk result (λ l. l ≡ later.now ++ first_rows shape.now (compact_mint mint.now)) }
+{
+    let first = first_rows(alloc, shape, mint)?;
+    rows_on(alloc, later, first.as_slice())
+}
+
 // Whether a row may come on top of a history: it follows its node's journal, and its transactions pass.
 fn may_come(
     alloc: Global,
@@ -161,8 +186,7 @@ pub fn is_kept(
 ) -> Result<bool, AllocError>
     ensures { IfOk result (λ yes. IsTrue yes ↔ IsKept shape.now mint.now submissions.now later.now) }
 {
-    let whole = genesis_tx(alloc, mint)?;
-    let minted = compact(alloc, &whole)?;
-    let first = first_rows(alloc, shape, &minted)?;
-    is_steady(alloc, shape, &minted, submissions, first.as_slice(), later)
+    let own = minted_of(alloc, mint)?;
+    let first = first_rows(alloc, shape, &own)?;
+    is_steady(alloc, shape, &own, submissions, first.as_slice(), later)
 }

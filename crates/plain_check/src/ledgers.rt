@@ -1,5 +1,5 @@
 // Whether journals have a kept history.
-ghost use Rattle.std.specs.Prelude.{◌≡◌, ◌↔◌, ◌++◌, ◌<◌, ◌≤◌, ◌^◌, ℕ, List as Items, [], length, Some, IsTrue, IfOk, IfSome, OnOk};
+ghost use Rattle.std.specs.Prelude.{◌≡◌, ◌↔◌, ◌++◌, ◌<◌, ◌≤◌, ℕ, List as Items, [], length, Some, IsTrue, IfOk, IfSome, OnOk};
 ghost use Rattle.cbdc_model.specs.Records.{Row as ModelRow, journal};
 ghost use Rattle.cbdc_model.specs.History.{minted, first_rows, history_of};
 ghost use Rattle.cbdc_model.specs.World.{IsHistory, KeptJournals};
@@ -8,17 +8,16 @@ ghost use Rattle.plain_check.specs.Histories.{AreOnNodes, IsWholeHistory};
 ghost use Rattle.plain_check.specs.Merging.{put_row, put_records, behind_first, later_below};
 ghost use Rattle.plain_check.specs.Minting.{compact_mint};
 
-use crate::kept::{add_rows, copy_of_row, first_rows, is_kept, rows_on};
-use crate::{Row, copy_of_record, goes_above, is_ordered, journal_at, journal_of};
+use crate::history::journal_at_number;
+use crate::kept::{add_rows, copy_of_row, is_kept, minted_of, on_first};
+use crate::{Row, copy_of_record, goes_above, is_ordered, journal_at};
 use cbdc_types::{CompactTx, FullTx, List, NodeId, Output, Record, Shape};
-use compact_tx::{compact, genesis_tx};
 use same_records::is_journal;
 use std::alloc::{AllocError, Global};
 
 // The number of a row's node.
 fn number_of(row: &Row) -> usize
-    ensures value { result ≡ row.now.node }
-    ensures bound { result < 2 ^ 32 }
+    ensures { result ≡ row.now.node }
 {
     row.node.0 as usize
 }
@@ -33,17 +32,6 @@ fn are_below(rows: &[Row], n: usize) -> bool
     }
 }
 
-// No row is of a node past the numbers of 32 bits.
-#[tactic(auto, using(crate::proofs::Belows::numbered_more))]
-fn are_numbered(rows: &[Row])
-    ensures { (k : ℕ) → 2 ^ 32 ≤ k → journal k rows.now ≡ [] }
-{
-    if let Some((row, past)) = rows.split_first() {
-        let _number = number_of(row);
-        are_numbered(past);
-    }
-}
-
 // Whether a node has this journal in the rows.
 fn is_journal_of(
     alloc: Global,
@@ -53,16 +41,8 @@ fn is_journal_of(
 ) -> Result<bool, AllocError>
     ensures { IfOk result (λ yes. IsTrue yes ↔ (journal node rows.now ≡ given.now)) }
 {
-    match u32::try_from(node) {
-        Ok(number) => {
-            let own = journal_of(alloc, NodeId(number), rows)?;
-            Ok(is_journal(own.as_slice(), given))
-        }
-        Err(_) => {
-            are_numbered(rows);
-            Ok(given.is_empty())
-        }
-    }
+    let own = journal_at_number(alloc, node, rows)?;
+    Ok(is_journal(own.as_slice(), given))
 }
 
 // Whether the nodes below n have these journals in the rows.
@@ -100,8 +80,7 @@ pub fn is_history(
     if !is_ordered(later) {
         return Ok(false);
     }
-    let first = first_rows(alloc, shape, mint)?;
-    let rows = rows_on(alloc, later, first.as_slice())?;
+    let rows = on_first(alloc, shape, mint, later)?;
     if !are_below(rows.as_slice(), journals.len()) {
         return Ok(false);
     }
@@ -217,14 +196,27 @@ pub fn history_of(
         → IsHistory shape.now (minted mint.now) (journals_in journals.now) later
         → AreOnNodes shape.now (journals_in journals.now) → o ≡ Some (history_of shape.now mint.now later)) }
 {
-    let whole = genesis_tx(alloc, mint)?;
-    let minted = compact(alloc, &whole)?;
-    let Some(later) = later_of(alloc, shape, &minted, journals)? else {
+    let own = minted_of(alloc, mint)?;
+    let Some(later) = later_of(alloc, shape, &own, journals)? else {
         return Ok(None);
     };
-    let first = first_rows(alloc, shape, &minted)?;
-    let rows = rows_on(alloc, later.as_slice(), first.as_slice())?;
+    let rows = on_first(alloc, shape, &own, later.as_slice())?;
     Ok(Some(rows))
+}
+
+// Whether rows on top of the first ones of a mint's ledger are the history of these journals.
+fn is_history_of(
+    alloc: Global,
+    shape: &Shape,
+    mint: &[Output],
+    journals: &[List<Record>],
+    later: &[Row],
+) -> Result<bool, AllocError>
+    ensures { IfOk result (λ yes. IsTrue yes
+        ↔ IsHistory shape.now (minted mint.now) (journals_in journals.now) later.now) }
+{
+    let own = minted_of(alloc, mint)?;
+    is_history(alloc, shape, &own, journals, later)
 }
 
 /// Whether journals, of which the newest record is the first, have a kept history: their records by stamp and node, each
@@ -240,10 +232,8 @@ pub fn is_kept_ledger(
     ensures { IfOk result (λ yes. IsTrue yes
         ↔ KeptJournals shape.now mint.now submissions.now (journals_in journals.now)) }
 {
-    let whole = genesis_tx(alloc, mint)?;
-    let minted = compact(alloc, &whole)?;
     let later = later_below(alloc, journals, shape.node_count())?;
-    if !is_history(alloc, shape, &minted, journals, later.as_slice())? {
+    if !is_history_of(alloc, shape, mint, journals, later.as_slice())? {
         return Ok(false);
     }
     is_kept(alloc, shape, mint, submissions, later.as_slice())

@@ -5,8 +5,9 @@
 //!   alike; what a run adds to the journals, wave after wave (all journals that those at exit may have been once are tried); the whole ledger as
 //!   a value, with what may happen to its nodes in any order; and what each command prints.
 //! - Tested in `journal_rows`, on worked examples whose numbers come from the rules of these documents and not from the program. Ids, compact
-//!   forms, shard numbers and a sentinel's first refusal these rows take from the program itself (`compact_tx`, `shard_ranges`, `sentinel`), whose
-//!   contracts are the definitions.
+//!   forms, shard numbers, stamps, what is in the grammar and a sentinel's first refusal these rows take from the program itself (`compact_tx`,
+//!   `shard_ranges`, `audit`, `record_grammar`, `sentinel`), whose contracts are the definitions. Proper is what a sentinel lets pass to which all
+//!   witnesses are good: by a law of `run_laws`, just what the definition says.
 //! - `World::step`, `World::run`: Tested in `journal_rows` (`worlds.rows`).
 //! - That each command prints the text computed here is a promise of `process`; of `gen` these are the numbers that end a run and those of an
 //!   audit. What is computed of texts is tested in `journal_rows` and `piece_rows`.
@@ -31,7 +32,6 @@ mod deciding;
 mod event_causes;
 mod events;
 mod following;
-mod grammar;
 mod handed;
 mod history;
 mod kept;
@@ -65,7 +65,6 @@ mod worlds;
 
 pub use adding::adds;
 pub use adding::are_idle;
-pub use adding::batch_of;
 pub use adding::has_grown;
 pub use agreeing::agree;
 pub use agreeing::coins_agree;
@@ -76,6 +75,7 @@ pub use books::coins_of;
 pub use books::count_of_book;
 pub use books::fold_of;
 pub use books::genesis_book;
+pub use books::minted_coins;
 pub use books::output_at;
 pub use books::put_all;
 pub use books::spend;
@@ -112,18 +112,6 @@ pub use events::ShardCall;
 pub use following::fits_replies;
 pub use following::follows;
 pub use following::is_after;
-pub use grammar::are_here;
-pub use grammar::is_batch_of;
-pub use grammar::is_compact;
-pub use grammar::is_early;
-pub use grammar::is_entry_of;
-pub use grammar::is_hash_list;
-pub use grammar::is_in_grammar;
-pub use grammar::is_later;
-pub use grammar::is_outcome_of;
-pub use grammar::is_reply_of;
-pub use grammar::is_shard;
-pub use grammar::rises_from;
 pub use handed::committed_of;
 pub use handed::first_with;
 pub use history::Row;
@@ -158,6 +146,7 @@ pub use prepares::pieces_of;
 pub use prepares::prepared_of;
 pub use proper::is_proper;
 pub use proper::is_proper_compact;
+pub use records::batch_of;
 pub use records::has;
 pub use records::is_in_lane;
 pub use records::is_of;
@@ -190,7 +179,6 @@ pub use stages::Stage;
 pub use stages::are_stages;
 pub use stages::is_file_run;
 pub use stages::is_resumed;
-pub use standing::are_on_nodes;
 pub use standing::is_caused_at;
 pub use standing::journals_of;
 pub use status::finished_status;
@@ -203,7 +191,6 @@ pub use telling::fault_line;
 pub use telling::init_text;
 pub use telling::status_text;
 pub use telling::verdict_text;
-pub use unspent::is_unspent;
 pub use unspent::unspent_of;
 pub use waves::are_waves;
 pub use world::World;

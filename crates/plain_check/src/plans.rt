@@ -3,7 +3,7 @@ use cbdc_types::{Refused, Replied, Stamp};
 
 /// What a Lock is answered: the replies kept from before with their stamp, those of a new record with its stamp, or a
 /// refusal.
-#[derive(Debug, Drop)]
+#[derive(Drop)]
 pub enum LockPlan {
     Kept(Replied),
     Append(Replied),
@@ -11,7 +11,7 @@ pub enum LockPlan {
 }
 
 /// What a Finish or a Forget is answered: the stamp kept from before, that of a new record, or a refusal.
-#[derive(Clone, Copy, Debug, PartialEq, Eq)]
+#[derive(Clone, Copy)]
 pub enum StampPlan {
     Kept(Stamp),
     Append(Stamp),

@@ -1,35 +1,23 @@
 // What stands in records, and how one is found. A journal has its newest record first.
-ghost use Rattle.std.specs.Prelude.{◌≡◌, MatchOption};
-ghost use Rattle.cbdc_model.specs.Records.{stamp_of, kind_of, is_of, is_in_lane, record_of, lock_of, txs_of, outcomes_of, last_stamp};
+ghost use Rattle.std.specs.Prelude.{◌≡◌, ◌==◌, ℕ, false, MatchOption};
+ghost use Rattle.cbdc_model.specs.Records.{Batch as ModelBatch, same_batch, stamp_of, kind_of, is_of, is_in_lane, record_of, lock_of, txs_of, outcomes_of, last_stamp};
 ghost use Rattle.cbdc_model.specs.Status.{has};
 
 use cbdc_types::{Answered, BatchId, CompactTx, Hash, LaneId, Outcome, Record, RecordKind, Stamp};
-use same_records::{is_same_batch, is_same_hash};
+use same_records::is_same_batch;
 
 /// A record's stamp: 0 for a first record.
 pub fn stamp_of(r: &Record) -> Stamp
     ensures { result ≡ stamp_of r.now }
 {
-    match r {
-        Record::Genesis { .. } | Record::Start { .. } => Stamp(0),
-        Record::Lock { stamp, .. } => *stamp,
-        Record::Finish { stamp, .. } => *stamp,
-        Record::Forget { stamp, .. } => *stamp,
-        Record::Prepare { stamp, .. } => *stamp,
-        Record::Commit { stamp, .. } => *stamp,
-        Record::Discard { stamp, .. } => *stamp,
-        Record::Done { stamp, .. } => *stamp,
-    }
+    Stamp(audit::stamp_of(r))
 }
 
 /// Whether a hash stands in a list.
 pub fn has(xs: &[Hash], x: &Hash) -> bool
     ensures { result ≡ has xs.now x.now }
 {
-    match xs.split_first() {
-        None => false,
-        Some((first, rest)) => is_same_hash(first, x) || has(rest, x),
-    }
+    xs.contains(x)
 }
 
 /// The kind of a record, as the first byte of its body names it: 1 to 9.
@@ -49,20 +37,32 @@ pub fn kind_of(r: &Record) -> u64
     }
 }
 
+/// The batch of a record, none of a first record.
+pub fn batch_of(r: &Record) -> Option<BatchId>
+    ensures batch { MatchOption result ((b : ModelBatch) → is_of b r.now ≡ false)
+        (λ own. (b : ModelBatch) → is_of b r.now ≡ same_batch own b) }
+    ensures lane { MatchOption result ((lane : ℕ) → is_in_lane lane r.now ≡ false)
+        (λ own. (lane : ℕ) → is_in_lane lane r.now ≡ (own.lane == lane)) }
+{
+    match r {
+        Record::Lock { batch, .. } => Some(*batch),
+        Record::Finish { batch, .. } => Some(*batch),
+        Record::Forget { batch, .. } => Some(*batch),
+        Record::Prepare { batch, .. } => Some(*batch),
+        Record::Commit { batch, .. } => Some(*batch),
+        Record::Discard { batch, .. } => Some(*batch),
+        Record::Done { batch, .. } => Some(*batch),
+        Record::Genesis { .. } | Record::Start { .. } => None,
+    }
+}
+
 /// Whether a record is of this batch.
 pub fn is_of(batch: &BatchId, r: &Record) -> bool
     ensures { result ≡ is_of batch.now r.now }
 {
-    match r {
-        Record::Genesis { .. } => false,
-        Record::Lock { batch: own, .. } => is_same_batch(own, batch),
-        Record::Finish { batch: own, .. } => is_same_batch(own, batch),
-        Record::Forget { batch: own, .. } => is_same_batch(own, batch),
-        Record::Start { .. } => false,
-        Record::Prepare { batch: own, .. } => is_same_batch(own, batch),
-        Record::Commit { batch: own, .. } => is_same_batch(own, batch),
-        Record::Discard { batch: own, .. } => is_same_batch(own, batch),
-        Record::Done { batch: own, .. } => is_same_batch(own, batch),
+    match batch_of(r) {
+        Some(own) => is_same_batch(&own, batch),
+        None => false,
     }
 }
 
@@ -70,16 +70,9 @@ pub fn is_of(batch: &BatchId, r: &Record) -> bool
 pub fn is_in_lane(lane: LaneId, r: &Record) -> bool
     ensures { result ≡ is_in_lane lane r.now }
 {
-    match r {
-        Record::Genesis { .. } => false,
-        Record::Lock { batch, .. } => batch.lane.0 == lane.0,
-        Record::Finish { batch, .. } => batch.lane.0 == lane.0,
-        Record::Forget { batch, .. } => batch.lane.0 == lane.0,
-        Record::Start { .. } => false,
-        Record::Prepare { batch, .. } => batch.lane.0 == lane.0,
-        Record::Commit { batch, .. } => batch.lane.0 == lane.0,
-        Record::Discard { batch, .. } => batch.lane.0 == lane.0,
-        Record::Done { batch, .. } => batch.lane.0 == lane.0,
+    match batch_of(r) {
+        Some(own) => own.lane.0 == lane.0,
+        None => false,
     }
 }
 

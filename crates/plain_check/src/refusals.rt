@@ -7,7 +7,7 @@ use cbdc_types::{FullTx, Hash, List, Refusal};
 use sentinel::{Verdict, Verifier, check};
 
 /// The verdicts on the witnesses of one transaction, by place: Absent past the end.
-#[derive(Debug, Drop)]
+#[derive(Drop)]
 pub struct Listed {
     pub verdicts: List<Verdict>,
 }

@@ -92,12 +92,10 @@ fn record_bytes(r: &Record) -> u64
         Record::Genesis { hashes, .. } => hash_bytes(hashes.len(), 0).saturating_add(106),
         Record::Lock { entries, .. } => answered_sizes(entries.as_slice()).saturating_add(42),
         Record::Finish { decisions, .. } => (decisions.len() as u64).saturating_add(42),
-        Record::Forget { .. } => 34,
         Record::Start { .. } => 98,
         Record::Prepare { txs, .. } => compact_sizes(txs.as_slice()).saturating_add(42),
         Record::Commit { outcomes, .. } => outcome_sizes(outcomes.as_slice()).saturating_add(42),
-        Record::Discard { .. } => 34,
-        Record::Done { .. } => 34,
+        Record::Forget { .. } | Record::Discard { .. } | Record::Done { .. } => 34,
     }
 }
 
@@ -214,13 +212,7 @@ fn need_bytes(shape: &Shape, past: &[Record], r: &Record) -> u64
         Record::Prepare { txs, .. } => own
             .saturating_add(behind_prepare(txs.len()))
             .saturating_add(kept_bytes(shape, past)),
-        Record::Genesis { .. } => own,
-        Record::Finish { .. } => own,
-        Record::Forget { .. } => own,
-        Record::Start { .. } => own,
-        Record::Commit { .. } => own,
-        Record::Discard { .. } => own,
-        Record::Done { .. } => own,
+        _ => own,
     }
 }
 

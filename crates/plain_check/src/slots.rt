@@ -7,7 +7,7 @@ use crate::records::{is_in_lane, stamp_of};
 use cbdc_types::{LaneId, Record, Stamp};
 
 /// What the last record of a lane was: Idle after none, a Forget or a Done.
-#[derive(Clone, Copy, Debug, PartialEq, Eq)]
+#[derive(Clone, Copy, PartialEq, Eq)]
 pub enum Phase {
     Idle,
     InLock,
@@ -18,7 +18,7 @@ pub enum Phase {
 }
 
 /// The number and the kind of a lane's last record.
-#[derive(Clone, Copy, Debug, PartialEq, Eq)]
+#[derive(Clone, Copy)]
 pub struct Slot {
     pub number: u64,
     pub phase: Phase,
@@ -35,8 +35,6 @@ pub fn slot_of(past: &[Record], lane: LaneId) -> Slot
         };
     };
     let (batch, phase) = match r {
-        Record::Genesis { .. } => return slot_of(rest, lane),
-        Record::Start { .. } => return slot_of(rest, lane),
         Record::Lock { batch, .. } => (batch, Phase::InLock),
         Record::Finish { batch, .. } => (batch, Phase::InFinish),
         Record::Forget { batch, .. } => (batch, Phase::Idle),
@@ -44,6 +42,7 @@ pub fn slot_of(past: &[Record], lane: LaneId) -> Slot
         Record::Commit { batch, .. } => (batch, Phase::InCommit),
         Record::Discard { batch, .. } => (batch, Phase::InDiscard),
         Record::Done { batch, .. } => (batch, Phase::Idle),
+        Record::Genesis { .. } | Record::Start { .. } => return slot_of(rest, lane),
     };
     if batch.lane.0 == lane.0 {
         Slot {

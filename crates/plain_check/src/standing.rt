@@ -1,6 +1,5 @@
 // Records at their places of a history.
 ghost use Rattle.std.specs.Prelude.{◌≡◌, ◌+◌, ◌<◌, ◌≤◌, ◌^◌, ◌↔◌, ◌++◌, ℕ, [], IsTrue, IfOk, OnOk};
-ghost use Rattle.std.specs.Bool.{OnTrue};
 ghost use Rattle.cbdc_model.specs.Records.{journal};
 ghost use Rattle.cbdc_model.specs.Causes.{IsCaused};
 ghost use Rattle.plain_check.specs.Journals.{journals_from};
@@ -39,17 +38,6 @@ pub fn journals_of(
     let mut out = Vec::new(alloc);
     add_journals(alloc, rows, 0, shape.node_count(), &mut out)?;
     Ok(List::from_vec(out))
-}
-
-/// Whether all rows are of nodes of this shape: no other node has a journal then.
-pub fn are_on_nodes(shape: &Shape, rows: &[Row]) -> bool
-    ensures { OnTrue result ((n : ℕ) → shape.now.coordinators + shape.now.shards ≤ n
-        → journal n rows.now ≡ []) }
-{
-    match rows.split_first() {
-        None => true,
-        Some((row, past)) => row.node.0 < shape.node_count() && are_on_nodes(shape, past),
-    }
 }
 
 /// Whether a row on top of a history's rows is caused by them: its causes stand before it, it agrees with them, and its

@@ -119,11 +119,6 @@ pub fn status_of(past: &[Record], x: &Hash) -> Status
             let before = status_of(rest, x);
             finished_status(lock_of(rest, batch), decisions.as_slice(), x, before)
         }
-        Record::Forget { .. } => status_of(rest, x),
-        Record::Start { .. } => status_of(rest, x),
-        Record::Prepare { .. } => status_of(rest, x),
-        Record::Commit { .. } => status_of(rest, x),
-        Record::Discard { .. } => status_of(rest, x),
-        Record::Done { .. } => status_of(rest, x),
+        _ => status_of(rest, x),
     }
 }

@@ -1,5 +1,5 @@
 // Which hashes are unspent over all shards.
-ghost use Rattle.std.specs.Prelude.{◌≡◌, ◌≤◌, ◌↔◌, ◌++◌, true, IsTrue, IfOk, OnOk};
+ghost use Rattle.std.specs.Prelude.{◌≡◌, ◌≤◌, ◌↔◌, ◌++◌, true, IfOk, OnOk};
 ghost use Rattle.std.specs.List.{IsDistinct};
 ghost use Rattle.cbdc_model.specs.Records.{Digest, same_digest};
 ghost use Rattle.cbdc_model.specs.Status.{has};
@@ -26,13 +26,6 @@ fn is_unspent_here(journals: &[List<Record>], shape: &Shape, x: &Hash) -> bool
     }
 }
 
-/// Whether a hash is unspent at its shard, by these journals of all nodes.
-pub fn is_unspent(journals: &[List<Record>], shape: &Shape, x: &Hash) -> bool
-    ensures { IsTrue result ↔ IsUnspent shape.now (journals_in journals.now) x.now }
-{
-    is_unspent_here(journals, shape, x)
-}
-
 // Puts the hashes of entries behind those so far.
 fn add_entries(es: &[Answered], out: &mut Vec<Hash>) -> Result<(), AllocError>
     ensures { OnOk result (out.new.items ≡ out.old.items ++ entry_hashes es.now) }
@@ -55,13 +48,7 @@ fn add_named(past: &[Record], out: &mut Vec<Hash>) -> Result<(), AllocError>
     match r {
         Record::Genesis { hashes, .. } => out.extend_from_slice(hashes.as_slice())?,
         Record::Finish { batch, .. } => add_entries(lock_of(rest, batch), out)?,
-        Record::Lock { .. } => {}
-        Record::Forget { .. } => {}
-        Record::Start { .. } => {}
-        Record::Prepare { .. } => {}
-        Record::Commit { .. } => {}
-        Record::Discard { .. } => {}
-        Record::Done { .. } => {}
+        _ => {}
     }
     add_named(rest, out)
 }

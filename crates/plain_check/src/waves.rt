@@ -28,7 +28,7 @@ fn stage_of<V: Verifier>(
 }
 
 // Puts the stages of files behind those so far.
-#[tactic(auto, using(crate::proofs::Staging::no_stages, crate::proofs::Staging::more_stages))]
+#[tactic(auto, using(crate::proofs::Staging::no_stages))]
 fn add_stages<V: Verifier>(
     alloc: Global,
     shape: &Shape,

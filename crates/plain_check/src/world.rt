@@ -13,7 +13,7 @@ use same_records::hashes_on;
 use std::alloc::{AllocError, Global};
 
 /// A ledger of a shape and a mint: its nodes, the coordinators first.
-#[derive(Debug, Drop)]
+#[derive(Drop)]
 pub struct World {
     pub shape: Shape,
     pub genesis: Hash,

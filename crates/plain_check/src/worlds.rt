@@ -12,7 +12,7 @@ use std::marker::Model;
 
 /// A node: its journal, whether it is up, and a record that a fault or a crash may have left or not. Contracts see the
 /// definitions' node.
-#[derive(Debug, Drop)]
+#[derive(Drop)]
 pub struct Node {
     pub journal: List<Record>,
     pub up: bool,

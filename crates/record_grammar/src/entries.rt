@@ -70,7 +70,8 @@ pub(crate) fn places_rise(limit: u32, entries: &[Answered]) -> bool
     true
 }
 
-fn is_compact(t: &CompactTx) -> bool
+/// Whether a Prepare may have this transaction.
+pub fn is_compact(t: &CompactTx) -> bool
     ensures { IsTrue result ↔ IsCompact t.now }
 {
     is_whole(&t.id) && is_hash_list(t.inputs.as_slice()) && is_hash_list(t.outputs.as_slice())

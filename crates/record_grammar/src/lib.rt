@@ -10,4 +10,6 @@ mod limits;
 mod records;
 
 pub use cores::Core;
+pub use entries::is_compact;
+pub use limits::is_batch_of;
 pub use records::is_in_grammar;

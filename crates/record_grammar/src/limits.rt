@@ -18,7 +18,8 @@ pub(crate) fn is_later(stamp: Stamp) -> bool
     1 <= stamp.0 && stamp.0 <= (1 << 62) + (1 << 20)
 }
 
-pub(crate) fn is_batch_of(shape: &Shape, batch: &BatchId) -> bool
+/// Whether a batch is of a lane of this shape, with a number within its limit.
+pub fn is_batch_of(shape: &Shape, batch: &BatchId) -> bool
     ensures { IsTrue result ↔ IsBatchOf shape.now batch.now }
 {
     batch.lane.0 < shape.lane_count() && 1 <= batch.number && batch.number <= 1 << 62

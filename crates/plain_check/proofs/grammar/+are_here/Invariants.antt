@@ -1,5 +1,0 @@
-use Rattle.std.proofs.Common.{length}
-use Rattle.plain_check.proofs.grammar.+are_here.Given as goal
-
-abbrev pub decreases-are_here : goal.decreases-are_here
-decreases-are_here l = length l.xs.now
