@@ -15,32 +15,43 @@ use std::marker::Brand;
 use std::sync::Wait;
 use submissions::Ruling;
 
+// The output of this number, spent.
+fn spent(number: u8) -> Input {
+    Input {
+        point: OutPoint {
+            tx: Hash([number; 32]),
+            index: 0,
+        },
+        output: Output {
+            program: Hash([1; 32]),
+            value: 7,
+        },
+    }
+}
+
+// A list of one, or of none.
+fn at_most_one<T: Drop>(alloc: Global, item: Option<T>) -> Result<List<T>, AllocError> {
+    let mut all = List::new(alloc);
+    if let Some(item) = item {
+        all.push(item)?;
+    }
+    Ok(all)
+}
+
 // A transaction that spends the output of this number, or nothing where there is none.
 fn payment(alloc: Global, number: Option<u8>) -> Result<FullTx, AllocError> {
-    let mut inputs = Vec::new(alloc);
-    let mut outputs = Vec::new(alloc);
-    let mut witnesses = Vec::new(alloc);
-    if let Some(number) = number {
-        inputs.push(Input {
-            point: OutPoint {
-                tx: Hash([number; 32]),
-                index: 0,
-            },
-            output: Output {
-                program: Hash([1; 32]),
-                value: 7,
-            },
-        })?;
-        witnesses.push(List::new(alloc))?;
-    }
-    outputs.push(Output {
+    let (input, witness) = match number {
+        Some(number) => (Some(spent(number)), Some(List::new(alloc))),
+        None => (None, None),
+    };
+    let made = Output {
         program: Hash([2; 32]),
         value: 7,
-    })?;
+    };
     Ok(FullTx {
-        inputs: List::from_vec(inputs),
-        outputs: List::from_vec(outputs),
-        witnesses: List::from_vec(witnesses),
+        inputs: at_most_one(alloc, input)?,
+        outputs: at_most_one(alloc, Some(made))?,
+        witnesses: at_most_one(alloc, witness)?,
     })
 }
 
@@ -140,7 +151,64 @@ fn passes<R: Wait, V: Verifier, F: Deals>(
     Ok(gate.passed())
 }
 
-// Whether the messages of each lane come, of one or of two, and whether the lane gets the two sound ones, with them and without.
+// Whether the messages of a lane are of these places.
+fn is_sent<R: Wait, V: Verifier, F: Deals>(
+    rt: &R,
+    alloc: Global,
+    shape: &Shape,
+    file: &FileOf<'_, V, F>,
+    lane: LaneId,
+    places: &[usize],
+) -> Result<bool, AllocError> {
+    let messages = sent(rt, alloc, shape, file, lane, true)?;
+    Ok(come(rt, &messages, places))
+}
+
+// Whether the messages of each lane come, of one or of two.
+fn all_come<R: Wait, V: Verifier, F: Deals>(
+    rt: &R,
+    alloc: Global,
+    shape: &Shape,
+    file: &FileOf<'_, V, F>,
+) -> Result<bool, AllocError> {
+    if shape.lane_count() == 1 {
+        return is_sent(rt, alloc, shape, file, LaneId(0), &[0, 1, 2]);
+    }
+    let first = is_sent(rt, alloc, shape, file, LaneId(0), &[0, 2])?;
+    let second = is_sent(rt, alloc, shape, file, LaneId(1), &[1])?;
+    Ok(first && second)
+}
+
+// All that a lane gets whose sentinel sends, or is dropped before its first message.
+fn received<R: Wait, V: Verifier, F: Deals>(
+    rt: &R,
+    alloc: Global,
+    shape: &Shape,
+    file: &FileOf<'_, V, F>,
+    starts: bool,
+) -> Result<Vec<CompactTx>, AllocError>
+    requires { 0 < file.now }
+{
+    let messages = sent(rt, alloc, shape, file, LaneId(0), starts)?;
+    given(rt, alloc, file, Ahead::Sent(messages))
+}
+
+// Whether the lane gets the two sound ones, with a sentinel that sends, with one that was dropped, and with none.
+fn are_same<R: Wait, V: Verifier, F: Deals>(
+    rt: &R,
+    alloc: Global,
+    shape: &Shape,
+    file: &FileOf<'_, V, F>,
+) -> Result<bool, AllocError>
+    requires { 0 < file.now }
+{
+    let alone = given(rt, alloc, file, Ahead::Nothing)?;
+    let with = received(rt, alloc, shape, file, true)?;
+    let without = received(rt, alloc, shape, file, false)?;
+    Ok(alone.len() == 2 && with == alone && without == alone)
+}
+
+// What comes of the messages of each lane, of what the first lane gets, and of its sentinel.
 fn tried<R: Wait, V: Verifier, F: Deals>(
     rt: &R,
     alloc: Global,
@@ -153,26 +221,11 @@ fn tried<R: Wait, V: Verifier, F: Deals>(
     requires shape { F.shape ≡ shape.now }
 {
     let file: FileOf<'_, V, F> = FileOf::new(txs, verifier, shape.lane_count());
-    let first = sent(rt, alloc, shape, &file, LaneId(0), true)?;
-    let comes = if shape.lane_count() == 1 {
-        come(rt, &first, &[0, 1, 2])
-    } else {
-        let second = sent(rt, alloc, shape, &file, LaneId(1), true)?;
-        come(rt, &first, &[0, 2]) && come(rt, &second, &[1])
-    };
-    let with = sent(rt, alloc, shape, &file, LaneId(0), true)?;
-    let without = sent(rt, alloc, shape, &file, LaneId(0), false)?;
-    let alone = given(rt, alloc, &file, Ahead::Nothing)?;
-    let with = given(rt, alloc, &file, Ahead::Sent(with))?;
-    let without = given(rt, alloc, &file, Ahead::Sent(without))?;
-    let is_same = alone.len() == 2 && with == alone && without == alone;
-    let kept = passes(rt, alloc, shape, &file, false)?;
-    let let_go = passes(rt, alloc, shape, &file, true)?;
     Ok(Fed {
-        comes,
-        is_same,
-        kept,
-        let_go,
+        comes: all_come(rt, alloc, shape, &file)?,
+        is_same: are_same(rt, alloc, shape, &file)?,
+        kept: passes(rt, alloc, shape, &file, false)?,
+        let_go: passes(rt, alloc, shape, &file, true)?,
     })
 }
 

@@ -8,6 +8,7 @@ mod feeding;
 mod frozen;
 mod gates;
 mod lanes;
+mod opening;
 mod phases;
 mod rows;
 mod shards;

@@ -1,13 +1,13 @@
 // The lock calls of a phase at three shards, made at once.
 use crate::gates::RowGate;
+use crate::opening::{only, opened};
 use cbdc_types::{
-    BatchId, Entry, Hash, Header, LaneId, List, LockCall, NodeFault, NodeId, Record, Replied,
-    Reply, Shape, Stamp,
+    BatchId, Entry, Hash, Header, LaneId, List, LockCall, NodeFault, NodeId, Replied, Reply, Shape,
+    Stamp,
 };
 use mem_devices::PlainDisk;
 use node_ports::NodeShard;
 use port_sets::lock_at_once;
-use rack_ledgers::{Wrote, write_first};
 use shard_node::{ShardNode, is_lock_call};
 use std::alloc::Global;
 use std::sync::Wait;
@@ -29,41 +29,29 @@ fn has(shard: &ShardNode<PlainDisk>, records: usize) -> bool {
     shard.records().len() == records
 }
 
-fn only<T: Drop>(alloc: Global, item: T) -> Option<List<T>> {
-    let mut list = List::new(alloc);
-    match list.push(item) {
-        Ok(()) => Some(list),
-        Err(_) => None,
-    }
-}
-
 // A shard of three, which has one coin, on a disk of this size.
-fn opened(alloc: Global, node: u32, coin: u8, size: usize) -> Option<ShardNode<PlainDisk>> {
+fn shard_of(alloc: Global, node: u32, coin: u8, size: usize) -> Option<ShardNode<PlainDisk>> {
     let header = Header {
         node: NodeId(node),
         shape: Shape::new(3, 1, 1, 16).ok()?,
         genesis: Hash([0; 32]),
     };
-    let hashes = only(alloc, Hash([coin; 32]))?;
-    let Ok(disk) = PlainDisk::new(alloc, size) else {
-        return None;
-    };
-    let first = Record::Genesis { header, hashes };
-    let Wrote { disk, result: _ } = write_first(alloc, disk, &first, &header);
-    match ShardNode::open(alloc, disk) {
-        Ok(node) => Some(node),
-        Err(_) => None,
-    }
+    opened(alloc, header, Hash([coin; 32]), size)
 }
 
-// A Lock of one entry, which spends the coin.
-fn call_of(alloc: Global, coin: u8) -> Option<LockCall> {
-    let entry = Entry {
+// An entry that spends the coin.
+fn entry_of(alloc: Global, coin: u8) -> Option<Entry> {
+    Some(Entry {
         place: 0,
         id: Hash([9; 32]),
         inputs: only(alloc, Hash([coin; 32]))?,
         outputs: List::new(alloc),
-    };
+    })
+}
+
+// A Lock of one entry, which spends the coin.
+fn call_of(alloc: Global, coin: u8) -> Option<LockCall> {
+    let entry = entry_of(alloc, coin)?;
     Some(LockCall {
         batch: BatchId {
             lane: LaneId(0),
@@ -97,17 +85,17 @@ fn is_full(answer: &Result<Replied, NodeFault>) -> bool {
     }
 }
 
-// What three shards answer to lock calls that are made at once: each about the coin that it began with, the third about another.
+// What three shards answer to these lock calls, made at once.
 fn ask_three<R: Threads + Wait + Sync>(
     rt: &R,
     alloc: Global,
     one: &mut ShardNode<PlainDisk>,
     two: &mut ShardNode<PlainDisk>,
     three: &mut ShardNode<PlainDisk>,
+    low: LockCall,
+    middle: LockCall,
+    high: LockCall,
 ) -> Option<Vec<Result<Replied, NodeFault>>> {
-    let low = call_of(alloc, COINS[0])?;
-    let middle = call_of(alloc, COINS[1])?;
-    let high = call_of(alloc, ABSENT)?;
     if !is_lock_call(one.header(), &low)
         || !is_lock_call(two.header(), &middle)
         || !is_lock_call(three.header(), &high)
@@ -150,6 +138,20 @@ fn ask_three<R: Threads + Wait + Sync>(
     Some(answers)
 }
 
+// What three shards answer to lock calls that are made at once: each about the coin that it began with, the third about another.
+fn ask_about<R: Threads + Wait + Sync>(
+    rt: &R,
+    alloc: Global,
+    one: &mut ShardNode<PlainDisk>,
+    two: &mut ShardNode<PlainDisk>,
+    three: &mut ShardNode<PlainDisk>,
+) -> Option<Vec<Result<Replied, NodeFault>>> {
+    let low = call_of(alloc, COINS[0])?;
+    let middle = call_of(alloc, COINS[1])?;
+    let high = call_of(alloc, ABSENT)?;
+    ask_three(rt, alloc, one, two, three, low, middle, high)
+}
+
 // Whether these are held, full and missing, in this order.
 fn are_told(answers: &[Result<Replied, NodeFault>]) -> bool {
     let [first, second, third] = answers else {
@@ -165,10 +167,10 @@ fn third_is_missing<R: Threads + Wait + Sync>(
     one: &mut ShardNode<PlainDisk>,
     two: &mut ShardNode<PlainDisk>,
 ) -> bool {
-    let Some(mut three) = opened(alloc, 3, COINS[2], ROOMY) else {
+    let Some(mut three) = shard_of(alloc, 3, COINS[2], ROOMY) else {
         return false;
     };
-    match ask_three(rt, alloc, one, two, &mut three) {
+    match ask_about(rt, alloc, one, two, &mut three) {
         Some(answers) => are_told(answers.as_slice()) && has(&three, 2),
         None => false,
     }
@@ -180,7 +182,7 @@ fn second_is_narrow<R: Threads + Wait + Sync>(
     alloc: Global,
     one: &mut ShardNode<PlainDisk>,
 ) -> bool {
-    let Some(mut two) = opened(alloc, 2, COINS[1], NARROW) else {
+    let Some(mut two) = shard_of(alloc, 2, COINS[1], NARROW) else {
         return false;
     };
     third_is_missing(rt, alloc, one, &mut two) && has(&two, 1)
@@ -189,7 +191,7 @@ fn second_is_narrow<R: Threads + Wait + Sync>(
 /// The lock calls of a phase at three shards, made at once: the first has the coin, the second no room for its Lock, the third not the coin. Whether
 /// the answers stand in the order of the shards, each its own, and the first and the third have their Lock, and the second none.
 pub fn second_is_full<R: Threads + Wait + Sync>(rt: &R, alloc: Global) -> Option<bool> {
-    let mut one = opened(alloc, 1, COINS[0], ROOMY)?;
+    let mut one = shard_of(alloc, 1, COINS[0], ROOMY)?;
     Some(second_is_narrow(rt, alloc, &mut one) && has(&one, 2))
 }
 
@@ -225,6 +227,6 @@ fn is_silent<R: Threads + Wait + Sync>(
 
 /// A phase of no call, made at once. Whether nothing is answered, and each shard has its Genesis alone.
 pub fn asks_none<R: Threads + Wait + Sync>(rt: &R, alloc: Global) -> Option<bool> {
-    let mut one = opened(alloc, 1, COINS[0], ROOMY)?;
+    let mut one = shard_of(alloc, 1, COINS[0], ROOMY)?;
     Some(is_silent(rt, alloc, &mut one) && has(&one, 1))
 }

@@ -6,15 +6,14 @@ ghost use Rattle.node_lock.specs.Seats.{knows, opening_of, IsSeatOf};
 use crate::frozen::Frozen;
 use crate::gates::RowGate;
 use crate::lanes::point_of;
+use crate::opening::{only, opened};
 use cbdc_types::{
-    BatchId, Entry, FinishCall, Hash, Header, LaneId, List, LockCall, NodeId, Record, Shape, Stamp,
-    Status,
+    BatchId, Entry, FinishCall, Hash, Header, LaneId, LockCall, NodeId, Shape, Stamp, Status,
 };
 use mem_devices::PlainDisk;
 use node_lock::{Guarded, Seat};
 use outside::When;
 use port_sets::{Shard, ShardAnswer, ShardAsk, ShardCall, ShardReply, SharedShard};
-use rack_ledgers::{Wrote, write_first};
 use shard_node::{ShardNode, is_finish_call, is_lock_call};
 use std::alloc::Global;
 use std::sync::Wait;
@@ -57,31 +56,48 @@ struct Spent<S: Shard> {
     behind: Status,
 }
 
-fn only<T: Drop>(alloc: Global, item: T) -> Option<List<T>> {
-    let mut list = List::new(alloc);
-    match list.push(item) {
-        Ok(()) => Some(list),
-        Err(_) => None,
-    }
-}
-
 // The shard, which has the coin.
-fn opened(alloc: Global) -> Option<ShardNode<PlainDisk>> {
+fn opened_shard(alloc: Global) -> Option<ShardNode<PlainDisk>> {
     let header = Header {
         node: NodeId(1),
         shape: Shape::new(1, 1, 2, 16).ok()?,
         genesis: Hash([0; 32]),
     };
-    let hashes = only(alloc, COIN)?;
-    let Ok(disk) = PlainDisk::new(alloc, 1000) else {
-        return None;
-    };
-    let first = Record::Genesis { header, hashes };
-    let Wrote { disk, result: _ } = write_first(alloc, disk, &first, &header);
-    match ShardNode::open(alloc, disk) {
-        Ok(node) => Some(node),
-        Err(_) => None,
-    }
+    opened(alloc, header, COIN, 1000)
+}
+
+// The transaction that spends the coin, and makes the other one where it is committed.
+fn entry(alloc: Global) -> Option<Entry> {
+    let inputs = only(alloc, COIN)?;
+    Some(Entry {
+        place: 0,
+        id: Hash([9; 32]),
+        inputs,
+        outputs: only(alloc, MADE)?,
+    })
+}
+
+// The Lock of a batch of that transaction.
+fn lock_of(alloc: Global, batch: BatchId) -> Option<LockCall>
+    ensures { IfSome result (λ c. c.batch.lane ≡ batch.lane) }
+{
+    let own = entry(alloc)?;
+    Some(LockCall {
+        batch,
+        part: only(alloc, own)?,
+        cause: Stamp(1),
+    })
+}
+
+// The Finish of that batch.
+fn finish_of(alloc: Global, batch: BatchId, committed: bool) -> Option<FinishCall>
+    ensures { IfSome result (λ c. c.batch.lane ≡ batch.lane) }
+{
+    Some(FinishCall {
+        batch,
+        decisions: only(alloc, committed)?,
+        cause: Stamp(3),
+    })
 }
 
 // The calls of a batch whose one transaction spends the coin, and makes the other one where it is committed.
@@ -90,23 +106,11 @@ fn calls_of(alloc: Global, lane: LaneId, committed: bool) -> Option<Calls>
     ensures finish { IfSome result (λ c. c.finish.batch.lane ≡ lane) }
 {
     let batch = BatchId { lane, number: 1 };
-    let entry = Entry {
-        place: 0,
-        id: Hash([9; 32]),
-        inputs: only(alloc, COIN)?,
-        outputs: only(alloc, MADE)?,
-    };
-    let lock = LockCall {
-        batch,
-        part: only(alloc, entry)?,
-        cause: Stamp(1),
-    };
-    let finish = FinishCall {
-        batch,
-        decisions: only(alloc, committed)?,
-        cause: Stamp(3),
-    };
-    Some(Calls { lock, finish })
+    let lock = lock_of(alloc, batch)?;
+    Some(Calls {
+        lock,
+        finish: finish_of(alloc, batch, committed)?,
+    })
 }
 
 fn is_done(reply: &ShardReply) -> bool {
@@ -239,6 +243,22 @@ fn at_shard<R: Threads + Wait + Sync, S: Shard + Send + Drop>(
     })
 }
 
+// Both lanes at a shard, where it may be asked so.
+fn asked<R: Threads + Wait + Sync, S: Shard + Send + Drop>(
+    rt: &R,
+    alloc: Global,
+    node: S,
+    calls: &Calls,
+) -> Option<Told>
+    requires lock { calls.now.lock.batch.lane ≡ 0 }
+    requires finish { calls.now.finish.batch.lane ≡ 0 }
+{
+    if !is_lock_call(node.header(), &calls.lock) || !is_finish_call(node.header(), &calls.finish) {
+        return None;
+    }
+    at_shard(rt, alloc, node, calls)
+}
+
 /// A lane locks a part and finishes it while another looks. Whether the coin that is made is absent before the Finish, and unspent behind it:
 /// for the lane that made it at once, and for the other behind the join.
 pub fn shows_output<R: Threads + Wait + Sync>(
@@ -247,11 +267,8 @@ pub fn shows_output<R: Threads + Wait + Sync>(
     committed: bool,
 ) -> Option<bool> {
     let calls = calls_of(alloc, ONE, committed)?;
-    let node = opened(alloc)?;
-    if !is_lock_call(node.header(), &calls.lock) || !is_finish_call(node.header(), &calls.finish) {
-        return None;
-    }
-    let told = at_shard(rt, alloc, node, &calls)?;
+    let node = opened_shard(alloc)?;
+    let told = asked(rt, alloc, node, &calls)?;
     let shown = Told {
         locked: true,
         finished: true,
@@ -264,7 +281,7 @@ pub fn shows_output<R: Threads + Wait + Sync>(
 
 // A copy of the shard that stands on no disk and takes no batch.
 fn frozen_shard(alloc: Global) -> Option<Frozen> {
-    let node = opened(alloc)?;
+    let node = opened_shard(alloc)?;
     Frozen::of(alloc, &node)
 }
 
@@ -272,12 +289,7 @@ fn frozen_shard(alloc: Global) -> Option<Frozen> {
 pub fn takes_none<R: Threads + Wait + Sync>(rt: &R, alloc: Global) -> Option<bool> {
     let calls = calls_of(alloc, ONE, true)?;
     let frozen = frozen_shard(alloc)?;
-    if !is_lock_call(frozen.header(), &calls.lock)
-        || !is_finish_call(frozen.header(), &calls.finish)
-    {
-        return None;
-    }
-    let told = at_shard(rt, alloc, frozen, &calls)?;
+    let told = asked(rt, alloc, frozen, &calls)?;
     let refused = Told {
         locked: false,
         finished: false,

@@ -60,15 +60,24 @@ impl Told {
         List::from_vec(all)
     }
 
+    // A decision: `+` or `-`.
+    fn decision(&mut self, word: &str) -> bool {
+        match word {
+            "+" => true,
+            "-" => false,
+            _ => {
+                self.refuse("a decision is + or -");
+                false
+            }
+        }
+    }
+
     /// Decisions: `+` and `-`.
     pub fn decisions(&mut self, words: &[&str]) -> List<bool> {
         let mut all = Vec::new(self.alloc);
         for word in words {
-            let is_plus = *word == "+";
-            if !is_plus && *word != "-" {
-                self.refuse("a decision is + or -");
-            }
-            self.push(&mut all, is_plus);
+            let own = self.decision(word);
+            self.push(&mut all, own);
         }
         List::from_vec(all)
     }

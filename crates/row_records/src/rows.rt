@@ -1,7 +1,9 @@
 // Rows: their steps, their cases, and the files that they stand in.
 use crate::names::Names;
-use crate::script::{Block, block_behind, is_of_block, spelled};
-use crate::wrong::{Wrong, tell};
+use crate::rest;
+use crate::script::{Block, is_of_block, sign_of, step_at};
+use crate::told::Told;
+use crate::wrong::{Wrong, is_difference, tell};
 use std::alloc::Global;
 use std::rt::{Env, Files};
 use std::{env, fs, io};
@@ -24,94 +26,106 @@ pub trait Subject: Sized {
     fn take_wrong(&mut self) -> Option<Wrong>;
 }
 
-// Does the step of a line, with what stands behind it.
-fn line<S: Subject, F: Fn(&mut S, &str, &Block)>(
+// Does the step of the first of these lines, with what stands behind it; what is wrong with it, where it does not hold.
+fn wrong_of<S: Subject, F: Fn(&mut S, &str, &Block)>(
     step: &F,
     subject: &mut S,
     alloc: Global,
-    text: &str,
-    behind: &[&str],
+    lines: &[&str],
     case: &[String],
-) -> Result<(), Wrong>
+) -> Option<Wrong>
     requires able { (s t b : _) → F.pre step.now s t b }
 {
-    let block = block_behind(alloc, behind, subject.hashes(), case)?;
-    let text = spelled(alloc, text, subject.hashes(), case)?;
-    step(subject, text.as_str(), &block);
-    match subject.take_wrong() {
-        Some(wrong) => Err(wrong),
-        None => Ok(()),
+    match step_at(alloc, lines, subject.hashes(), case) {
+        Ok(own) => {
+            step(subject, own.text.as_str(), &own.block);
+            subject.take_wrong()
+        }
+        Err(wrong) => Some(wrong),
     }
 }
 
 // Whether a line is no step.
 fn is_no_step(line: &str) -> bool {
-    let line = line.trim();
-    line.is_empty() || line.starts_with('#') || line.starts_with("case ") || is_of_block(line)
-}
-
-// The result of steps: they held, one came to something else, or one is none that a row may have.
-#[derive(Clone, Copy, PartialEq, Eq, Drop)]
-enum End {
-    Held,
-    Differed,
-    Broken,
-}
-
-// What a step came to, which was no good.
-fn end_of(wrong: &Wrong) -> End {
-    match wrong {
-        Wrong::Differs { .. } => End::Differed,
-        _ => End::Broken,
+    match sign_of(line) {
+        b'#' => true,
+        b'c' => line.trim().starts_with("case "),
+        _ => is_of_block(line),
     }
 }
 
-// Does the steps of lines, of which the first has a number. Where one does not hold, it is told (unless it should differ and does), and the
-// others are left out.
-fn steps<W: Print, S: Subject, F: Fn(&mut S, &str, &Block)>(
-    rt: &W,
+// A row, or what stands before the first one.
+#[derive(Clone, Copy)]
+struct Part<'a, 'b> {
+    // Its sentence; nothing before the first row.
+    name: &'b str,
+    // What stands behind it, and the number of the first of these lines.
+    lines: &'a [&'b str],
+    first: usize,
+}
+
+// Whether a row holds where in each case a step comes to something else than it says.
+fn should_differ(part: &Part) -> bool {
+    part.name.starts_with("differs ")
+}
+
+// Whether a step that does not hold is what a row says; else it is told.
+fn is_wanted(part: &Part, at: usize, wrong: &Wrong, report: &mut Told) -> bool {
+    if should_differ(part) && is_difference(wrong) {
+        return true;
+    }
+    report.put("    line ");
+    report.put_shown(&part.first.saturating_add(at));
+    report.put(": ");
+    report.put(part.lines.get(at).unwrap_or(&""));
+    report.line();
+    tell(report, wrong);
+    false
+}
+
+// Does the steps of a row in a case, up to the first that does not hold; whether they came to what the row says.
+fn steps<S: Subject, F: Fn(&mut S, &str, &Block)>(
     step: &F,
     subject: &mut S,
-    alloc: Global,
-    lines: &[&str],
-    first: usize,
+    part: &Part,
     case: &[String],
-    should_differ: bool,
-) -> io::Result<End>
+    report: &mut Told,
+) -> bool
     requires able { (s t b : _) → F.pre step.now s t b }
 {
+    let lines = part.lines;
     for at in 0..lines.len() {
-        let text = lines[at];
-        if is_no_step(text) {
+        if is_no_step(lines[at]) {
             continue;
         }
-        let behind = &lines[at + 1..];
-        if let Err(wrong) = line(step, subject, alloc, text, behind, case) {
-            let end = end_of(&wrong);
-            if !should_differ || end != End::Differed {
-                let number = first.saturating_add(at);
-                println!(rt; "    line {number}: {text}")?;
-                tell(rt, &wrong)?;
-            }
-            return Ok(end);
+        if let Some(wrong) = wrong_of(step, subject, report.alloc, &lines[at..], case) {
+            return is_wanted(part, at, &wrong, report);
         }
     }
-    Ok(End::Held)
+    !should_differ(part)
+}
+
+// Puts a copy of a word behind others.
+fn put_copy(all: &mut Vec<String>, word: &str, told: &mut Told) {
+    let made = String::from_str(told.alloc, word);
+    if let Some(own) = told.made(made) {
+        told.push(all, own);
+    }
 }
 
 // The words of a case: what stands between its semicolons, or where it has none each word.
-fn words_of(alloc: Global, text: &str) -> io::Result<Vec<String>> {
-    let mut all = Vec::new(alloc);
+fn words_of(text: &str, told: &mut Told) -> Vec<String> {
+    let mut all = Vec::new(told.alloc);
     if text.contains(';') {
         for word in text.split(';') {
-            all.push(String::from_str(alloc, word.trim())?)?;
+            put_copy(&mut all, word.trim(), told);
         }
-        return Ok(all);
+    } else {
+        for word in text.split_whitespace() {
+            put_copy(&mut all, word, told);
+        }
     }
-    for word in text.split_whitespace() {
-        all.push(String::from_str(alloc, word)?)?;
-    }
-    Ok(all)
+    all
 }
 
 // The numbers of `FIRST..LAST`, both ends taken in.
@@ -123,39 +137,48 @@ fn range_of(word: &str) -> Option<(u64, u64)> {
     }
 }
 
+// The words of a case, with a number in place of the first.
+fn numbered(text: &str, number: u64, told: &mut Told) -> Vec<String> {
+    let mut words = words_of(text, told);
+    let made = format!(in told.alloc; "{number}");
+    if let Some(own) = told.made(made) {
+        if let Some(word) = words.first_mut() {
+            *word = own;
+        }
+    }
+    words
+}
+
 // The cases that a line stands for: itself, or where its first word is a range one for each number of it.
-fn put_cases(alloc: Global, cases: &mut Vec<Vec<String>>, text: &str) -> io::Result<()> {
-    let words = words_of(alloc, text)?;
+fn put_cases(cases: &mut Vec<Vec<String>>, text: &str, told: &mut Told) {
+    let words = words_of(text, told);
     let range = match words.first() {
         Some(word) => range_of(word.as_str()),
         None => None,
     };
     let Some((first, last)) = range else {
-        cases.push(words)?;
-        return Ok(());
+        told.push(cases, words);
+        return;
     };
     for number in first..last.saturating_add(1) {
-        let mut case = words_of(alloc, text)?;
-        if let Some(word) = case.first_mut() {
-            *word = format!(in alloc; "{number}")?;
-        }
-        cases.push(case)?;
+        let case = numbered(text, number, told);
+        told.push(cases, case);
     }
-    Ok(())
 }
 
 // The cases of a row; one without words where it tells none.
-fn cases_of(alloc: Global, lines: &[&str]) -> io::Result<Vec<Vec<String>>> {
-    let mut cases = Vec::new(alloc);
+fn cases_of(lines: &[&str], told: &mut Told) -> Vec<Vec<String>> {
+    let mut cases = Vec::new(told.alloc);
     for line in lines {
         if let Some(words) = line.trim().strip_prefix("case ") {
-            put_cases(alloc, &mut cases, words)?;
+            put_cases(&mut cases, words, told);
         }
     }
     if cases.is_empty() {
-        cases.push(Vec::new(alloc))?;
+        let none = Vec::new(told.alloc);
+        told.push(&mut cases, none);
     }
-    Ok(cases)
+    cases
 }
 
 // How many rows held, how many came to something else as they should, and how many did neither.
@@ -183,6 +206,15 @@ impl Counts {
         }
     }
 
+    // One failure.
+    fn of_failure() -> Counts {
+        Counts {
+            held: 0,
+            differed: 0,
+            failed: 1,
+        }
+    }
+
     fn add(&mut self, came: Came) {
         match came {
             Came::Held => self.held = self.held.saturating_add(1),
@@ -198,61 +230,36 @@ impl Counts {
     }
 }
 
-// Does a row in each of its cases; whether each came to the end that is wanted.
-fn all_cases<W: Print, S: Subject, F: Fn(&mut S, &str, &Block)>(
-    rt: &W,
-    step: &F,
-    subject: &mut S,
-    alloc: Global,
-    name: &str,
-    lines: &[&str],
-    first: usize,
-    wanted: End,
-) -> io::Result<bool>
-    requires able { (s t b : _) → F.pre step.now s t b }
-{
-    let cases = cases_of(alloc, lines)?;
-    let should_differ = wanted == End::Differed;
-    for case in &cases {
-        subject.begin();
-        if steps(rt, step, subject, alloc, lines, first, case, should_differ)? != wanted {
-            println!(rt; "NOT {name} {case:?}")?;
-            return Ok(false);
-        }
+// Tells that a row does not hold in a case.
+fn tell_not(report: &mut Told, name: &str, case: &[String]) {
+    let made = format!(in report.alloc; "NOT {name} {case:?}\n");
+    if let Some(own) = report.made(made) {
+        report.put(own.as_str());
     }
-    println!(rt; "ok {name}")?;
-    Ok(true)
 }
 
-// Does a row, in each of its cases. One that begins with `differs` holds where in each case a step comes to something else than it says.
-fn row<W: Print, S: Subject, F: Fn(&mut S, &str, &Block)>(
-    rt: &W,
+// Does a row in each of its cases.
+fn all_cases<S: Subject, F: Fn(&mut S, &str, &Block)>(
     step: &F,
     subject: &mut S,
-    alloc: Global,
-    lines: &[&str],
-    first: usize,
-) -> io::Result<Came>
+    part: &Part,
+    report: &mut Told,
+) -> Came
     requires able { (s t b : _) → F.pre step.now s t b }
 {
-    let Some((name, behind)) = lines.split_first() else {
-        return Ok(Came::Failed);
-    };
-    let (name, first) = (name.trim(), first.saturating_add(1));
-    let should_differ = name.starts_with("differs ");
-    let wanted = if should_differ {
-        End::Differed
-    } else {
-        End::Held
-    };
-    if !all_cases(rt, step, subject, alloc, name, behind, first, wanted)? {
-        return Ok(Came::Failed);
+    for case in &cases_of(part.lines, report) {
+        subject.begin();
+        if !steps(step, subject, part, case, report) {
+            tell_not(report, part.name, case);
+            return Came::Failed;
+        }
     }
-    Ok(if should_differ {
+    report.put_all(&["ok ", part.name, "\n"]);
+    if should_differ(part) {
         Came::Differed
     } else {
         Came::Held
-    })
+    }
 }
 
 // Whether a line begins a row.
@@ -272,52 +279,130 @@ fn next_row(lines: &[&str], from: usize) -> usize {
     at
 }
 
-// Does what stands before the first row of a file; whether it held.
-fn setup<W: Print, S: Subject, F: Fn(&mut S, &str, &Block)>(
+// The row of lines, of which the first has a number.
+fn part_of<'a, 'b>(lines: &'a [&'b str], number: usize) -> Part<'a, 'b> {
+    let sentence = match lines.first() {
+        Some(line) => *line,
+        None => "",
+    };
+    Part {
+        name: sentence.trim(),
+        lines: rest(lines, 1),
+        first: number.saturating_add(1),
+    }
+}
+
+// Does what stands before the first row of a file.
+fn setup<S: Subject, F: Fn(&mut S, &str, &Block)>(
+    step: &F,
+    subject: &mut S,
+    lines: &[&str],
+    report: &mut Told,
+) -> Came
+    requires able { (s t b : _) → F.pre step.now s t b }
+{
+    let part = Part {
+        name: "",
+        lines,
+        first: 1,
+    };
+    let none = Vec::new(report.alloc);
+    if !steps(step, subject, &part, &none, report) {
+        report.put("NOT what stands before the first row\n");
+        return Came::Failed;
+    }
+    subject.mark();
+    Came::Held
+}
+
+// Prints what was told of a row, which failed where there was no memory for that.
+fn printed(rt: &impl Print, report: Told, came: Came) -> io::Result<Came> {
+    match report.text() {
+        Ok(text) => {
+            print!(rt; "{text}")?;
+            Ok(came)
+        }
+        Err(_) => {
+            println!(rt; "    no memory")?;
+            Ok(Came::Failed)
+        }
+    }
+}
+
+// Does the row of lines, of which the first has a number, and prints what it comes to.
+fn row<W: Print, S: Subject, F: Fn(&mut S, &str, &Block)>(
     rt: &W,
     step: &F,
     subject: &mut S,
     alloc: Global,
     lines: &[&str],
-) -> io::Result<bool>
+    number: usize,
+) -> io::Result<Came>
     requires able { (s t b : _) → F.pre step.now s t b }
 {
-    let none = Vec::new(alloc);
-    if steps(rt, step, subject, alloc, lines, 1, &none, false)? != End::Held {
-        println!(rt; "NOT what stands before the first row")?;
-        return Ok(false);
-    }
-    subject.mark();
-    Ok(true)
+    let mut report = Told::new(alloc);
+    let came = all_cases(step, subject, &part_of(lines, number), &mut report);
+    printed(rt, report, came)
 }
 
-// Does the rows of a file.
+// Does the rows of lines, of which the first begins at a place.
 fn rows<W: Print, S: Subject, F: Fn(&mut S, &str, &Block)>(
     rt: &W,
     step: &F,
     subject: &mut S,
     alloc: Global,
-    text: &str,
+    lines: &[&str],
+    begin: usize,
 ) -> io::Result<Counts>
     requires able { (s t b : _) → F.pre step.now s t b }
 {
-    let lines = text.lines().collect::<Vec<&str>>(alloc)?;
     let mut counts = Counts::none();
-    let mut at = next_row(&lines, 0);
-    if !setup(rt, step, subject, alloc, lines.get(..at).unwrap_or(&[]))? {
-        counts.add(Came::Failed);
-        return Ok(counts);
-    }
+    let mut at = begin;
     for _ in 0..lines.len() {
-        if at >= lines.len() {
-            break;
+        if at < lines.len() {
+            let number = at.saturating_add(1);
+            let end = next_row(lines, number);
+            let own = lines.get(at..end).unwrap_or(&[]);
+            counts.add(row(rt, step, subject, alloc, own, number)?);
+            at = end;
         }
-        let end = next_row(&lines, at.saturating_add(1));
-        let own = lines.get(at..end).unwrap_or(&[]);
-        counts.add(row(rt, step, subject, alloc, own, at.saturating_add(1))?);
-        at = end;
     }
     Ok(counts)
+}
+
+// Does the rows of a file, behind what stands before them where that held.
+fn file<W: Print, S: Subject + Drop, F: Fn(&mut S, &str, &Block)>(
+    rt: &W,
+    step: &F,
+    alloc: Global,
+    lines: &[&str],
+) -> io::Result<Counts>
+    requires able { (s t b : _) → F.pre step.now s t b }
+{
+    let begin = next_row(lines, 0);
+    let before = lines.get(..begin).unwrap_or(&[]);
+    let mut subject = S::new(alloc);
+    let mut report = Told::new(alloc);
+    let came = setup(step, &mut subject, before, &mut report);
+    match printed(rt, report, came)? {
+        Came::Failed => Ok(Counts::of_failure()),
+        _ => rows(rt, step, &mut subject, alloc, lines, begin),
+    }
+}
+
+// Does the rows of the file of a name, with a new subject.
+fn named<R: AllocGlobal + Files + Print, S: Subject + Drop, F: Fn(&mut S, &str, &Block)>(
+    rt: &R,
+    step: &F,
+    name: &str,
+) -> io::Result<Counts>
+    requires able { (s t b : _) → F.pre step.now s t b }
+{
+    let alloc = rt.alloc();
+    println!(rt; "== {name}")?;
+    let text = fs::read_to_string(rt, name)?;
+    let lines = text.lines().collect::<Vec<&str>>(alloc)?;
+    file::<R, S, F>(rt, step, alloc, &lines)
 }
 
 /// Does the rows of the files that the program's words name, each file with a new subject, and tells the result of each, how many held, how
@@ -329,13 +414,9 @@ pub fn run_files<
 >(rt: &R, step: &F) -> io::Result<bool>
     requires able { (s t b : _) → F.pre step.now s t b }
 {
-    let alloc = rt.alloc();
     let mut counts = Counts::none();
     for name in env::args(rt)?.skip(1) {
-        println!(rt; "== {name}")?;
-        let text = fs::read_to_string(rt, name.as_str())?;
-        let mut subject = S::new(alloc);
-        counts.add_all(rows(rt, step, &mut subject, alloc, text.as_str())?);
+        counts.add_all(named::<R, S, F>(rt, step, name.as_str())?);
     }
     let Counts {
         held,

@@ -80,6 +80,13 @@ impl Told {
         self.made(done);
     }
 
+    /// Texts as they stand, one behind the other.
+    pub fn put_all(&mut self, texts: &[&str]) {
+        for text in texts {
+            self.put(text);
+        }
+    }
+
     /// What a thing shows of itself, with no blank before it.
     pub fn put_shown<T: Display>(&mut self, own: &T) {
         if write!(self.text, "{own}").is_err() {
@@ -288,6 +295,16 @@ impl Told {
             Some(wrong) => Err(wrong),
             None => Ok(()),
         }
+    }
+
+    /// What went wrong, or that the answer is not the text behind its step; where the step has taken that in, the answer is not compared.
+    pub fn wrong(self, takes_text: bool, text: &str) -> Option<Wrong> {
+        let came = if takes_text {
+            self.end()
+        } else {
+            self.check(text)
+        };
+        came.err()
     }
 
     /// Nothing where the answer is the text that is wanted, whatever blanks are about both; else both are told.
