@@ -1,10 +1,15 @@
 // What calls at a shard are answered, by the plain program over its journal and by the shard itself, which has taken the journal in.
+ghost use Rattle.std.specs.Prelude.{◌<◌, ◌*◌, ◌^◌};
+ghost use Rattle.std.specs.Bool.{OnTrue};
+ghost use Rattle.cbdc_model.specs.Records.{last_stamp};
+
 use crate::state::State;
-use cbdc_types::{FinishCall, ForgetCall, Header, LockCall, Record, Replied, Stamp};
+use crate::verbs::Verb;
+use cbdc_types::{BatchId, FinishCall, ForgetCall, LockCall, Record, Replied, Stamp};
 use plain_check::{
     ShardCall, is_after, last_stamp, next_finish, next_forget, next_lock, status_of,
 };
-use row_records::{Known, Told, Wrong, finish_call, forget_call, lock_call, rest};
+use row_records::{Known, Told, finish_call, forget_call, lock_call, rest};
 use shard_core::{LockPlan, Remembered, ShardCore, StampPlan};
 
 // Tells a stamp, which was kept or is new.
@@ -56,6 +61,18 @@ fn tell_defined(told: &mut Told, plan: &plain_check::StampPlan) {
 // Causes and last stamps are below this; calls are answered for no later ones.
 const TOO_LATE: u64 = 1 << 63;
 
+// Whether a call with this cause is answered: neither stamp is too late, and the shard has the lane.
+fn is_answered(past: &[Record], core: &ShardCore, batch: &BatchId, cause: Stamp) -> bool
+    ensures last { OnTrue result (last_stamp past.now < 2 ^ 63) }
+    ensures cause { OnTrue result (cause < 2 ^ 63) }
+    ensures lane { OnTrue result
+        (batch.now.lane < core.now.header.shape.coordinators * core.now.header.shape.lanes) }
+{
+    last_stamp(past).0 < TOO_LATE
+        && cause.0 < TOO_LATE
+        && batch.lane.0 < core.header().shape.lane_count()
+}
+
 const NO_CALL: &str = "a stamp of 2^63 or more, or no such lane";
 
 // Tells what a Lock is answered, by the shard and by the definition.
@@ -66,10 +83,7 @@ fn ask_lock(
     own: &mut Told,
     told: &mut Told,
 ) {
-    if last_stamp(past).0 >= TOO_LATE
-        || call.cause.0 >= TOO_LATE
-        || call.batch.lane.0 >= core.header().shape.lane_count()
-    {
+    if !is_answered(past, core, &call.batch, call.cause) {
         told.refuse(NO_CALL);
         return;
     }
@@ -90,10 +104,7 @@ fn ask_finish(
     own: &mut Told,
     told: &mut Told,
 ) {
-    if last_stamp(past).0 >= TOO_LATE
-        || call.cause.0 >= TOO_LATE
-        || call.batch.lane.0 >= core.header().shape.lane_count()
-    {
+    if !is_answered(past, core, &call.batch, call.cause) {
         told.refuse(NO_CALL);
         return;
     }
@@ -109,10 +120,7 @@ fn ask_forget(
     own: &mut Told,
     told: &mut Told,
 ) {
-    if last_stamp(past).0 >= TOO_LATE
-        || call.cause.0 >= TOO_LATE
-        || call.batch.lane.0 >= core.header().shape.lane_count()
-    {
+    if !is_answered(past, core, &call.batch, call.cause) {
         told.refuse(NO_CALL);
         return;
     }
@@ -121,17 +129,24 @@ fn ask_forget(
 }
 
 // Takes the next record in, if the shard admits it.
-fn take_in(core: &mut ShardCore, next: &Record) -> Result<(), Wrong> {
-    if !core.admit(next)? {
-        return Err(Wrong::Line("the shard does not admit a record of this journal"));
+fn take_in(core: &mut ShardCore, next: &Record, told: &mut Told) {
+    match core.admit(next) {
+        Ok(true) => match next {
+            Record::Lock { .. } => core.apply_lock(next),
+            Record::Finish { .. } => core.apply_finish(next),
+            Record::Forget { .. } => core.apply_forget(next),
+            _ => {}
+        },
+        Ok(false) => told.refuse("the shard does not admit a record of this journal"),
+        Err(_) => told.no_memory(),
     }
-    match next {
-        Record::Lock { .. } => core.apply_lock(next),
-        Record::Finish { .. } => core.apply_finish(next),
-        Record::Forget { .. } => core.apply_forget(next),
-        _ => {}
+}
+
+// Takes the records of a journal in, the newest of which stands first, behind the oldest of them.
+fn take_all(core: &mut ShardCore, past: &[Record], told: &mut Told) {
+    for record in past.iter().rev().skip(1) {
+        take_in(core, record, told);
     }
-    Ok(())
 }
 
 // The shard that has taken a journal in.
@@ -142,9 +157,7 @@ fn shard_of(past: &[Record], told: &mut Told) -> Option<ShardCore> {
         return None;
     };
     let mut core = told.made(ShardCore::new(alloc, header, hashes.as_slice()))?;
-    for record in past.iter().rev().skip(1) {
-        told.given(take_in(&mut core, record));
-    }
+    take_all(&mut core, past, told);
     Some(core)
 }
 
@@ -162,39 +175,42 @@ pub fn call_of(known: &Known, node: u32, words: &[&str], told: &mut Told) -> Opt
     }
 }
 
-// Tells what a call is answered behind a journal.
-fn ask_call(past: &[Record], call: &ShardCall, own: &mut Told, told: &mut Told) {
-    if let Some(mut core) = shard_of(past, told) {
-        match call {
-            ShardCall::Lock(call) => ask_lock(past, &mut core, call, own, told),
-            ShardCall::Finish(call) => ask_finish(past, &core, call, own, told),
-            ShardCall::Forget(call) => ask_forget(past, &core, call, own, told),
-        }
+// Tells what a call is answered behind a journal, by the definition and by the shard.
+fn ask_call(
+    past: &[Record],
+    core: &mut ShardCore,
+    call: &ShardCall,
+    own: &mut Told,
+    told: &mut Told,
+) {
+    match call {
+        ShardCall::Lock(call) => ask_lock(past, core, call, own, told),
+        ShardCall::Finish(call) => ask_finish(past, core, call, own, told),
+        ShardCall::Forget(call) => ask_forget(past, core, call, own, told),
     }
 }
 
-/// `ask LEDGER NODE CALL`, and the line of its answer, by the definition and by the shard.
-pub fn ask(state: &State, words: &[&str], told: &mut Told) {
-    let alloc = told.alloc;
-    let past = state.journal(words, told);
-    let node = told.small_at(words, 1);
-    let Some(call) = call_of(&state.known, node, rest(words, 2), told) else {
-        return;
-    };
-    let mut own = Told::new(alloc);
-    ask_call(past.as_slice(), &call, &mut own, told);
+// The same, compared.
+fn ask_twice(past: &[Record], core: &mut ShardCore, call: &ShardCall, told: &mut Told) {
+    let mut own = Told::new(told.alloc);
+    ask_call(past, core, call, &mut own, told);
     told.check_twice(own);
 }
 
-/// `status LEDGER NODE HASH`, and the line of its answer, by the definition and by the shard.
-pub fn status(state: &State, words: &[&str], told: &mut Told) {
-    let past = state.journal(words, told);
-    let x = told.hash_at(words, 2);
-    let mut own = Told::new(told.alloc);
-    own.status(&status_of(past.as_slice(), &x));
-    if let Some(core) = shard_of(past.as_slice(), told) {
-        told.status(&core.check_unspent(&x));
+// `ask LEDGER NODE CALL`, and the line of its answer, by the definition and by the shard.
+fn ask(state: &State, past: &[Record], core: &mut ShardCore, words: &[&str], told: &mut Told) {
+    let node = told.small_at(words, 1);
+    if let Some(call) = call_of(&state.known, node, rest(words, 2), told) {
+        ask_twice(past, core, &call, told);
     }
+}
+
+// `status LEDGER NODE HASH`, and the line of its answer, by the definition and by the shard.
+fn status(past: &[Record], core: &ShardCore, words: &[&str], told: &mut Told) {
+    let x = told.hash_at(words, 2);
+    told.status(&core.check_unspent(&x));
+    let mut own = Told::new(told.alloc);
+    own.status(&status_of(past, &x));
     told.check_twice(own);
 }
 
@@ -207,24 +223,18 @@ fn remembered_word(own: Option<Remembered>) -> &'static str {
     }
 }
 
-/// `remembers LEDGER NODE ID`, and the line of the shard's answer: `waiting`, `committed`, `rejected` or `none`.
-pub fn remembers(state: &State, words: &[&str], told: &mut Told) {
+// `remembers LEDGER NODE ID`, and the line of the shard's answer: `waiting`, `committed`, `rejected` or `none`.
+fn remembers(core: &ShardCore, words: &[&str], told: &mut Told) {
     let id = told.hash_at(words, 2);
-    let past = state.journal(words, told);
-    if let Some(core) = shard_of(past.as_slice(), told) {
-        told.word(remembered_word(core.check_tx(&id)));
-    }
+    told.word(remembered_word(core.check_tx(&id)));
 }
 
-/// `counts LEDGER NODE`, and a line `node NODE unspent N room BYTES last STAMP` of the shard.
-pub fn counts(state: &State, words: &[&str], told: &mut Told) {
-    let past = state.journal(words, told);
-    if let Some(core) = shard_of(past.as_slice(), told) {
-        told.named("node", core.header().node.0 as u128);
-        told.named("unspent", core.unspent_len() as u128);
-        told.named("room", core.kept_room() as u128);
-        told.named("last", core.last_stamp().0 as u128);
-    }
+// `counts LEDGER NODE`, and a line `node NODE unspent N room BYTES last STAMP` of the shard.
+fn counts(core: &ShardCore, told: &mut Told) {
+    told.named("node", core.header().node.0 as u128);
+    told.named("unspent", core.unspent_len() as u128);
+    told.named("room", core.kept_room() as u128);
+    told.named("last", core.last_stamp().0 as u128);
 }
 
 // Tells `yes` or `no`, which was asked in two ways; where these differ that is told too.
@@ -234,23 +244,41 @@ fn yes_twice(is_so: bool, is_too: bool, told: &mut Told) {
 }
 
 // Tells whether a record may come next behind a journal, by the definition and by the shard.
-fn tell_next(header: &Header, past: &[Record], next: &Record, told: &mut Told) {
-    let alloc = told.alloc;
-    let after = told.made(is_after(alloc, header, past, next));
-    if let Some(mut core) = shard_of(past, told) {
-        let admits = told.made(core.admit(next));
-        yes_twice(after.unwrap_or(false), admits.unwrap_or(false), told);
+fn tell_next(past: &[Record], core: &mut ShardCore, next: &Record, told: &mut Told) {
+    let after = told.made(is_after(told.alloc, core.header(), past, next));
+    let admits = told.made(core.admit(next));
+    yes_twice(after.unwrap_or(false), admits.unwrap_or(false), told);
+}
+
+// `next LEDGER NODE RECORD`, and `yes` or `no`: whether it may come next, by the definition and by the shard.
+fn next(state: &State, past: &[Record], core: &mut ShardCore, words: &[&str], told: &mut Told) {
+    if let Some(row) = state.row(rest(words, 1), told) {
+        tell_next(past, core, &row.what, told);
     }
 }
 
-/// `next LEDGER NODE RECORD`, and `yes` or `no`: whether it may come next, by the definition and by the shard.
-pub fn next(state: &State, words: &[&str], told: &mut Told) {
-    let node = told.small_at(words, 1);
-    let Some(header) = told.given(state.known.header(node)) else {
-        return;
-    };
-    let past = state.journal(words, told);
-    if let Some(row) = state.row(rest(words, 1), told) {
-        tell_next(&header, past.as_slice(), &row.what, told);
+// Does a step that asks a shard which has taken a journal in.
+fn ask_core(
+    state: &State,
+    verb: Verb,
+    past: &[Record],
+    core: &mut ShardCore,
+    words: &[&str],
+    told: &mut Told,
+) {
+    match verb {
+        Verb::Ask => ask(state, past, core, words, told),
+        Verb::Status => status(past, core, words, told),
+        Verb::Remembers => remembers(core, words, told),
+        Verb::Counts => counts(core, told),
+        Verb::Next => next(state, past, core, words, told),
+        _ => told.refuse("no such step"),
+    }
+}
+
+/// Does a step that asks the shard at `LEDGER NODE`, whose journal this is.
+pub fn ask_shard(state: &State, verb: Verb, past: &[Record], words: &[&str], told: &mut Told) {
+    if let Some(mut core) = shard_of(past, told) {
+        ask_core(state, verb, past, &mut core, words, told);
     }
 }

@@ -1,9 +1,11 @@
 // What the plain programs say of journals: of hashes and lanes behind each record, of sizes and room, of which record stands.
+use crate::calls::ask_shard;
 use crate::state::{State, journals_of};
+use crate::verbs::Verb;
 use cbdc_types::{Header, LaneId, List, Record, Shape};
 use plain_check::{
     Listed, Phase, Row, first_refusal_of, is_after, is_caused, is_ordered, journal_of, kept_room,
-    lane_room, need_of, outcome_of, size_of, slot_of, slot_stamp, status_of, used_of,
+    lane_room, need_of, size_of, slot_of, slot_stamp, status_of, used_of,
 };
 use record_grammar::is_in_grammar;
 use row_records::{Told, rest, verdicts};
@@ -23,13 +25,12 @@ fn oldest<T>(all: &[T], many: usize) -> &[T] {
     &all[newer..]
 }
 
-/// `says LEDGER NODE HASH`, and what is known of the hash before the first record and behind each.
-pub fn says(state: &State, words: &[&str], told: &mut Told) {
-    let past = state.journal(words, told);
+// `says LEDGER NODE HASH`, and what is known of the hash before the first record and behind each.
+fn says(past: &[Record], words: &[&str], told: &mut Told) {
     let x = told.hash_at(words, 2);
     for many in 0..past.len().saturating_add(1) {
         told.stroke();
-        told.status(&status_of(oldest(past.as_slice(), many), &x));
+        told.status(&status_of(oldest(past, many), &x));
     }
 }
 
@@ -52,12 +53,11 @@ fn tell_slot(told: &mut Told, past: &[Record], lane: LaneId) {
     told.numbers(&[slot.number, slot_stamp(past, lane).0]);
 }
 
-/// `slots LEDGER NODE LANE`, and `PHASE NUMBER STAMP` of the lane before the first record and behind each.
-pub fn slots(state: &State, words: &[&str], told: &mut Told) {
-    let past = state.journal(words, told);
+// `slots LEDGER NODE LANE`, and `PHASE NUMBER STAMP` of the lane before the first record and behind each.
+fn slots(past: &[Record], words: &[&str], told: &mut Told) {
     let lane = told.lane_at(words, 2);
     for many in 0..past.len().saturating_add(1) {
-        tell_slot(told, oldest(past.as_slice(), many), lane);
+        tell_slot(told, oldest(past, many), lane);
     }
 }
 
@@ -79,33 +79,52 @@ fn tell_sizes(told: &mut Told, shape: &Shape, past: &[Record], kind: u8) {
     told.line();
 }
 
-/// `sizes LEDGER NODE`, and of each record, the oldest first, its size, what is used behind it and what is kept: three lines.
-pub fn sizes(state: &State, words: &[&str], told: &mut Told) {
-    let past = state.journal(words, told);
+// `sizes LEDGER NODE`, and of each record, the oldest first, its size, what is used behind it and what is kept: three lines.
+fn sizes(state: &State, past: &[Record], told: &mut Told) {
     if let Some(shape) = told.given(state.known.shape()) {
         for kind in 0u8..3 {
-            tell_sizes(told, &shape, past.as_slice(), kind);
+            tell_sizes(told, &shape, past, kind);
         }
     }
 }
 
-/// `room LEDGER NODE LANE`, and how many bytes are kept free for the lane's batch.
-pub fn room(state: &State, words: &[&str], told: &mut Told) {
-    let past = state.journal(words, told);
+// `room LEDGER NODE LANE`, and how many bytes are kept free for the lane's batch.
+fn room(past: &[Record], words: &[&str], told: &mut Told) {
     let lane = told.lane_at(words, 2);
-    tell_number(told, lane_room(past.as_slice(), lane));
+    tell_number(told, lane_room(past, lane));
 }
 
-/// `need LEDGER NODE RECORD`, and `SIZE / NEED` of that record there.
-pub fn need(state: &State, words: &[&str], told: &mut Told) {
-    let past = state.journal(words, told);
-    let Some(shape) = told.given(state.known.shape()) else {
-        return;
-    };
-    if let Some(next) = state.row(rest(words, 1), told) {
-        tell_number(told, size_of(&next.what));
-        tell_number(told, need_of(&shape, past.as_slice(), &next.what));
+// Tells `SIZE / NEED` of a record.
+fn tell_need(state: &State, past: &[Record], next: &Record, told: &mut Told) {
+    if let Some(shape) = told.given(state.known.shape()) {
+        tell_number(told, size_of(next));
+        tell_number(told, need_of(&shape, past, next));
     }
+}
+
+// `need LEDGER NODE RECORD`, and `SIZE / NEED` of that record there.
+fn need(state: &State, past: &[Record], words: &[&str], told: &mut Told) {
+    if let Some(next) = state.row(rest(words, 1), told) {
+        tell_need(state, past, &next.what, told);
+    }
+}
+
+// Does a step that looks at a journal, or asks the shard that has taken it in.
+fn look_at(state: &State, verb: Verb, past: &[Record], words: &[&str], told: &mut Told) {
+    match verb {
+        Verb::Says => says(past, words, told),
+        Verb::Slots => slots(past, words, told),
+        Verb::Sizes => sizes(state, past, told),
+        Verb::Room => room(past, words, told),
+        Verb::Need => need(state, past, words, told),
+        other => ask_shard(state, other, past, words, told),
+    }
+}
+
+/// Does a step that looks at the journal of `LEDGER NODE`.
+pub fn look_at_journal(state: &State, verb: Verb, words: &[&str], told: &mut Told) {
+    let past = state.journal(words, told);
+    look_at(state, verb, past.as_slice(), words, told);
 }
 
 /// `may NODE RECORD`, and `yes` or `no`: whether it is in the grammar of that node.
@@ -132,14 +151,9 @@ fn may_come(header: &Header, rows: &[Row], next: &Row, told: &mut Told) -> bool 
 
 // Whether others cause a record.
 fn do_cause(shape: &Shape, rows: &[Row], next: &Row, told: &mut Told) -> bool {
-    let alloc = told.alloc;
-    match told.made(journals_of(alloc, shape.node_count(), rows)) {
-        Some(all) => {
-            let caused = is_caused(alloc, all.as_slice(), shape, next.node, &next.what);
-            told.made(caused).unwrap_or(false)
-        }
-        None => false,
-    }
+    let all = journals_of(shape.node_count(), rows, told);
+    let caused = is_caused(told.alloc, all.as_slice(), shape, next.node, &next.what);
+    told.made(caused).unwrap_or(false)
 }
 
 // Whether a record may come next behind others, and whether they cause it.
@@ -153,13 +167,18 @@ fn judged(state: &State, rows: &[Row], next: &Row, told: &mut Told) -> (bool, bo
     }
 }
 
+// Tells whether a record may come next at its node, and whether it is caused there.
+fn tell_follows(state: &State, rows: &[Row], next: &Row, told: &mut Told) {
+    let (after, caused) = judged(state, rows, next, told);
+    told.word(if after { "after" } else { "not-after" });
+    told.word(if caused { "caused" } else { "uncaused" });
+}
+
 /// `follows LEDGER NODE RECORD`, and two words: whether it may come next at the node, and whether it is caused there.
 pub fn follows(state: &State, words: &[&str], told: &mut Told) {
     let rows = state.rows(words, 0, told);
     if let Some(next) = state.row(rest(words, 1), told) {
-        let (after, caused) = judged(state, rows, &next, told);
-        told.word(if after { "after" } else { "not-after" });
-        told.word(if caused { "caused" } else { "uncaused" });
+        tell_follows(state, rows, &next, told);
     }
 }
 
@@ -191,16 +210,6 @@ pub fn ordered(state: &State, words: &[&str], told: &mut Told) {
     let rows = state.rows(words, 0, told);
     let wanted = told.word_at(words, 1);
     told.check_is(wanted, is_ordered(rows));
-}
-
-/// `outcome LEDGER LANE NUMBER PLACE`, and the outcome of that transaction by the Locks.
-pub fn outcome(state: &State, words: &[&str], told: &mut Told) {
-    let all = state.journals(words, 0, told);
-    let batch = told.batch_at(words, 1);
-    let place = told.number_at(words, 3);
-    if let Some(shape) = told.given(state.known.shape()) {
-        told.outcome(&outcome_of(all.as_slice(), &shape, &batch, place));
-    }
 }
 
 /// `refused TX VERDICT..`, and why, or `none`; behind the verdicts that are told all are absent.

@@ -1,14 +1,16 @@
 // What the plain programs of the definitions say of ledgers.
 use crate::state::State;
-use cbdc_types::{CompactTx, FullTx, Hash, Input, List};
+use crate::verbs::Verb;
+use cbdc_types::{CompactTx, FullTx, Hash, Input, List, Record, Shape};
 use compact_tx::{input_hash, tx_id};
 use plain_check::{
     Row, are_alike, are_waves, committed_compact, committed_of, count_of_book, fold_of,
-    genesis_book, has, history_of, is_clean, is_kept_ledger, stamp_of, unspent_of, value_of,
+    genesis_book, has, history_of, is_clean, is_kept_ledger, outcome_of, stamp_of, unspent_of,
+    value_of,
 };
 use row_records::{Told, rest};
 use sentinel::AllGood;
-use std::alloc::{AllocError, Global};
+use std::alloc::AllocError;
 
 // Whether what came is the yes or the no that the word at a place tells.
 fn check_at(words: &[&str], at: usize, came: Result<bool, AllocError>, told: &mut Told) {
@@ -26,98 +28,114 @@ pub fn clean(state: &State, words: &[&str], told: &mut Told) {
     check_at(words, 0, came, told);
 }
 
-/// `kept LEDGER yes`
-pub fn kept(state: &State, words: &[&str], told: &mut Told) {
-    let alloc = told.alloc;
-    let Some(shape) = told.given(state.known.shape()) else {
-        return;
-    };
+// `kept LEDGER yes`
+fn kept(state: &State, shape: &Shape, journals: &[List<Record>], words: &[&str], told: &mut Told) {
     let submitted = state.submitted(told);
-    let journals = state.journals(words, 0, told);
     let coins = state.coins(told);
-    let came = is_kept_ledger(
-        alloc,
-        &shape,
-        coins,
-        submitted.as_slice(),
-        journals.as_slice(),
-    );
+    let came = is_kept_ledger(told.alloc, shape, coins, submitted.as_slice(), journals);
     check_at(words, 1, came, told);
 }
 
-/// `alike LEDGER yes`: whether every batch is finished alike.
-pub fn alike(state: &State, words: &[&str], told: &mut Told) {
-    let Some(shape) = told.given(state.known.shape()) else {
-        return;
-    };
-    let journals = state.journals(words, 0, told);
+// `alike LEDGER yes`: whether every batch is finished alike.
+fn alike(shape: &Shape, journals: &[List<Record>], words: &[&str], told: &mut Told) {
     let wanted = told.word_at(words, 1);
-    told.check_is(wanted, are_alike(journals.as_slice(), &shape));
+    told.check_is(wanted, are_alike(journals, shape));
 }
 
-/// `waves ENTRY EXIT yes`: whether a run took its files in waves, where every witness is good.
-pub fn waves(state: &State, words: &[&str], told: &mut Told) {
-    let alloc = told.alloc;
-    let Some(shape) = told.given(state.known.shape()) else {
-        return;
-    };
-    let before = state.journals(words, 0, told);
-    let behind = state.journals(words, 1, told);
+// Whether a run between these journals took its files in waves, where every witness is good.
+fn check_waves(
+    state: &State,
+    shape: &Shape,
+    before: &[List<Record>],
+    behind: &[List<Record>],
+    words: &[&str],
+    told: &mut Told,
+) {
     let files = state.run_files(told);
     let came = are_waves(
-        alloc,
-        &shape,
+        told.alloc,
+        shape,
         &AllGood,
         files.as_slice(),
-        before.as_slice(),
-        behind.as_slice(),
+        before,
+        behind,
     );
     check_at(words, 2, came, told);
 }
 
-// The history of the ledger that the words begin with, the newest row first.
-fn rows_of(state: &State, words: &[&str], told: &mut Told) -> Option<List<Row>> {
-    let alloc = told.alloc;
-    let shape = told.given(state.known.shape())?;
-    let journals = state.journals(words, 0, told);
-    let coins = state.coins(told);
-    let came = history_of(alloc, &shape, coins, journals.as_slice());
-    told.made(came)?
+// `waves ENTRY EXIT yes`: whether a run took its files in waves, where every witness is good.
+fn waves(state: &State, shape: &Shape, before: &[List<Record>], words: &[&str], told: &mut Told) {
+    let behind = state.journals(words, 1, told);
+    check_waves(state, shape, before, behind.as_slice(), words, told);
 }
 
-/// `history LEDGER`, and a line `NODE STAMP` for each row, the oldest first, or `none`.
-pub fn history(state: &State, words: &[&str], told: &mut Told) {
-    match rows_of(state, words, told) {
-        None => told.word("none"),
-        Some(rows) => {
-            for row in rows.as_slice().iter().rev() {
-                told.numbers(&[u64::from(row.node.0), stamp_of(&row.what).0]);
-                told.line();
-            }
-        }
+// `outcome LEDGER LANE NUMBER PLACE`, and the outcome of that transaction by the Locks.
+fn outcome(shape: &Shape, journals: &[List<Record>], words: &[&str], told: &mut Told) {
+    let batch = told.batch_at(words, 1);
+    let place = told.number_at(words, 3);
+    told.outcome(&outcome_of(journals, shape, &batch, place));
+}
+
+// The history of a ledger, the newest row first.
+fn rows_of(
+    state: &State,
+    shape: &Shape,
+    journals: &[List<Record>],
+    told: &mut Told,
+) -> Option<List<Row>> {
+    let coins = state.coins(told);
+    told.made(history_of(told.alloc, shape, coins, journals))?
+}
+
+// Tells a line `NODE STAMP` for each row, the oldest first.
+fn tell_rows(rows: &[Row], told: &mut Told) {
+    for row in rows.iter().rev() {
+        told.numbers(&[u64::from(row.node.0), stamp_of(&row.what).0]);
+        told.line();
     }
 }
 
-// The transactions that the ledger has committed which the words begin with, in the order of their Commits.
-fn committed(state: &State, words: &[&str], told: &mut Told) -> Option<List<FullTx>> {
-    let alloc = told.alloc;
-    let rows = rows_of(state, words, told)?;
-    let submitted = state.submitted(told);
-    let came = committed_of(alloc, rows.as_slice(), submitted.as_slice());
-    told.made(came)?
+// `history LEDGER`, and a line `NODE STAMP` for each row, the oldest first, or `none`.
+fn history(state: &State, shape: &Shape, journals: &[List<Record>], told: &mut Told) {
+    match rows_of(state, shape, journals, told) {
+        None => told.word("none"),
+        Some(rows) => tell_rows(rows.as_slice(), told),
+    }
 }
 
-/// `commits LEDGER`, and a line with the id of each transaction that is committed, in the order of the Commits; `none` where there is no
-/// history, or one was not submitted.
-pub fn commits(state: &State, words: &[&str], told: &mut Told) {
-    match committed(state, words, told) {
+// Those of the transactions submitted that rows have committed, in the order of their Commits.
+fn committed_in(state: &State, rows: &[Row], told: &mut Told) -> Option<List<FullTx>> {
+    let submitted = state.submitted(told);
+    told.made(committed_of(told.alloc, rows, submitted.as_slice()))?
+}
+
+// The transactions that a ledger has committed, in the order of their Commits.
+fn committed(
+    state: &State,
+    shape: &Shape,
+    journals: &[List<Record>],
+    told: &mut Told,
+) -> Option<List<FullTx>> {
+    match rows_of(state, shape, journals, told) {
+        None => None,
+        Some(rows) => committed_in(state, rows.as_slice(), told),
+    }
+}
+
+// Tells a line with the id of each transaction.
+fn tell_ids(txs: &[FullTx], told: &mut Told) {
+    for tx in txs {
+        told.hash(&tx_id(tx));
+        told.line();
+    }
+}
+
+// `commits LEDGER`, and a line with the id of each transaction that is committed, in the order of the Commits; `none` where there is no
+// history, or one was not submitted.
+fn commits(state: &State, shape: &Shape, journals: &[List<Record>], told: &mut Told) {
+    match committed(state, shape, journals, told) {
         None => told.word("none"),
-        Some(txs) => {
-            for tx in txs.as_slice() {
-                told.hash(&tx_id(tx));
-                told.line();
-            }
-        }
+        Some(txs) => tell_ids(txs.as_slice(), told),
     }
 }
 
@@ -125,14 +143,9 @@ fn are_within(xs: &[Hash], ys: &[Hash]) -> bool {
     xs.iter().all(|x| has(ys, x))
 }
 
-// Whether the shards of the ledger that the words begin with together hold exactly these hashes.
-fn are_held(state: &State, words: &[&str], xs: &[Hash], told: &mut Told) -> bool {
-    let alloc = told.alloc;
-    let journals = state.journals(words, 0, told);
-    let Some(shape) = told.given(state.known.shape()) else {
-        return false;
-    };
-    match told.made(unspent_of(alloc, journals.as_slice(), &shape)) {
+// Whether the shards of a ledger together hold exactly these hashes.
+fn are_held(shape: &Shape, journals: &[List<Record>], xs: &[Hash], told: &mut Told) -> bool {
+    match told.made(unspent_of(told.alloc, journals, shape)) {
         Some(own) => {
             let ys = own.as_slice();
             xs.len() == ys.len() && are_within(xs, ys) && are_within(ys, xs)
@@ -149,25 +162,42 @@ fn hashes_of(coins: &[Input], told: &mut Told) -> Vec<Hash> {
     all
 }
 
-// Tells how many coins there are, of what value, what value was minted, and whether the shards hold them, each once.
-fn tell_coins(state: &State, words: &[&str], minted: u128, coins: &[Input], told: &mut Told) {
-    let alloc = told.alloc;
-    let value = told.made(value_of(alloc, coins)).unwrap_or(0);
-    let many = told.made(count_of_book(alloc, coins)).unwrap_or(0);
+// Whether the shards of a ledger together hold exactly these coins, each once.
+fn are_coins_held(
+    shape: &Shape,
+    journals: &[List<Record>],
+    coins: &[Input],
+    told: &mut Told,
+) -> bool {
+    let many = told.made(count_of_book(told.alloc, coins)).unwrap_or(0);
     let xs = hashes_of(coins, told);
-    let held = are_held(state, words, xs.as_slice(), told);
+    are_held(shape, journals, xs.as_slice(), told) && many == coins.len()
+}
+
+// Tells how many coins there are, of what value, what value was minted, and whether the shards hold them, each once.
+fn tell_coins(
+    shape: &Shape,
+    journals: &[List<Record>],
+    minted: u128,
+    coins: &[Input],
+    told: &mut Told,
+) {
+    let value = told.made(value_of(told.alloc, coins)).unwrap_or(0);
     told.named("coins", coins.len() as u128);
     told.named("value", value);
     told.named("minted", minted);
-    told.word(if many == coins.len() && held {
-        "held"
-    } else {
-        "not held"
-    });
+    let held = are_coins_held(shape, journals, coins, told);
+    told.word(if held { "held" } else { "not held" });
 }
 
 // Tells what coins transactions leave of the mint.
-fn tell_left(state: &State, words: &[&str], txs: &[FullTx], told: &mut Told) {
+fn tell_left(
+    state: &State,
+    shape: &Shape,
+    journals: &[List<Record>],
+    txs: &[FullTx],
+    told: &mut Told,
+) {
     let alloc = told.alloc;
     let coins = state.coins(told);
     let Some(book) = told.made(genesis_book(alloc, coins)) else {
@@ -175,53 +205,86 @@ fn tell_left(state: &State, words: &[&str], txs: &[FullTx], told: &mut Told) {
     };
     let minted = told.made(value_of(alloc, book.as_slice())).unwrap_or(0);
     match told.made(fold_of(alloc, book, txs)) {
-        Some(Some(coins)) => tell_coins(state, words, minted, coins.as_slice(), told),
+        Some(Some(coins)) => tell_coins(shape, journals, minted, coins.as_slice(), told),
         _ => told.word("unfunded"),
     }
 }
 
-/// `comes LEDGER`, and `committed N coins N value V minted V held`, or `committed N unfunded` where an input is not there.
-pub fn comes(state: &State, words: &[&str], told: &mut Told) {
-    match committed(state, words, told) {
+// `comes LEDGER`, and `committed N coins N value V minted V held`, or `committed N unfunded` where an input is not there.
+fn comes(state: &State, shape: &Shape, journals: &[List<Record>], told: &mut Told) {
+    match committed(state, shape, journals, told) {
         Some(txs) => {
             told.named("committed", txs.len() as u128);
-            tell_left(state, words, txs.as_slice(), told);
+            tell_left(state, shape, journals, txs.as_slice(), told);
         }
         None => told.refuse("no history, or one was not submitted"),
     }
 }
 
-// The hashes that transactions leave of others; none where one of them does not find an input.
-fn left(
-    alloc: Global,
-    minted: List<Hash>,
-    txs: &[CompactTx],
-) -> Result<Option<Vec<Hash>>, AllocError> {
-    let mut all = minted.into_vec();
-    for tx in txs {
-        for x in tx.inputs.as_slice() {
-            if !has(all.as_slice(), x) {
-                return Ok(None);
-            }
-            all.retain(|y| y != x);
-        }
-        all.extend_from_slice(tx.outputs.as_slice())?;
+// Takes a transaction's inputs out of hashes, and puts its outputs behind; whether each input was there.
+fn spend(all: &mut Vec<Hash>, tx: &CompactTx, told: &mut Told) -> bool {
+    let mut are_there = true;
+    for x in tx.inputs.as_slice() {
+        are_there = are_there && has(all.as_slice(), x);
+        all.retain(|y| y != x);
     }
-    Ok(Some(all))
+    told.made(all.extend_from_slice(tx.outputs.as_slice()));
+    are_there
 }
 
-/// `holds LEDGER yes HASH..`: whether the shards hold just the hashes that what is committed leaves of these.
-pub fn holds(state: &State, words: &[&str], told: &mut Told) {
-    let alloc = told.alloc;
-    let wanted = told.word_at(words, 1);
+// Takes what transactions spend out of hashes, and puts what they make behind; whether each input was there when it was spent.
+fn spend_all(all: &mut Vec<Hash>, txs: &[CompactTx], told: &mut Told) -> bool {
+    let mut are_there = true;
+    for tx in txs {
+        are_there = spend(all, tx, told) && are_there;
+    }
+    are_there
+}
+
+// Does what the ledger's transactions that are committed do to hashes; whether each input was there when it was spent.
+fn spend_committed(all: &mut Vec<Hash>, rows: &[Row], told: &mut Told) -> bool {
+    match told.made(committed_compact(told.alloc, rows)) {
+        Some(txs) => spend_all(all, txs.as_slice(), told),
+        None => false,
+    }
+}
+
+// `holds LEDGER yes HASH..`: whether the shards hold just the hashes that what is committed leaves of these.
+fn holds(state: &State, shape: &Shape, journals: &[List<Record>], words: &[&str], told: &mut Told) {
     let rows = state.rows(words, 0, told);
-    let Some(txs) = told.made(committed_compact(alloc, rows)) else {
-        return;
-    };
-    let minted = told.hashes_of(rest(words, 2));
-    let is_so = match told.made(left(alloc, minted, txs.as_slice())) {
-        Some(Some(xs)) => are_held(state, words, xs.as_slice(), told),
-        _ => false,
-    };
+    let mut all = told.hashes_of(rest(words, 2)).into_vec();
+    let is_so = spend_committed(&mut all, rows, told)
+        && are_held(shape, journals, all.as_slice(), told);
+    let wanted = told.word_at(words, 1);
     told.check_is(wanted, is_so);
+}
+
+// Does a step that looks at the journals of a ledger.
+fn look_at(
+    state: &State,
+    verb: Verb,
+    shape: &Shape,
+    journals: &[List<Record>],
+    words: &[&str],
+    told: &mut Told,
+) {
+    match verb {
+        Verb::Kept => kept(state, shape, journals, words, told),
+        Verb::Alike => alike(shape, journals, words, told),
+        Verb::Waves => waves(state, shape, journals, words, told),
+        Verb::Outcome => outcome(shape, journals, words, told),
+        Verb::History => history(state, shape, journals, told),
+        Verb::Commits => commits(state, shape, journals, told),
+        Verb::Comes => comes(state, shape, journals, told),
+        Verb::Holds => holds(state, shape, journals, words, told),
+        _ => told.refuse("no such step"),
+    }
+}
+
+/// Does a step that looks at the journals of the ledger which the words begin with.
+pub fn look_at_ledger(state: &State, verb: Verb, words: &[&str], told: &mut Told) {
+    if let Some(shape) = told.given(state.known.shape()) {
+        let journals = state.journals(words, 0, told);
+        look_at(state, verb, &shape, journals.as_slice(), words, told);
+    }
 }

@@ -2,7 +2,7 @@
 use cbdc_types::{FullTx, List, NodeId, Output, Record};
 use plain_check::{Row, World, journal_of};
 use row_records::{Known, Names, Told, Wrong, row};
-use std::alloc::{AllocError, Global};
+use std::alloc::Global;
 
 /// What a row has made so far: hashes and transactions, files as the names of their transactions with strokes between them, ledgers with
 /// the newest record first, and a world. What stands last of a name holds.
@@ -56,13 +56,11 @@ impl State {
 
     /// The journals of the ledger that the word at a place names, by node, the newest record first.
     pub fn journals(&self, words: &[&str], at: usize, told: &mut Told) -> List<List<Record>> {
-        let alloc = told.alloc;
         let rows = self.rows(words, at, told);
-        let Some(shape) = told.given(self.known.shape()) else {
-            return List::new(alloc);
-        };
-        let made = journals_of(alloc, shape.node_count(), rows);
-        told.made(made).unwrap_or(List::new(alloc))
+        match told.given(self.known.shape()) {
+            Some(shape) => journals_of(shape.node_count(), rows, told),
+            None => List::new(told.alloc),
+        }
     }
 
     /// The journal of `LEDGER NODE`, the newest record first.
@@ -76,11 +74,7 @@ impl State {
 
     /// The record of `NODE RECORD`.
     pub fn row(&self, words: &[&str], told: &mut Told) -> Option<Row> {
-        let (node, what) = row(&self.known, words, told)?;
-        Some(Row {
-            node: NodeId(node),
-            what,
-        })
+        row_of(&self.known, words, told)
     }
 
     /// The coins that were minted; none where no mint was told.
@@ -94,18 +88,23 @@ impl State {
         }
     }
 
-    // A copy of a transaction.
-    fn full(&self, name: &str) -> Result<FullTx, Wrong> {
-        Ok(self.known.full(name)?.clone()?)
+    // Appends a copy of a transaction.
+    fn put_full(&self, all: &mut List<FullTx>, name: &str, told: &mut Told) {
+        match self.known.full(name) {
+            Ok(tx) => {
+                if let Some(own) = told.made(tx.clone()) {
+                    told.made(all.push(own));
+                }
+            }
+            Err(wrong) => told.fail(wrong),
+        }
     }
 
     // Appends the transactions of these names; a stroke among them is passed over.
     fn put_fulls(&self, all: &mut List<FullTx>, names: &str, told: &mut Told) {
         for name in names.split_whitespace() {
             if name != "/" {
-                if let Some(tx) = told.given(self.full(name)) {
-                    told.made(all.push(tx));
-                }
+                self.put_full(all, name, told);
             }
         }
     }
@@ -145,15 +144,23 @@ impl State {
     }
 }
 
+/// The record of `NODE RECORD`.
+pub fn row_of(known: &Known, words: &[&str], told: &mut Told) -> Option<Row> {
+    let (node, what) = row(known, words, told)?;
+    Some(Row {
+        node: NodeId(node),
+        what,
+    })
+}
+
 /// The journals of so many nodes, the newest record first.
-pub fn journals_of(
-    alloc: Global,
-    nodes: u32,
-    rows: &[Row],
-) -> Result<List<List<Record>>, AllocError> {
-    let mut all = List::new(alloc);
+pub fn journals_of(nodes: u32, rows: &[Row], told: &mut Told) -> List<List<Record>> {
+    let alloc = told.alloc;
+    let mut all = Vec::new(alloc);
     for node in 0..nodes {
-        all.push(journal_of(alloc, NodeId(node), rows)?)?;
+        if let Some(own) = told.made(journal_of(alloc, NodeId(node), rows)) {
+            told.push(&mut all, own);
+        }
     }
-    Ok(all)
+    List::from_vec(all)
 }

@@ -1,9 +1,10 @@
 // A world of nodes, and what happens in it.
 use crate::calls::call_of;
-use crate::state::State;
+use crate::state::{State, row_of};
+use crate::verbs::Verb;
 use cbdc_types::{List, NodeId, Record};
-use plain_check::{Event, Node, World, is_recovered};
-use row_records::{Told, rest};
+use plain_check::{Event, Node, Row, World, is_recovered};
+use row_records::{Known, Told, rest};
 
 /// No world was made before.
 pub const NO_WORLD: &str = "no world was made";
@@ -21,62 +22,75 @@ pub fn world(state: &mut State, words: &[&str], told: &mut Told) {
 }
 
 // Events happen in turn.
-fn happens(state: &mut State, events: &[Event], told: &mut Told) {
-    let alloc = told.alloc;
-    match &mut state.world {
-        Some(world) => {
-            told.made(world.run(alloc, events));
-        }
-        None => told.refuse(NO_WORLD),
-    }
+fn run(world: &mut World, events: &[Event], told: &mut Told) {
+    told.made(world.run(told.alloc, events));
 }
 
-/// `begin NODE RECORD`: it is begun there, and in flight.
-pub fn begin(state: &mut State, words: &[&str], told: &mut Told) {
-    if let Some(row) = state.row(words, told) {
-        happens(state, &[Event::Begin(row.node, row.what)], told);
-    }
+// `begin NODE RECORD`: it is begun there, and in flight.
+fn begin(world: &mut World, row: Row, told: &mut Told) {
+    run(world, &[Event::Begin(row.node, row.what)], told);
 }
 
-/// `write NODE RECORD`: it is begun there and ended.
-pub fn write(state: &mut State, words: &[&str], told: &mut Told) {
-    if let Some(row) = state.row(words, told) {
-        let node = row.node;
-        happens(
-            state,
-            &[Event::Begin(node, row.what), Event::End(node)],
-            told,
-        );
-    }
+// `end NODE`: what is in flight there is written.
+fn end(world: &mut World, node: NodeId, told: &mut Told) {
+    run(world, &[Event::End(node)], told);
 }
 
-/// `end NODE`: what is in flight there is written.
-pub fn end(state: &mut State, words: &[&str], told: &mut Told) {
-    let node = NodeId(told.small_at(words, 0));
-    happens(state, &[Event::End(node)], told);
+// `write NODE RECORD`: it is begun there and ended.
+fn write(world: &mut World, row: Row, told: &mut Told) {
+    let node = row.node;
+    begin(world, row, told);
+    end(world, node, told);
 }
 
-/// `stop NODE kept`, `stop NODE lost`: the node goes down, and keeps what is in flight or not.
-pub fn stop(state: &mut State, words: &[&str], told: &mut Told) {
-    let node = NodeId(told.small_at(words, 0));
+// `stop NODE kept`, `stop NODE lost`: the node goes down, and keeps what is in flight or not.
+fn stop(world: &mut World, node: NodeId, words: &[&str], told: &mut Told) {
     let is_kept = told.word_at(words, 1) == "kept";
     if !is_kept {
         told.expect(words, 1, "lost");
     }
-    happens(state, &[Event::Crash(node, is_kept)], told);
+    run(world, &[Event::Crash(node, is_kept)], told);
 }
 
-/// `reopen NODE`
-pub fn reopen(state: &mut State, words: &[&str], told: &mut Told) {
+// `again NODE CALL`: the call is made again, however old.
+fn again(known: &Known, world: &mut World, node: NodeId, words: &[&str], told: &mut Told) {
+    if let Some(call) = call_of(known, node.0, rest(words, 1), told) {
+        run(world, &[Event::Repeat(node, call)], told);
+    }
+}
+
+// What happens at a node.
+fn happen_at(known: &Known, world: &mut World, verb: Verb, words: &[&str], told: &mut Told) {
     let node = NodeId(told.small_at(words, 0));
-    happens(state, &[Event::Reopen(node)], told);
+    match verb {
+        Verb::End => end(world, node, told),
+        Verb::Stop => stop(world, node, words, told),
+        // `reopen NODE`
+        Verb::Reopen => run(world, &[Event::Reopen(node)], told),
+        _ => again(known, world, node, words, told),
+    }
 }
 
-/// `again NODE CALL`: the call is made again, however old.
-pub fn again(state: &mut State, words: &[&str], told: &mut Told) {
-    let node = told.small_at(words, 0);
-    if let Some(call) = call_of(&state.known, node, rest(words, 1), told) {
-        happens(state, &[Event::Repeat(NodeId(node), call)], told);
+// What happens with a record.
+fn happen_with(known: &Known, world: &mut World, verb: Verb, words: &[&str], told: &mut Told) {
+    if let Some(row) = row_of(known, words, told) {
+        match verb {
+            Verb::Begin => begin(world, row, told),
+            _ => write(world, row, told),
+        }
+    }
+}
+
+/// Does a step in which something happens in the world.
+pub fn happen(state: &mut State, verb: Verb, words: &[&str], told: &mut Told) {
+    let State { known, world, .. } = state;
+    let Some(world) = world else {
+        told.refuse(NO_WORLD);
+        return;
+    };
+    match verb {
+        Verb::Begin | Verb::Write => happen_with(known, world, verb, words, told),
+        other => happen_at(known, world, other, words, told),
     }
 }
 
