@@ -1,7 +1,6 @@
 // Disks as bytes, and the journals that they hold: a record is a gate of 1, the length of its body in 8 bytes, and the body.
 use byteorder::{ByteOrder, LittleEndian};
-use row_records::{put_count, put_word};
-use std::alloc::{AllocError, Global};
+use row_records::Told;
 
 /// A disk between two runs: its bytes, how many it may have, and which calls of the next run fail: so many from one on.
 #[derive(Drop)]
@@ -37,10 +36,9 @@ fn gate_behind(bytes: &[u8], records: usize) -> usize {
 }
 
 /// Keeps a disk's first records alone, and the closed gate behind them.
-pub fn cut(bytes: &mut Vec<u8>, records: usize) -> Result<(), AllocError> {
+pub fn cut(bytes: &mut Vec<u8>, records: usize, told: &mut Told) {
     bytes.truncate(gate_behind(bytes, records));
-    bytes.push(0)?;
-    Ok(())
+    told.push(bytes, 0);
 }
 
 // Whether an open gate stands there.
@@ -48,17 +46,16 @@ fn is_open(bytes: &[u8], gate: usize) -> bool {
     bytes.get(gate) == Some(&1)
 }
 
-/// Appends where the gates of a disk's records stand, and the closing one.
-pub fn put_gates(alloc: Global, text: &mut String, bytes: &[u8]) -> Result<(), AllocError> {
+/// Tells where the gates of a disk's records stand, and the closing one.
+pub fn tell_gates(told: &mut Told, bytes: &[u8]) {
     let mut at = 0usize;
     for _ in bytes {
-        put_count(alloc, text, at as u64)?;
+        told.number(at as u64);
         if !is_open(bytes, at) {
             break;
         }
         at = next_gate(bytes, at);
     }
-    Ok(())
 }
 
 /// The word of a record's kind.
@@ -77,47 +74,48 @@ pub fn kind_word(kind: u8) -> &'static str {
     }
 }
 
-// Appends the line of the record at a gate: its kind and stamp, and where it is of a batch that one's lane and number.
-fn put_record(
-    alloc: Global,
-    text: &mut String,
-    bytes: &[u8],
-    gate: usize,
-) -> Result<(), AllocError> {
+// Tells the line of the record at a gate: its kind and stamp, and where it is of a batch that one's lane and number.
+fn tell_record(told: &mut Told, bytes: &[u8], gate: usize) {
     let body = gate.saturating_add(9);
     let kind = bytes.get(body).copied().unwrap_or(0);
-    put_word(text, kind_word(kind))?;
-    put_count(alloc, text, number_at(bytes, body.saturating_add(1)))?;
+    told.word(kind_word(kind));
+    told.number(number_at(bytes, body.saturating_add(1)));
     if kind != 1 && kind != 5 {
-        put_count(alloc, text, number_at(bytes, body.saturating_add(9)))?;
-        put_count(alloc, text, number_at(bytes, body.saturating_add(17)))?;
+        told.number(number_at(bytes, body.saturating_add(9)));
+        told.number(number_at(bytes, body.saturating_add(17)));
     }
-    text.push('\n')
+    told.line();
 }
 
-/// Appends a line for each of a disk's records.
-pub fn put_records(alloc: Global, text: &mut String, bytes: &[u8]) -> Result<(), AllocError> {
+/// Tells a line for each of a disk's records.
+pub fn tell_records(told: &mut Told, bytes: &[u8]) {
     let mut at = 0usize;
     for _ in bytes {
         if !is_open(bytes, at) {
             break;
         }
-        put_record(alloc, text, bytes, at)?;
+        tell_record(told, bytes, at);
         at = next_gate(bytes, at);
     }
-    Ok(())
 }
 
-/// Appends bytes in digits, as a line.
-pub fn put_digits(alloc: Global, text: &mut String, bytes: &[u8]) -> Result<(), AllocError> {
-    text.push_str(hex::encode(alloc, bytes)?.as_str())?;
-    text.push('\n')
+/// Tells bytes in digits, as a line.
+pub fn tell_digits(told: &mut Told, bytes: &[u8]) {
+    told.digits(bytes);
+    told.line();
 }
 
-/// Appends all disks in digits, a line for each.
-pub fn put_disks(alloc: Global, text: &mut String, disks: &[DiskState]) -> Result<(), AllocError> {
+/// All disks in digits, a line for each.
+pub fn digits_of(disks: &[DiskState], told: &mut Told) -> String {
+    let mut own = Told::new(told.alloc);
     for disk in disks {
-        put_digits(alloc, text, &disk.bytes)?;
+        tell_digits(&mut own, &disk.bytes);
     }
-    Ok(())
+    text_of(own, told)
+}
+
+/// The whole answer; nothing where something went wrong on the way to it, which is told.
+pub fn text_of(own: Told, told: &mut Told) -> String {
+    let alloc = told.alloc;
+    told.given(own.text()).unwrap_or(String::new(alloc))
 }

@@ -3,168 +3,138 @@ use crate::state::{State, Tx};
 use crate::verbs::{Verb, verb_of};
 use crate::words::{count_at, hex_at};
 use row_records::{
-    Wrong, count, put_coins, put_count, put_inputs, put_number, put_witnesses, put_word, rest,
-    word, words_around, write_over,
+    Told, put_coins, put_inputs, put_number, put_witnesses, rest, words_around, write_over,
 };
-use std::alloc::Global;
 
 /// `hash NAME DIGITS`
-pub fn name_hash(state: &mut State, alloc: Global, words: &[&str]) -> Result<(), Wrong> {
-    let (name, digits) = (word(words, 0)?, word(words, 1)?);
+pub fn name_hash(state: &mut State, words: &[&str], told: &mut Told) {
+    let alloc = told.alloc;
+    let (name, digits) = (told.word_at(words, 0), told.word_at(words, 1));
     if digits.len() != 64 {
-        return Err(Wrong::Line("a hash has 64 digits"));
+        told.refuse("a hash has 64 digits");
     }
-    let digits = String::from_str(alloc, digits)?;
-    state.hashes.put(alloc, name, digits)?;
-    Ok(())
-}
-
-// How many witnesses there are: as told, or as many as inputs.
-fn witness_count(told: &[&str], inputs: &[&str]) -> Result<usize, Wrong> {
-    match told {
-        [] => Ok(inputs.len()),
-        [word, ..] => count(word),
+    if let Some(own) = told.made(String::from_str(alloc, digits)) {
+        told.made(state.hashes.put(alloc, name, own));
     }
 }
 
-// Appends the bytes of `INPUT.. -> COIN.. [witnesses N]`; the answer is how many inputs there are.
-fn put_tx(alloc: Global, bytes: &mut Vec<u8>, words: &[&str]) -> Result<usize, Wrong> {
-    let (parts, told) = words_around(words, "witnesses");
+// Appends the bytes of `INPUT.. -> COIN.. [witnesses N]`, with a witness for each input where none are told; the answer is how many inputs there are.
+fn put_tx(bytes: &mut Vec<u8>, words: &[&str], told: &mut Told) -> usize {
+    let alloc = told.alloc;
+    let (parts, own) = words_around(words, "witnesses");
     let (inputs, outputs) = words_around(parts, "->");
-    put_inputs(alloc, bytes, inputs)?;
-    put_coins(alloc, bytes, outputs)?;
-    put_witnesses(bytes, witness_count(told, inputs)?)?;
-    Ok(inputs.len())
+    let many = match own {
+        [] => inputs.len(),
+        own => count_at(own, 0, told),
+    };
+    told.given(put_inputs(alloc, bytes, inputs));
+    told.given(put_coins(alloc, bytes, outputs));
+    told.given(put_witnesses(bytes, many));
+    inputs.len()
 }
 
 /// `tx NAME INPUT.. -> COIN.. [witnesses N]`: with a witness for each input where none are told.
-pub fn name_tx(state: &mut State, alloc: Global, words: &[&str]) -> Result<(), Wrong> {
-    let name = word(words, 0)?;
+pub fn name_tx(state: &mut State, words: &[&str], told: &mut Told) {
+    let alloc = told.alloc;
+    let name = told.word_at(words, 0);
     let mut bytes = Vec::new(alloc);
-    let inputs = put_tx(alloc, &mut bytes, rest(words, 1))?;
-    state.txs.put(alloc, name, Tx { bytes, inputs })?;
-    Ok(())
-}
-
-// `client TX..`: a client file of these transactions.
-fn put_client(state: &State, bytes: &mut Vec<u8>, names: &[&str]) -> Result<(), Wrong> {
-    put_number(bytes, names.len() as u64)?;
-    for name in names {
-        bytes.extend_from_slice(&state.tx(name)?.bytes)?;
-    }
-    Ok(())
-}
-
-// Appends a good line for each input of a transaction.
-fn put_verdicts(state: &State, alloc: Global, text: &mut String, name: &str) -> Result<(), Wrong> {
-    let (id, inputs) = (state.hash(name)?, state.tx(name)?.inputs);
-    for index in 0..inputs {
-        put_word(text, id)?;
-        put_count(alloc, text, index as u64)?;
-        text.push_str(" good\n")?;
-    }
-    Ok(())
-}
-
-// `good TX..`: a verdict file with a good line for each input of these transactions, whose ids are hashes of the same names.
-fn put_good(
-    state: &State,
-    alloc: Global,
-    bytes: &mut Vec<u8>,
-    names: &[&str],
-) -> Result<(), Wrong> {
-    let mut text = String::new(alloc);
-    for name in names {
-        put_verdicts(state, alloc, &mut text, name)?;
-    }
-    bytes.extend_from_slice(text.as_bytes())?;
-    Ok(())
-}
-
-// Appends a text.
-fn put_text(bytes: &mut Vec<u8>, text: &str) -> Result<(), Wrong> {
-    bytes.extend_from_slice(text.as_bytes())?;
-    Ok(())
+    let inputs = put_tx(&mut bytes, rest(words, 1), told);
+    told.made(state.txs.put(alloc, name, Tx { bytes, inputs }));
 }
 
 // Appends bytes.
-fn put_hex(alloc: Global, bytes: &mut Vec<u8>, words: &[&str]) -> Result<(), Wrong> {
-    let new = hex_at(alloc, words, 0)?;
-    bytes.extend_from_slice(&new)?;
-    Ok(())
+fn put(bytes: &mut Vec<u8>, new: &[u8], told: &mut Told) {
+    told.made(bytes.extend_from_slice(new));
 }
 
-// Writes bytes over those at a place.
-fn set(alloc: Global, bytes: &mut [u8], words: &[&str]) -> Result<(), Wrong> {
-    let at = count_at(words, 0)?;
-    let new = hex_at(alloc, words, 1)?;
-    write_over(bytes, at, &new)
-}
-
-// Keeps the first bytes alone.
-fn truncate(bytes: &mut Vec<u8>, words: &[&str]) -> Result<(), Wrong> {
-    bytes.truncate(count_at(words, 0)?);
-    Ok(())
-}
-
-/// Changes bytes: `set AT DIGITS` writes over those that stand there, `add DIGITS` puts others behind them, `truncate BYTES` keeps the first.
-pub fn change_bytes(
-    alloc: Global,
-    bytes: &mut Vec<u8>,
-    verb: Verb,
-    words: &[&str],
-) -> Result<(), Wrong> {
-    match verb {
-        Verb::Set => set(alloc, bytes, words),
-        Verb::Add => put_hex(alloc, bytes, words),
-        Verb::Truncate => truncate(bytes, words),
-        _ => Err(Wrong::Line("no such change")),
+// `client TX..`: a client file of these transactions.
+fn put_client(state: &State, bytes: &mut Vec<u8>, names: &[&str], told: &mut Told) {
+    told.made(put_number(bytes, names.len() as u64));
+    for name in names {
+        if let Some(tx) = state.tx(name, told) {
+            put(bytes, &tx.bytes, told);
+        }
     }
 }
 
-// Appends the bytes of a file with a change.
-fn put_changed(
-    state: &State,
-    alloc: Global,
-    bytes: &mut Vec<u8>,
-    name: &str,
-    verb: Verb,
-    words: &[&str],
-) -> Result<(), Wrong> {
-    bytes.extend_from_slice(state.file(name)?)?;
-    change_bytes(alloc, bytes, verb, words)
+// Tells a good line for each input of a transaction.
+fn tell_good(state: &State, name: &str, lines: &mut Told) {
+    let id = state.hash(name, lines);
+    if let Some(tx) = state.tx(name, lines) {
+        for index in 0..tx.inputs {
+            lines.word(id);
+            lines.number(index as u64);
+            lines.word("good");
+            lines.line();
+        }
+    }
 }
 
-// Appends the bytes that a file is to have.
-fn put_file(
-    state: &State,
-    alloc: Global,
-    bytes: &mut Vec<u8>,
-    name: &str,
-    words: &[&str],
-    text: &str,
-) -> Result<(), Wrong> {
-    let behind = rest(words, 1);
-    match verb_of(words)? {
-        Verb::Mint => put_coins(alloc, bytes, behind),
-        Verb::Client => put_client(state, bytes, behind),
-        Verb::Good => put_good(state, alloc, bytes, behind),
-        Verb::Text => put_text(bytes, text),
-        Verb::Hex => put_hex(alloc, bytes, behind),
-        other => put_changed(state, alloc, bytes, name, other, behind),
+// `good TX..`: a verdict file with a good line for each input of these transactions, whose ids are hashes of the same names.
+fn put_good(state: &State, bytes: &mut Vec<u8>, names: &[&str], told: &mut Told) {
+    let mut lines = Told::new(told.alloc);
+    for name in names {
+        tell_good(state, name, &mut lines);
+    }
+    put(bytes, lines.as_str().as_bytes(), told);
+    told.given(lines.end());
+}
+
+// Appends bytes that digits spell.
+fn put_hex(bytes: &mut Vec<u8>, words: &[&str], told: &mut Told) {
+    let new = hex_at(words, 0, told);
+    put(bytes, &new, told);
+}
+
+// Writes bytes over those at a place.
+fn set(bytes: &mut [u8], words: &[&str], told: &mut Told) {
+    let at = count_at(words, 0, told);
+    let new = hex_at(words, 1, told);
+    told.given(write_over(bytes, at, &new));
+}
+
+/// Changes bytes: `set AT DIGITS` writes over those that stand there, `add DIGITS` puts others behind them, `truncate BYTES` keeps the first.
+pub fn change_bytes(bytes: &mut Vec<u8>, verb: Verb, words: &[&str], told: &mut Told) {
+    match verb {
+        Verb::Set => set(bytes, words, told),
+        Verb::Add => put_hex(bytes, words, told),
+        Verb::Truncate => bytes.truncate(count_at(words, 0, told)),
+        _ => told.refuse("no such change"),
+    }
+}
+
+// Appends the bytes of the file that the words begin with, with a change.
+fn put_changed(state: &State, bytes: &mut Vec<u8>, verb: Verb, words: &[&str], told: &mut Told) {
+    if let Some(file) = state.file(told.word_at(words, 0), told) {
+        put(bytes, file, told);
+    }
+    change_bytes(bytes, verb, rest(words, 2), told);
+}
+
+// Appends the bytes that the file is to have which the words begin with.
+fn put_file(state: &State, bytes: &mut Vec<u8>, words: &[&str], text: &str, told: &mut Told) {
+    let alloc = told.alloc;
+    let behind = rest(words, 2);
+    let Some(verb) = verb_of(rest(words, 1), told) else {
+        return;
+    };
+    match verb {
+        Verb::Mint => {
+            told.given(put_coins(alloc, bytes, behind));
+        }
+        Verb::Client => put_client(state, bytes, behind, told),
+        Verb::Good => put_good(state, bytes, behind, told),
+        Verb::Text => put(bytes, text.as_bytes(), told),
+        Verb::Hex => put_hex(bytes, behind, told),
+        other => put_changed(state, bytes, other, words, told),
     }
 }
 
 /// `file NAME mint COIN..`, `client TX..`, `good TX..`, `text` with a block, `hex DIGITS`, `set AT DIGITS`, `add DIGITS`, `truncate BYTES`
-pub fn name_file(
-    state: &mut State,
-    alloc: Global,
-    words: &[&str],
-    text: &str,
-) -> Result<(), Wrong> {
-    let name = word(words, 0)?;
+pub fn name_file(state: &mut State, words: &[&str], text: &str, told: &mut Told) {
+    let alloc = told.alloc;
+    let name = told.word_at(words, 0);
     let mut bytes = Vec::new(alloc);
-    put_file(state, alloc, &mut bytes, name, rest(words, 1), text)?;
-    state.files.put(alloc, name, bytes)?;
-    Ok(())
+    put_file(state, &mut bytes, words, text, told);
+    told.made(state.files.put(alloc, name, bytes));
 }

@@ -1,75 +1,72 @@
-// Steps that look at what is there: each appends what came, which is then compared with what the row says.
-use crate::disks::{DiskState, kind_word, put_digits, put_disks, put_gates, put_records};
+// Steps that look at what is there: each tells what came, which is then compared with what the row says.
+use crate::disks::{DiskState, digits_of, kind_word, tell_gates, tell_records, text_of};
 use crate::play::Ran;
 use crate::state::State;
 use crate::verbs::Verb;
 use crate::words::{count_at, hex_at};
 use cbdc_types::NodeId;
-use outside::{Point, When};
-use row_records::{Block, Wrong, check_text, differ, put_count, put_word, rest, word};
-use std::alloc::{AllocError, Global};
+use outside::{Disk, Point, When};
+use row_records::{Block, Told, rest};
 
 /// What stands behind `$`: the text that is printed, or `~` for any, and the status, or `any`.
-pub fn check_run(alloc: Global, text: &str, status: u64, block: &Block) -> Result<(), Wrong> {
+pub fn check_run(text: &str, status: u64, block: &Block, told: &mut Told) {
     if !block.is_any {
-        check_text(alloc, block.text.as_str(), text)?;
+        told.check_same(block.text.as_str(), text);
     }
-    if block.is_any_status {
-        return Ok(());
+    if !block.is_any_status && status != block.status {
+        check_status(block.status, text, status, told);
     }
-    check_status(alloc, text, status, block.status)
 }
 
-// Nothing where the status is the one that is wanted.
-fn check_status(alloc: Global, text: &str, came: u64, wanted: u64) -> Result<(), Wrong> {
-    if came == wanted {
-        return Ok(());
-    }
-    let came = format!(in alloc; "{text}= {came}")?;
-    let wanted = format!(in alloc; "= {wanted}")?;
-    Err(differ(alloc, wanted.as_str(), came.as_str()))
+// Tells two statuses that differ, the one that came behind what was printed.
+fn check_status(wanted: u64, text: &str, came: u64, told: &mut Told) {
+    let (mut first, mut other) = (Told::new(told.alloc), Told::new(told.alloc));
+    first.named("=", wanted as u128);
+    other.put(text);
+    other.named("=", came as u128);
+    told.check_same(first.as_str(), other.as_str());
 }
 
 /// `same RACK`: all disks have the bytes of those that were kept.
-pub fn same(state: &State, alloc: Global, words: &[&str]) -> Result<(), Wrong> {
-    let wanted = state.rack(alloc, word(words, 0)?)?;
-    let mut came = String::new(alloc);
-    put_disks(alloc, &mut came, &state.disks)?;
-    check_text(alloc, wanted.as_str(), came.as_str())
+pub fn same(state: &State, words: &[&str], told: &mut Told) {
+    let wanted = state.rack(told.word_at(words, 0), told);
+    let came = digits_of(&state.disks, told);
+    told.check_same(wanted.as_str(), came.as_str());
+}
+
+// A disk has these bytes at a place.
+fn check_bytes(disk: &[u8], at: usize, wanted: &[u8], told: &mut Told) {
+    match disk.get(at..at.saturating_add(wanted.len())) {
+        Some(came) => told.check_bytes(wanted, came),
+        None => told.refuse("past the disk's end"),
+    }
+}
+
+/// `bytes NODE AT DIGITS`: a disk has these bytes there.
+pub fn bytes(state: &State, words: &[&str], told: &mut Told) {
+    if let Some(disk) = state.disk(words, told) {
+        let at = count_at(words, 1, told);
+        let wanted = hex_at(words, 2, told);
+        check_bytes(&disk.bytes, at, &wanted, told);
+    }
 }
 
 // `used BYTES..`: how many bytes each disk has.
-fn put_used(alloc: Global, came: &mut String, disks: &[DiskState]) -> Result<(), Wrong> {
+fn tell_used(came: &mut Told, disks: &[DiskState]) {
     for disk in disks {
-        put_count(alloc, came, disk.bytes.len() as u64)?;
-    }
-    Ok(())
-}
-
-// `bytes NODE AT DIGITS`: as many bytes of a disk as there are digits for.
-fn put_part(alloc: Global, came: &mut String, disk: &[u8], words: &[&str]) -> Result<(), Wrong> {
-    let at = count_at(words, 1)?;
-    let end = at.saturating_add(hex_at(alloc, words, 2)?.len());
-    match disk.get(at..end) {
-        Some(bytes) => Ok(put_digits(alloc, came, bytes)?),
-        None => Err(Wrong::Line("past the disk's end")),
+        came.number(disk.bytes.len() as u64);
     }
 }
 
-// Appends a call: the kind of the record that is asked for, and the node.
-fn put_call(alloc: Global, text: &mut String, point: &Point) -> Result<(), AllocError> {
-    let (word, node) = (kind_word(point.kind), point.node.0);
-    put_word(text, format!(in alloc; "{word}:{node}")?.as_str())
-}
-
-// `asked KIND:NODE..`: what the last run asked of nodes, in order.
-fn put_asked(alloc: Global, came: &mut String, points: &[Point]) -> Result<(), Wrong> {
+// `asked KIND:NODE..`: what the last run asked of nodes, in order: the kinds of the records, and the nodes.
+fn tell_asked(came: &mut Told, points: &[Point]) {
     for point in points {
         if point.when == When::Inside {
-            put_call(alloc, came, point)?;
+            came.word(kind_word(point.kind));
+            came.put(":");
+            came.put_shown(&point.node.0);
         }
     }
-    Ok(())
 }
 
 // The word of where a point lies about a lock.
@@ -81,119 +78,109 @@ fn when_word(when: When) -> &'static str {
     }
 }
 
-// Appends the line of a point.
-fn put_point(alloc: Global, text: &mut String, point: &Point) -> Result<(), AllocError> {
-    put_count(alloc, text, u64::from(point.lane.0))?;
-    put_count(alloc, text, u64::from(point.node.0))?;
-    put_word(text, kind_word(point.kind))?;
-    put_word(text, when_word(point.when))?;
-    text.push('\n')
-}
-
 // `passed`, and a line `LANE NODE KIND WHEN` for each point that the last run passed, in order.
-fn put_passed(alloc: Global, came: &mut String, points: &[Point]) -> Result<(), Wrong> {
+fn tell_passed(came: &mut Told, points: &[Point]) {
     for point in points {
-        put_point(alloc, came, point)?;
+        came.number(u64::from(point.lane.0));
+        came.number(u64::from(point.node.0));
+        came.word(kind_word(point.kind));
+        came.word(when_word(point.when));
+        came.line();
     }
-    Ok(())
 }
 
 // `fetched NAME..`: the files that the last run read, in order.
-fn put_fetched(came: &mut String, files: &[String]) -> Result<(), Wrong> {
+fn tell_fetched(came: &mut Told, files: &[String]) {
     for name in files {
-        put_word(came, name.as_str())?;
+        came.word(name.as_str());
     }
-    Ok(())
 }
 
 // `taken NODE..`: the nodes whose disks the last run took, in order.
-fn put_taken(alloc: Global, came: &mut String, nodes: &[NodeId]) -> Result<(), Wrong> {
+fn tell_taken(came: &mut Told, nodes: &[NodeId]) {
     for node in nodes {
-        put_count(alloc, came, u64::from(node.0))?;
+        came.number(u64::from(node.0));
     }
-    Ok(())
 }
 
 // `faults COUNT..`: how many calls of each disk failed in the last run.
-fn put_faults(state: &State, alloc: Global, came: &mut String, ran: &Ran) -> Result<(), Wrong> {
+fn tell_faults(came: &mut Told, ran: &Ran, disks: &[DiskState]) {
     let mut node = 0u32;
-    for _ in &state.disks {
-        put_count(alloc, came, ran.faults(node)?)?;
+    for _ in disks {
+        if let Some(disk) = ran.disk(node, came) {
+            came.number(disk.faults());
+        }
         node = node.saturating_add(1);
     }
-    Ok(())
 }
 
-// Appends the result of the last run's calls.
-fn put_of_run(state: &State, alloc: Global, came: &mut String, verb: Verb) -> Result<(), Wrong> {
-    let ran = state.last_run()?;
+// Tells the result of the last run's calls.
+fn tell_of_run(state: &State, ran: &Ran, verb: Verb, came: &mut Told) {
     match verb {
-        Verb::Asked => put_asked(alloc, came, &ran.points),
-        Verb::Passed => put_passed(alloc, came, &ran.points),
-        Verb::Fetched => put_fetched(came, &ran.files),
-        Verb::Taken => put_taken(alloc, came, &ran.nodes),
-        Verb::Faults => put_faults(state, alloc, came, ran),
-        _ => Err(Wrong::Line("no such step")),
+        Verb::Asked => tell_asked(came, &ran.points),
+        Verb::Passed => tell_passed(came, &ran.points),
+        Verb::Fetched => tell_fetched(came, &ran.files),
+        Verb::Taken => tell_taken(came, &ran.nodes),
+        Verb::Faults => tell_faults(came, ran, &state.disks),
+        _ => came.refuse("no such step"),
     }
 }
 
-// Appends what is on a disk: `gates NODE PLACE..` where the gates of its records stand, and the closing one; `journal NODE` a line for each
-// record; `bytes NODE AT DIGITS` these bytes.
-fn put_of_disk(
-    alloc: Global,
-    came: &mut String,
-    disk: &[u8],
-    verb: Verb,
-    words: &[&str],
-) -> Result<(), Wrong> {
+// Tells what came: `used` of all disks, `gates NODE` and `journal NODE` of one, the others of the last run.
+fn tell_came(state: &State, verb: Verb, words: &[&str], came: &mut Told) {
     match verb {
-        Verb::Gates => Ok(put_gates(alloc, came, disk)?),
-        Verb::Journal => Ok(put_records(alloc, came, disk)?),
-        _ => put_part(alloc, came, disk, words),
-    }
-}
-
-// Appends what came.
-fn put_came(
-    state: &State,
-    alloc: Global,
-    came: &mut String,
-    verb: Verb,
-    words: &[&str],
-) -> Result<(), Wrong> {
-    match verb {
-        Verb::Used => put_used(alloc, came, &state.disks),
-        Verb::Gates | Verb::Journal | Verb::Bytes => {
-            let disk = state.disk(word(words, 0)?)?;
-            put_of_disk(alloc, came, &disk.bytes, verb, words)
+        Verb::Used => tell_used(came, &state.disks),
+        Verb::Gates => {
+            if let Some(disk) = state.disk(words, came) {
+                tell_gates(came, &disk.bytes);
+            }
         }
-        other => put_of_run(state, alloc, came, other),
+        Verb::Journal => {
+            if let Some(disk) = state.disk(words, came) {
+                tell_records(came, &disk.bytes);
+            }
+        }
+        other => {
+            if let Some(ran) = state.last_run(came) {
+                tell_of_run(state, ran, other, came);
+            }
+        }
     }
+}
+
+// Words in a line.
+fn line_of(words: &[&str], told: &mut Told) -> String {
+    let mut own = Told::new(told.alloc);
+    for word in words {
+        own.word(word);
+    }
+    text_of(own, told)
 }
 
 // Nothing where what came is these words.
-fn check_line(alloc: Global, words: &[&str], came: &str) -> Result<(), Wrong> {
-    let mut wanted = String::new(alloc);
-    for word in words {
-        put_word(&mut wanted, word)?;
-    }
-    check_text(alloc, wanted.as_str(), came)
+fn check_line(words: &[&str], came: &str, told: &mut Told) {
+    let wanted = line_of(words, told);
+    told.check_same(wanted.as_str(), came);
 }
 
-/// Does a step that looks at what is there: what came is to be its words, behind those that say where it looks, or the text behind it.
-pub fn look(
-    state: &State,
-    alloc: Global,
-    verb: Verb,
-    words: &[&str],
-    text: &str,
-) -> Result<(), Wrong> {
-    let mut came = String::new(alloc);
-    put_came(state, alloc, &mut came, verb, words)?;
+// What came.
+fn came_of(state: &State, verb: Verb, words: &[&str], told: &mut Told) -> String {
+    let mut own = Told::new(told.alloc);
+    tell_came(state, verb, words, &mut own);
+    text_of(own, told)
+}
+
+// What came is to be the step's words, behind those that say where it looks, or the text behind it.
+fn check_came(verb: Verb, words: &[&str], text: &str, came: &str, told: &mut Told) {
     match verb {
-        Verb::Journal | Verb::Passed => check_text(alloc, text, came.as_str()),
-        Verb::Gates => check_line(alloc, rest(words, 1), came.as_str()),
-        Verb::Bytes => check_line(alloc, rest(words, 2), came.as_str().trim()),
-        _ => check_line(alloc, words, came.as_str()),
+        Verb::Journal | Verb::Passed => told.check_same(text, came),
+        Verb::Gates => check_line(rest(words, 1), came, told),
+        _ => check_line(words, came, told),
     }
+}
+
+/// Does a step that looks at what is there, and compares what came.
+pub fn look(state: &State, verb: Verb, words: &[&str], text: &str, told: &mut Told) {
+    let came = came_of(state, verb, words, told);
+    check_came(verb, words, text, came.as_str(), told);
 }

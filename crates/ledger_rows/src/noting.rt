@@ -5,7 +5,8 @@ use crate::ordering::PointOrder;
 use cbdc_types::NodeId;
 use mem_devices::{FaultDisk, MemInbox, MemRack};
 use outside::{Failed, Gate, Inbox, Point, Rack};
-use std::alloc::{AllocError, Global};
+use row_records::Told;
+use std::alloc::Global;
 use std::sync::{Mutex, Wait};
 
 /// A gate that notes the points of calls that are passed, and holds all points of an order to it.
@@ -32,14 +33,14 @@ impl NotingGate {
     }
 
     /// The points of calls that were passed, those of a phase by their nodes.
-    pub fn into_points(self, alloc: Global) -> Result<Vec<Point>, AllocError> {
+    pub fn into_points(self, told: &mut Told) -> Vec<Point> {
         let NotingGate {
             points,
             order: _,
             is_slow: _,
         } = self;
         let points = points.into_inner();
-        by_nodes(alloc, points.as_slice())
+        by_nodes(points.as_slice(), told)
     }
 }
 
@@ -54,23 +55,29 @@ fn is_of_phase(point: &Point, last: &Point) -> bool {
 }
 
 // The points of each phase in the order of their nodes, since its calls may be made at once.
-fn by_nodes(alloc: Global, points: &[Point]) -> Result<Vec<Point>, AllocError> {
-    let mut numbered = Vec::with_capacity(alloc, points.len())?;
+fn by_nodes(points: &[Point], told: &mut Told) -> Vec<Point> {
+    let mut phased = numbered(points, told);
+    told.made(phased.sort_by_key(|(phase, point)| (*phase, point.node.0)));
+    let mut ordered = Vec::new(told.alloc);
+    for (_, point) in &phased {
+        told.push(&mut ordered, *point);
+    }
+    ordered
+}
+
+// Points, each with the number of its phase.
+fn numbered(points: &[Point], told: &mut Told) -> Vec<(u64, Point)> {
+    let mut numbered = Vec::new(told.alloc);
     let mut phase = 0u64;
     let mut last = None;
     for point in points {
         if last.is_some_and(|last| !is_of_phase(point, &last)) {
             phase = phase.wrapping_add(1);
         }
-        numbered.push((phase, *point))?;
+        told.push(&mut numbered, (phase, *point));
         last = Some(*point);
     }
-    numbered.sort_by_key(|(phase, point)| (*phase, point.node.0))?;
-    let mut ordered = Vec::with_capacity(alloc, numbered.len())?;
-    for (_, point) in &numbered {
-        ordered.push(*point)?;
-    }
-    Ok(ordered)
+    numbered
 }
 
 impl Gate for NotingGate {

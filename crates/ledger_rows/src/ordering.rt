@@ -1,9 +1,8 @@
 // Points in an order, where lanes run beside each other.
 use crate::disks::kind_word;
-use cbdc_types::{LaneId, NodeId};
+use cbdc_types::NodeId;
 use outside::{Point, When};
-use row_records::{Wrong, number};
-use std::alloc::Global;
+use row_records::Told;
 use std::sync::atomic::{AtomicBool, AtomicUsize, Ordering};
 use std::thread;
 
@@ -67,48 +66,42 @@ impl PointOrder {
     }
 }
 
-// The number of a lane or a node, or of turns.
-fn small(word: &str) -> Result<u32, Wrong> {
-    match u32::try_from(number(word)?) {
-        Ok(number) => Ok(number),
-        Err(_) => Err(Wrong::Line("a number too large")),
-    }
-}
-
 // The kind of a record by its word; 0 behind a message of a sentinel ahead of a lane.
-fn kind_of(word: &str) -> Result<u8, Wrong> {
+fn kind_of(word: &str, told: &mut Told) -> u8 {
     if word == "sent" {
-        return Ok(0);
+        return 0;
     }
     for kind in 1..10 {
         if kind_word(kind) == word {
-            return Ok(kind);
+            return kind;
         }
     }
-    Err(Wrong::Line("no such kind"))
+    told.refuse("no such kind");
+    0
 }
 
 // Where a point lies about a lock, by its word.
-fn when_of(word: &str) -> Result<When, Wrong> {
+fn when_of(word: &str, told: &mut Told) -> When {
     match word {
-        "before" => Ok(When::Before),
-        "inside" => Ok(When::Inside),
-        "after" => Ok(When::After),
-        _ => Err(Wrong::Line("before, inside or after")),
+        "before" => When::Before,
+        "inside" => When::Inside,
+        "after" => When::After,
+        _ => {
+            told.refuse("before, inside or after");
+            When::After
+        }
     }
 }
 
 // A point by its words.
-fn point_of(words: &[&str]) -> Result<Point, Wrong> {
-    let [lane, node, kind, when] = *words else {
-        return Err(Wrong::Line("a point is LANE NODE KIND WHEN"));
-    };
-    Ok(Point {
-        lane: LaneId(small(lane)?),
-        node: NodeId(small(node)?),
-        kind: kind_of(kind)?,
-        when: when_of(when)?,
-    })
+fn point_of(words: &[&str], told: &mut Told) -> Point {
+    told.at_most(words, 4);
+    Point {
+        lane: told.lane_at(words, 0),
+        node: NodeId(told.small_at(words, 1)),
+        kind: kind_of(told.word_at(words, 2), told),
+        when: when_of(told.word_at(words, 3), told),
+    }
 }
 
 /// How the points of a run are held: for how many turns each, and whether the gate says that calls are slow.
@@ -128,25 +121,26 @@ impl Holding {
     }
 }
 
-/// What is told: `quick` where the gate says that calls are not slow, and then for how many turns a point waits, `TURNS` at most.
-pub fn holding_of(told: &[&str]) -> Result<Holding, Wrong> {
-    let (is_slow, turns) = match told {
+/// What words tell: `quick` where the gate says that calls are not slow, and then for how many turns a point waits, `TURNS` at most.
+pub fn holding_of(words: &[&str], told: &mut Told) -> Holding {
+    let (is_slow, turns) = match words {
         ["quick", turns @ ..] => (false, turns),
         turns => (true, turns),
     };
     let turns = match turns {
         [] => TURNS,
-        [word, ..] => small(word)?.min(TURNS),
+        turns => told.small_at(turns, 0).min(TURNS),
     };
-    Ok(Holding { turns, is_slow })
+    Holding { turns, is_slow }
 }
 
 /// The points of lines `LANE NODE KIND WHEN`.
-pub fn points_of(alloc: Global, text: &str) -> Result<Vec<Point>, Wrong> {
-    let mut points = Vec::new(alloc);
+pub fn points_of(text: &str, told: &mut Told) -> Vec<Point> {
+    let mut points = Vec::new(told.alloc);
     for line in text.lines() {
-        let words = line.split(' ').collect::<Vec<&str>>(alloc)?;
-        points.push(point_of(&words)?)?;
+        let words = told.words_of(line);
+        let point = point_of(&words, told);
+        told.push(&mut points, point);
     }
-    Ok(points)
+    points
 }

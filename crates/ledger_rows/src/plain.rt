@@ -1,14 +1,12 @@
 // Two runs of the program over devices in memory that never fail.
-use crate::play::owned;
+use crate::play::{files_of, owned, text_in};
 use crate::state::{ROOM, State};
 use crate::words::count_at;
 use commands::{Done, process_in_memory};
 use line_text::status_code;
-use mem_devices::{MemInbox, PlainRack, PlainSink};
+use mem_devices::{PlainRack, PlainSink};
 use outside::OpenGate;
-use row_records::{Wrong, copies, rest, words_around};
-use std::alloc::Global;
-use std::str;
+use row_records::{Told, rest, words_around};
 use std::sync::Wait;
 use std::thread::Threads;
 
@@ -24,35 +22,39 @@ pub struct PlainRuns {
 
 impl PlainRuns {
     /// What was printed.
-    pub fn text(&self) -> Result<&str, Wrong> {
-        match str::from_utf8(self.out.taken()) {
-            Ok(text) => Ok(text),
-            Err(_) => Err(Wrong::Line("what was printed is no text")),
-        }
+    pub fn text(&self, told: &mut Told) -> &str {
+        text_in(self.out.taken(), told)
     }
 }
 
 /// `NODES CAPACITY WORDS.. / WORDS..`: the program with the first words and then with the second, over so many empty disks.
 pub fn play_plain<W: Wait + Threads + Sync>(
     rt: &W,
-    alloc: Global,
     state: &State,
     words: &[&str],
-) -> Result<PlainRuns, Wrong> {
-    let nodes = count_at(words, 0)?.min(PLACES) as u32;
-    let capacity = count_at(words, 1)?;
+    told: &mut Told,
+) -> Option<PlainRuns> {
+    let alloc = told.alloc;
+    let nodes = count_at(words, 0, told).min(PLACES) as u32;
+    let capacity = count_at(words, 1, told);
+    let mut out = told.made(PlainSink::new(alloc))?;
+    let rack = match PlainRack::new(alloc, nodes, capacity) {
+        Ok(rack) => rack,
+        Err(_) => {
+            told.no_memory();
+            return None;
+        }
+    };
     let (first, second) = words_around(rest(words, 2), "/");
-    let (first, second) = (owned(alloc, first)?, owned(alloc, second)?);
-    let mut out = PlainSink::new(alloc)?;
-    let mut inbox = MemInbox::new(copies(alloc, &state.files)?);
-    let rack = PlainRack::new(alloc, nodes, capacity)?;
+    let (first, second) = (owned(first, told), owned(second, told));
+    let mut inbox = files_of(state, told);
     let Done { status: _, rack } = process_in_memory(
         rt, alloc, &first, &mut inbox, rack, &mut out, &OpenGate,
     );
     let Done { status, rack: _ } = process_in_memory(
         rt, alloc, &second, &mut inbox, rack, &mut out, &OpenGate,
     );
-    Ok(PlainRuns {
+    Some(PlainRuns {
         status: u64::from(status_code(&status)),
         out,
     })

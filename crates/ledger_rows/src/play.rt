@@ -1,18 +1,18 @@
 // One run of the program over devices in memory.
-ghost use Rattle.std.specs.Prelude.{IfOk};
+ghost use Rattle.std.specs.Prelude.{IfSome};
 ghost use Rattle.mem_devices.specs.Racks.{NoneOut};
 
 use crate::disks::DiskState;
 use crate::noting::{NotingGate, NotingInbox, NotingRack};
 use crate::ordering::PointOrder;
 use crate::state::State;
+use crate::words::copy_of;
 use cbdc_types::NodeId;
 use commands::{Done, process};
 use line_text::status_code;
 use mem_devices::{Choice, FaultDisk, MemInbox, MemRack, MemSink};
-use outside::{Disk, Point};
-use row_records::{Wrong, copies, differ};
-use std::alloc::{AllocError, Global};
+use outside::Point;
+use row_records::{Told, copies};
 use std::str;
 use std::sync::Wait;
 use std::thread::Threads;
@@ -37,122 +37,176 @@ pub struct Left {
 
 impl Ran {
     /// What was printed.
-    pub fn text(&self) -> Result<&str, Wrong> {
-        match str::from_utf8(self.out.taken()) {
-            Ok(text) => Ok(text),
-            Err(_) => Err(Wrong::Line("what was printed is no text")),
-        }
+    pub fn text(&self, told: &mut Told) -> &str {
+        text_in(self.out.taken(), told)
     }
 
-    fn disk(&self, node: u32) -> Result<&FaultDisk, Wrong> {
-        self.rack
-            .disk(NodeId(node))
-            .ok_or(Wrong::Line("a disk is out"))
+    /// The disk of a node.
+    pub fn disk(&self, node: u32, told: &mut Told) -> Option<&FaultDisk> {
+        let own = self.rack.disk(NodeId(node));
+        if own.is_none() {
+            told.refuse("a disk is out");
+        }
+        own
     }
 
     /// The bytes of a node's disk as they are.
-    pub fn bytes(&self, alloc: Global, node: u32) -> Result<Vec<u8>, Wrong> {
-        Ok(Vec::from_slice(alloc, self.disk(node)?.bytes())?)
+    pub fn bytes(&self, node: u32, told: &mut Told) -> Vec<u8> {
+        match self.disk(node, told) {
+            Some(disk) => copy_of(disk.bytes(), told),
+            None => Vec::new(told.alloc),
+        }
     }
 
     /// The bytes of a node's disk behind a crash.
-    pub fn crashed(&self, alloc: Global, node: u32, left: Left) -> Result<Vec<u8>, Wrong> {
-        let disk = self.disk(node)?;
-        let choice = choice(alloc, left, disk.bytes().len())?;
-        Ok(Vec::from_slice(alloc, disk.crash(&choice)?.bytes())?)
+    pub fn crashed(&self, node: u32, left: Left, told: &mut Told) -> Vec<u8> {
+        match self.disk(node, told) {
+            Some(disk) => left_on(disk, left, told),
+            None => Vec::new(told.alloc),
+        }
     }
+}
 
-    /// How many calls of a node's disk failed.
-    pub fn faults(&self, node: u32) -> Result<u64, Wrong> {
-        Ok(self.disk(node)?.faults())
+/// Printed bytes as a text.
+pub fn text_in<'a>(bytes: &'a [u8], told: &mut Told) -> &'a str {
+    match str::from_utf8(bytes) {
+        Ok(text) => text,
+        Err(_) => {
+            told.refuse("what was printed is no text");
+            ""
+        }
+    }
+}
+
+// The bytes of a disk behind a crash.
+fn left_on(disk: &FaultDisk, left: Left, told: &mut Told) -> Vec<u8> {
+    let choice = choice(left, disk.bytes().len(), told);
+    match disk.crash(&choice) {
+        Ok(own) => copy_of(own.bytes(), told),
+        Err(_) => {
+            told.no_memory();
+            Vec::new(told.alloc)
+        }
     }
 }
 
 // What a crash leaves of a disk of so many bytes.
-fn choice(alloc: Global, left: Left, many: usize) -> Result<Choice, AllocError> {
-    let mut bytes = Vec::new(alloc);
+fn choice(left: Left, many: usize, told: &mut Told) -> Choice {
+    let mut bytes = Vec::new(told.alloc);
     if let Some(byte) = left.byte {
         for _ in 0..many {
-            bytes.push(byte)?;
+            told.push(&mut bytes, byte);
         }
     }
-    Ok(Choice {
+    Choice {
         len: left.len,
         bytes,
-    })
+    }
 }
 
 /// The words, the program's name first.
-pub fn owned(alloc: Global, words: &[&str]) -> Result<Vec<String>, AllocError> {
+pub fn owned(words: &[&str], told: &mut Told) -> Vec<String> {
+    let alloc = told.alloc;
     let mut all = Vec::new(alloc);
     for word in words {
-        all.push(String::from_str(alloc, word)?)?;
+        if let Some(own) = told.made(String::from_str(alloc, word)) {
+            told.push(&mut all, own);
+        }
     }
-    Ok(all)
+    all
 }
 
 // The calls of a disk that fail.
-fn fails(alloc: Global, disk: &DiskState) -> Result<Vec<u64>, AllocError> {
-    let mut all = Vec::new(alloc);
+fn fails(disk: &DiskState, told: &mut Told) -> Vec<u64> {
+    let mut all = Vec::new(told.alloc);
     for call in disk.first_fault..disk.first_fault.saturating_add(disk.faults) {
-        all.push(call)?;
+        told.push(&mut all, call);
     }
-    Ok(all)
+    all
 }
 
 // How many writes and syncs a disk keeps.
 const CALLS: usize = 1_000_000;
 
-fn device(alloc: Global, disk: &DiskState) -> Result<FaultDisk, Wrong> {
+fn device(disk: &DiskState, told: &mut Told) -> Option<FaultDisk> {
     if disk.bytes.len() > disk.capacity {
-        return Err(Wrong::Line("a disk has more bytes than its capacity"));
+        told.refuse("a disk has more bytes than its capacity");
+        return None;
     }
-    let fails = fails(alloc, disk)?;
-    Ok(FaultDisk::new(alloc, &disk.bytes, disk.capacity, fails, CALLS)?)
+    let fails = fails(disk, told);
+    told.made(FaultDisk::new(told.alloc, &disk.bytes, disk.capacity, fails, CALLS))
 }
 
 /// The disks of a row, in a rack.
-pub fn rack_of(alloc: Global, disks: &[DiskState]) -> Result<NotingRack, Wrong>
-    ensures { IfOk result (λ r. NoneOut r.disks) }
+pub fn rack_of(disks: &[DiskState], told: &mut Told) -> Option<NotingRack>
+    ensures { IfSome result (λ r. NoneOut r.disks) }
 {
+    let alloc = told.alloc;
     let mut all = Vec::new(alloc);
     for disk in disks {
-        all.push(device(alloc, disk)?)?;
+        if let Some(own) = device(disk, told) {
+            told.push(&mut all, own);
+        }
     }
-    Ok(NotingRack {
-        disks: MemRack::new(alloc, all)?,
-        nodes: Vec::new(alloc),
-    })
+    match MemRack::new(alloc, all) {
+        Ok(disks) => Some(NotingRack {
+            disks,
+            nodes: Vec::new(alloc),
+        }),
+        Err(_) => {
+            told.no_memory();
+            None
+        }
+    }
 }
 
-fn inbox(alloc: Global, state: &State) -> Result<NotingInbox, AllocError> {
-    Ok(NotingInbox {
-        files: MemInbox::new(copies(alloc, &state.files)?),
-        names: Vec::new(alloc),
-        alloc,
-    })
+/// The files that a row has made.
+pub fn files_of(state: &State, told: &mut Told) -> MemInbox {
+    let alloc = told.alloc;
+    MemInbox::new(
+        told.made(copies(alloc, &state.files))
+            .unwrap_or(Vec::new(alloc)),
+    )
+}
+
+/// The gate that holds a row's points in their order.
+pub fn gate_of(state: &State, told: &mut Told) -> NotingGate {
+    let alloc = told.alloc;
+    let points = told.made(state.order.clone()).unwrap_or(Vec::new(alloc));
+    let order = PointOrder::new(points, state.holding.turns);
+    NotingGate::new(alloc, order, state.holding.is_slow)
+}
+
+/// The output that takes as many bytes as a row says.
+pub fn output_of(state: &State, told: &mut Told) -> Option<MemSink> {
+    let alloc = told.alloc;
+    told.made(MemSink::new(alloc, state.room, Vec::new(alloc)))
 }
 
 /// Runs the program with these words over the disks and files that a row has made.
 pub fn play<W: Wait + Threads + Sync>(
     rt: &W,
-    alloc: Global,
     state: &State,
     words: &[&str],
-) -> Result<Ran, Wrong> {
-    let mut out = MemSink::new(alloc, state.room, Vec::new(alloc))?;
-    let words = owned(alloc, words)?;
-    let mut inbox = inbox(alloc, state)?;
-    let rack = rack_of(alloc, &state.disks)?;
-    let order = PointOrder::new(state.order.clone()?, state.holding.turns);
-    let gate = NotingGate::new(alloc, order, state.holding.is_slow);
+    told: &mut Told,
+) -> Option<Ran> {
+    let alloc = told.alloc;
+    let mut out = output_of(state, told)?;
+    let rack = rack_of(&state.disks, told)?;
+    let words = owned(words, told);
+    let mut inbox = NotingInbox {
+        files: files_of(state, told),
+        names: Vec::new(alloc),
+        alloc,
+    };
+    let gate = gate_of(state, told);
     let Done { status, rack } = process(rt, alloc, &words, &mut inbox, rack, &mut out, &gate);
     if !gate.is_kept() {
-        return Err(differ(alloc, "the points in this order", "points out of order"));
+        told.check_same("the points in this order", "points out of order");
     }
-    Ok(Ran {
+    Some(Ran {
         status: u64::from(status_code(&status)),
-        points: gate.into_points(alloc)?,
+        points: gate.into_points(told),
         files: inbox.names,
         nodes: rack.nodes,
         out,

@@ -1,9 +1,10 @@
 // What a row has made so far: names, disks, and what the last run left.
-use crate::disks::{DiskState, cut, put_digits};
+use crate::disks::{DiskState, cut, tell_digits, text_of};
 use crate::ordering::Holding;
 use crate::play::Ran;
+use crate::words::{count_at, hex};
 use outside::Point;
-use row_records::{Names, Wrong, count, hex_of};
+use row_records::{Names, Told, Wrong};
 use std::alloc::Global;
 
 /// How many bytes an output takes, where a row does not say.
@@ -73,84 +74,94 @@ impl State {
         self.order.clear();
     }
 
-    /// The digits of a hash.
-    pub fn hash(&self, name: &str) -> Result<&str, Wrong> {
+    /// The digits of a hash; none where there is no such hash.
+    pub fn hash(&self, name: &str, told: &mut Told) -> &str {
         match self.hashes.get(name) {
-            Some(digits) => Ok(digits.as_str()),
-            None => Err(Wrong::Line("no such hash")),
+            Some(digits) => digits.as_str(),
+            None => {
+                told.refuse("no such hash");
+                ""
+            }
         }
     }
 
-    pub fn tx(&self, name: &str) -> Result<&Tx, Wrong> {
-        self.txs.get(name).ok_or(Wrong::Line("no such transaction"))
+    pub fn tx(&self, name: &str, told: &mut Told) -> Option<&Tx> {
+        told_of(self.txs.get(name), "no such transaction", told)
     }
 
-    pub fn file(&self, name: &str) -> Result<&Vec<u8>, Wrong> {
-        self.files.get(name).ok_or(Wrong::Line("no such file"))
+    pub fn file(&self, name: &str, told: &mut Told) -> Option<&Vec<u8>> {
+        told_of(self.files.get(name), "no such file", told)
     }
 
-    fn kept(&self, name: &str) -> Result<&str, Wrong> {
+    // The lines of a rack that was kept.
+    fn kept(&self, name: &str, told: &mut Told) -> &str {
         match self.racks.get(name) {
-            Some(rack) => Ok(rack.as_str()),
-            None => Err(Wrong::Line("no such rack was kept")),
+            Some(rack) => rack.as_str(),
+            None => {
+                told.refuse("no such rack was kept");
+                ""
+            }
         }
     }
 
     /// The lines of a rack that was kept: `NAME`, or `NAME[2,1]` with so many records of each disk alone.
-    pub fn rack(&self, alloc: Global, word: &str) -> Result<String, Wrong> {
+    pub fn rack(&self, word: &str, told: &mut Told) -> String {
+        let mut own = Told::new(told.alloc);
         match word.split_once('[') {
-            None => Ok(String::from_str(alloc, self.kept(word)?)?),
-            Some((name, counts)) => cut_all(alloc, self.kept(name)?, counts),
+            None => own.put(self.kept(word, told)),
+            Some((name, counts)) => tell_cut(&mut own, self.kept(name, told), counts),
         }
+        text_of(own, told)
     }
 
-    /// The disk of a node.
-    pub fn disk(&self, node: &str) -> Result<&DiskState, Wrong> {
-        self.disks
-            .get(count(node)?)
-            .ok_or(Wrong::Line("no such disk"))
+    /// The disk of the node that the words begin with.
+    pub fn disk(&self, words: &[&str], told: &mut Told) -> Option<&DiskState> {
+        let own = self.disks.get(count_at(words, 0, told));
+        told_of(own, "no such disk", told)
     }
 
-    /// The disk of a node, to be changed.
-    pub fn disk_mut(&mut self, node: &str) -> Result<&mut DiskState, Wrong> {
-        self.disks
-            .get_mut(count(node)?)
-            .ok_or(Wrong::Line("no such disk"))
+    /// The same, to be changed.
+    pub fn disk_mut(&mut self, words: &[&str], told: &mut Told) -> Option<&mut DiskState> {
+        let own = self.disks.get_mut(count_at(words, 0, told));
+        told_of(own, "no such disk", told)
     }
 
     /// What the last run left.
-    pub fn last_run(&self) -> Result<&Ran, Wrong> {
-        match &self.ran {
-            Some(ran) => Ok(ran),
-            None => Err(Wrong::Line("nothing was run")),
-        }
+    pub fn last_run(&self, told: &mut Told) -> Option<&Ran> {
+        told_of(self.ran.as_ref(), "nothing was run", told)
     }
 }
 
-// Appends the line of a disk with its first records alone.
-fn put_cut(alloc: Global, text: &mut String, line: &str, records: &str) -> Result<(), Wrong> {
-    let records = count(records)?;
-    let mut bytes = hex_of(alloc, line)?;
-    cut(&mut bytes, records)?;
-    put_digits(alloc, text, &bytes)?;
-    Ok(())
+// What is there; where nothing is, that is told.
+fn told_of<T>(own: Option<T>, why: &'static str, told: &mut Told) -> Option<T> {
+    if own.is_none() {
+        told.refuse(why);
+    }
+    own
 }
 
-// The lines of disks with so many records each, as `2,1]` tells.
-fn cut_all(alloc: Global, rack: &str, counts: &str) -> Result<String, Wrong> {
+// Tells the line of a disk with its first records alone.
+fn tell_first(own: &mut Told, line: &str, records: &str) {
+    let records = own.number_of(records) as usize;
+    let mut bytes = hex(line, own);
+    cut(&mut bytes, records, own);
+    tell_digits(own, &bytes);
+}
+
+// Tells the lines of disks with so many records each, as `2,1]` tells.
+fn tell_cut(own: &mut Told, rack: &str, counts: &str) {
     let Some(counts) = counts.strip_suffix(']') else {
-        return Err(Wrong::Line("no ] behind ["));
+        own.refuse("no ] behind [");
+        return;
     };
-    let mut text = String::new(alloc);
     let mut lines = rack.lines();
     for records in counts.split(',') {
         match lines.next() {
-            Some(line) => put_cut(alloc, &mut text, line, records)?,
-            None => return Err(Wrong::Line("more counts than disks")),
+            Some(line) => tell_first(own, line, records),
+            None => own.refuse("more counts than disks"),
         }
     }
-    match lines.next() {
-        Some(_) => Err(Wrong::Line("fewer counts than disks")),
-        None => Ok(text),
+    if lines.next().is_some() {
+        own.refuse("fewer counts than disks");
     }
 }

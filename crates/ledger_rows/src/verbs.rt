@@ -1,5 +1,5 @@
 // The words of steps: what a step does, and what it does to a file or a disk.
-use row_records::{Block, Wrong, word};
+use row_records::{Block, Told};
 
 /// What a step does, or what it does to a file or a disk.
 #[derive(Clone, Copy, Drop)]
@@ -83,19 +83,17 @@ const VERBS: [(&str, Verb, usize); 35] = [
     ("stops", Verb::Stops, 2),
 ];
 
-/// The verb that words begin with, where they are not too many for it.
-pub fn verb_of(words: &[&str]) -> Result<Verb, Wrong> {
-    let own = word(words, 0)?;
+/// The verb that words begin with; it is told where they are too many for it.
+pub fn verb_of(words: &[&str], told: &mut Told) -> Option<Verb> {
+    let own = told.word_at(words, 0);
     for (name, verb, most) in &VERBS {
         if *name == own {
-            return if words.len() <= *most {
-                Ok(*verb)
-            } else {
-                Err(Wrong::Line("a word too many"))
-            };
+            told.at_most(words, *most);
+            return Some(*verb);
         }
     }
-    Err(Wrong::Line("no such step"))
+    told.refuse("no such step");
+    None
 }
 
 /// Whether what stands behind a step is for it: a run has a text and a status, few others have a text.

@@ -5,7 +5,7 @@ use crate::state::State;
 use batcher::Batcher;
 use cbdc_types::{CompactTx, FullTx, Part, Refusal};
 use compact_tx::tx_id;
-use row_records::{Told, Wrong, txs};
+use row_records::{Told, txs};
 use sentinel::{AllGood, check};
 use shard_ranges::{shard_of, split};
 use workload::{Workload, generate};
@@ -60,13 +60,32 @@ fn tell_batch(told: &mut Told, batch: &[CompactTx]) {
 }
 
 // Pushes a transaction where there is room.
-fn push(state: &State, batcher: &mut Batcher, name: &str) -> Result<(), Wrong> {
-    let form = state.known.form(name)?.clone()?;
+fn push(batcher: &mut Batcher, form: CompactTx, told: &mut Told) {
     if batcher.is_full() {
-        return Err(Wrong::Line("the batch is full"));
+        told.refuse("the batch is full");
+    } else {
+        told.made(batcher.push(form));
     }
-    batcher.push(form)?;
-    Ok(())
+}
+
+// Takes a batch, and tells its transactions, or `none`.
+fn take(batcher: &mut Batcher, told: &mut Told) {
+    match batcher.take() {
+        Some(batch) => tell_batch(told, batch.as_slice()),
+        None => told.word("none"),
+    }
+}
+
+// Pushes the transaction of a name.
+fn push_named(state: &State, batcher: &mut Batcher, name: &str, told: &mut Told) {
+    match state.known.form(name) {
+        Ok(form) => {
+            if let Some(own) = told.made(form.clone()) {
+                push(batcher, own, told);
+            }
+        }
+        Err(wrong) => told.fail(wrong),
+    }
 }
 
 /// `batcher LIMIT STEP..`, each a transaction that is pushed, or `take`; and what it says behind each: `full` or `room`, the
@@ -76,12 +95,9 @@ pub fn batches(state: &State, words: &[&str], told: &mut Told) {
     let mut batcher = Batcher::new(told.alloc, limit);
     for step in words.iter().skip(1) {
         if *step == "take" {
-            match batcher.take() {
-                Some(batch) => tell_batch(told, batch.as_slice()),
-                None => told.word("none"),
-            }
+            take(&mut batcher, told);
         } else {
-            told.given(push(state, &mut batcher, step));
+            push_named(state, &mut batcher, step, told);
             told.word(if batcher.is_full() { "full" } else { "room" });
         }
     }
@@ -133,11 +149,10 @@ fn tell_sound(told: &mut Told, answer: &Result<(), Refusal>) {
 
 // Tells `sound` or the refusal of a transaction, by the verdicts of a file; `all-good` has a good one on each witness.
 fn tell_check(state: &State, tx: &FullTx, name: &str, told: &mut Told) {
-    let alloc = told.alloc;
     let id = tx_id(tx);
     if name == "all-good" {
         tell_sound(told, &check(tx, &id, &AllGood));
-    } else if let Some(file) = told.given(verdicts_in(state, alloc, name)) {
+    } else if let Some(file) = verdicts_in(state, name, told) {
         tell_sound(told, &check(tx, &id, &file));
     }
 }

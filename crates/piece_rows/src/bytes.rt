@@ -1,50 +1,58 @@
 // Bytes, spelled in pieces.
 use crate::state::State;
-use row_records::{Told, Wrong, count, hex_of, number, put_number, rest};
-use std::alloc::{AllocError, Global};
+use row_records::{Told, hex_of, put_number, rest};
 
 // Appends bytes that digits spell, so many times.
-fn put_times(alloc: Global, out: &mut Vec<u8>, digits: &str, times: usize) -> Result<(), Wrong> {
-    let own = hex_of(alloc, digits)?;
-    for _ in 0..times {
-        out.extend_from_slice(&own)?;
+fn put_times(out: &mut Vec<u8>, digits: &str, times: usize, told: &mut Told) {
+    if let Some(own) = told.given(hex_of(told.alloc, digits)) {
+        for _ in 0..times {
+            told.made(out.extend_from_slice(&own));
+        }
     }
-    Ok(())
 }
 
-// Named bytes, `NAME`, or the first of them, `NAME:N`.
-fn named<'a>(state: &'a State, piece: &str) -> Result<&'a [u8], Wrong> {
-    let Some((name, end)) = piece.split_once(':') else {
-        return state.bytes(piece);
+// Appends named bytes, `NAME`, or the first of them, `NAME:N`.
+fn put_named(state: &State, out: &mut Vec<u8>, piece: &str, told: &mut Told) {
+    let own = match piece.split_once(':') {
+        Some((name, end)) => {
+            let (all, end) = (state.bytes(name, told), told.number_of(end) as usize);
+            &all[..end.min(all.len())]
+        }
+        None => state.bytes(piece, told),
     };
-    let (all, end) = (state.bytes(name)?, count(end)?);
-    Ok(&all[..end.min(all.len())])
+    told.made(out.extend_from_slice(own));
+}
+
+// Appends a number in eight bytes, or digits, which may stand there so many times.
+fn put_spelled(out: &mut Vec<u8>, piece: &str, told: &mut Told) {
+    if let Some(digits) = piece.strip_prefix('#') {
+        let n = told.number_of(digits);
+        told.made(put_number(out, n));
+        return;
+    }
+    match piece.split_once('*') {
+        Some((digits, times)) => {
+            let times = told.number_of(times) as usize;
+            put_times(out, digits, times, told);
+        }
+        None => put_times(out, piece, 1, told),
+    }
 }
 
 // Appends a piece: `=NAME` named bytes, `=NAME:N` the first N of them, `#N` a number in eight bytes, `DIGITS*N` digits so many
 // times, `DIGITS`.
-fn put_piece(state: &State, alloc: Global, out: &mut Vec<u8>, piece: &str) -> Result<(), Wrong> {
-    if let Some(own) = piece.strip_prefix('=') {
-        out.extend_from_slice(named(state, own)?)?;
-        return Ok(());
-    }
-    if let Some(digits) = piece.strip_prefix('#') {
-        put_number(out, number(digits)?)?;
-        return Ok(());
-    }
-    match piece.split_once('*') {
-        Some((digits, times)) => put_times(alloc, out, digits, count(times)?),
-        None => put_times(alloc, out, piece, 1),
+fn put_piece(state: &State, out: &mut Vec<u8>, piece: &str, told: &mut Told) {
+    match piece.strip_prefix('=') {
+        Some(own) => put_named(state, out, own, told),
+        None => put_spelled(out, piece, told),
     }
 }
 
 /// The bytes of pieces, one behind the other.
 pub fn bytes_of(state: &State, pieces: &[&str], told: &mut Told) -> Vec<u8> {
-    let alloc = told.alloc;
-    let mut out = Vec::new(alloc);
+    let mut out = Vec::new(told.alloc);
     for piece in pieces {
-        let done = put_piece(state, alloc, &mut out, piece);
-        told.given(done);
+        put_piece(state, &mut out, piece, told);
     }
     out
 }
@@ -70,8 +78,9 @@ pub fn text(state: &mut State, words: &[&str], text: &str, told: &mut Told) {
 const BEFORE: [u8; 3] = [170; 3];
 
 /// Bytes behind three others.
-pub fn behind_others(alloc: Global, bytes: &[u8]) -> Result<Vec<u8>, AllocError> {
-    let mut all = Vec::from_slice(alloc, BEFORE.as_slice())?;
-    all.extend_from_slice(bytes)?;
-    Ok(all)
+pub fn behind_others(bytes: &[u8], told: &mut Told) -> Vec<u8> {
+    let mut all = Vec::new(told.alloc);
+    told.made(all.extend_from_slice(BEFORE.as_slice()));
+    told.made(all.extend_from_slice(bytes));
+    all
 }

@@ -5,9 +5,8 @@ use byte_fields::put_number;
 use cbdc_types::FullTx;
 use client_files::{BadFile, FetchFault, FileFault, fetch, read_clients, read_mint};
 use mem_devices::MemInbox;
-use row_records::{Told, Wrong, copies, place_of};
+use row_records::{Told, copies, place_of};
 use sentinel::{AllGood, BadLine, Verdict, VerdictFault, VerdictFile, Verifier};
-use std::alloc::Global;
 use tx_codec::write_tx;
 
 // Whether a word says that the file goes on.
@@ -35,8 +34,8 @@ pub fn mint_file(state: &State, words: &[&str], told: &mut Told) {
     }
 }
 
-/// Transactions behind their number are written as these bytes.
-pub fn check_written(txs: &[FullTx], wanted: &[u8], told: &mut Told) {
+// Transactions behind their number are written as these bytes.
+fn check_written(txs: &[FullTx], wanted: &[u8], told: &mut Told) {
     let alloc = told.alloc;
     let mut came = Vec::new(alloc);
     told.made(put_number(&mut came, txs.len() as u64));
@@ -46,16 +45,19 @@ pub fn check_written(txs: &[FullTx], wanted: &[u8], told: &mut Told) {
     told.check_bytes(wanted, &came);
 }
 
+/// Tells how many transactions were read of bytes, which are written again as they stood there.
+pub fn tell_txs(txs: &[FullTx], bytes: &[u8], told: &mut Told) {
+    check_written(txs, bytes, told);
+    told.number(txs.len() as u64);
+    told.word("transactions");
+}
+
 /// `client-file NAME before N [more]`, and `N transactions` or `at N KIND`. What is read is written again as it stood there.
 pub fn client_file(state: &State, words: &[&str], told: &mut Told) {
     let bytes = state.bytes_at(words, 0, told);
     let before = told.number_at(words, 2);
     match read_clients(told.alloc, bytes, goes_on(words), before) {
-        Ok(txs) => {
-            check_written(txs.as_slice(), bytes, told);
-            told.number(txs.len() as u64);
-            told.word("transactions");
-        }
+        Ok(txs) => tell_txs(txs.as_slice(), bytes, told),
         Err(fault) => tell_fault(told, &fault),
     }
 }
@@ -72,10 +74,14 @@ pub fn verdict_file(state: &State, words: &[&str], told: &mut Told) {
 }
 
 /// The verdicts of a file.
-pub fn verdicts_in(state: &State, alloc: Global, name: &str) -> Result<VerdictFile, Wrong> {
-    match VerdictFile::read(alloc, state.bytes(name)?, false) {
-        Ok(file) => Ok(file),
-        Err(_) => Err(Wrong::Line("the file of verdicts is not read")),
+pub fn verdicts_in(state: &State, name: &str, told: &mut Told) -> Option<VerdictFile> {
+    let bytes = state.bytes(name, told);
+    match VerdictFile::read(told.alloc, bytes, false) {
+        Ok(file) => Some(file),
+        Err(_) => {
+            told.refuse("the file of verdicts is not read");
+            None
+        }
     }
 }
 
@@ -89,33 +95,37 @@ fn verdict_word(verdict: Verdict) -> &'static str {
 
 /// `verdict NAME ID INDEX`, and the verdict of the file; `all-good` has a good one on each.
 pub fn verdict(state: &State, words: &[&str], told: &mut Told) {
-    let alloc = told.alloc;
     let name = told.word_at(words, 0);
     let id = told.hash_at(words, 1);
     let index = told.number_at(words, 2);
     if name == "all-good" {
         told.word(verdict_word(AllGood.verdict(&id, index)));
-    } else if let Some(file) = told.given(verdicts_in(state, alloc, name)) {
+    } else if let Some(file) = verdicts_in(state, name, told) {
         told.word(verdict_word(file.verdict(&id, index)));
+    }
+}
+
+// Tells how many bytes were read, which are those that are wanted, and whether there are more.
+fn tell_bytes(wanted: &[u8], read: &[u8], more: bool, told: &mut Told) {
+    told.check_bytes(wanted, read);
+    told.number(read.len() as u64);
+    told.word(if more { "bytes more" } else { "bytes" });
+}
+
+// Tells what is fetched of a file.
+fn tell_fetched(state: &State, inbox: &mut MemInbox, name: &str, told: &mut Told) {
+    match fetch(told.alloc, inbox, name) {
+        Ok((read, more)) => tell_bytes(state.bytes(name, told), read.as_slice(), more, told),
+        Err(FetchFault::ReadFault) => told.word("no"),
+        Err(FetchFault::Memory) => told.word("memory"),
     }
 }
 
 /// `fetch NAME`, a file among all named bytes: `N bytes`, which are those of the name, `N bytes more` or `no`.
 pub fn fetched(state: &State, words: &[&str], told: &mut Told) {
-    let alloc = told.alloc;
     let name = told.word_at(words, 0);
-    let Some(files) = told.made(copies(alloc, &state.bytes)) else {
-        return;
-    };
-    let mut inbox = MemInbox::new(files);
-    match fetch(alloc, &mut inbox, name) {
-        Ok((read, more)) => {
-            let wanted = state.bytes_at(words, 0, told);
-            told.check_bytes(wanted, read.as_slice());
-            told.number(read.len() as u64);
-            told.word(if more { "bytes more" } else { "bytes" });
-        }
-        Err(FetchFault::ReadFault) => told.word("no"),
-        Err(FetchFault::Memory) => told.word("memory"),
+    if let Some(files) = told.made(copies(told.alloc, &state.bytes)) {
+        let mut inbox = MemInbox::new(files);
+        tell_fetched(state, &mut inbox, name, told);
     }
 }

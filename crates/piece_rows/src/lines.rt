@@ -2,7 +2,8 @@
 use crate::answers::{answer_of, totals, verdict_of};
 use crate::page::Page;
 use crate::reader::Reader;
-use cbdc_types::{Header, Phase, Status};
+use audit::Verdict;
+use cbdc_types::{Answer, Header, Phase, Status};
 use line_text::{
     AuditSummary, Summary, status_code, write_audit, write_confirmed, write_fault, write_init,
     write_recovery, write_refused, write_rejected, write_resumed, write_status, write_summary,
@@ -107,17 +108,18 @@ fn audit(page: &mut Page, words: &mut Reader) -> bool {
     write_audit(page, &summary).is_ok()
 }
 
-// Prints a line that tells the result of a command; whether the page took it.
-fn print_line(page: &mut Page, kind: &str, words: &mut Reader) -> bool {
+// `NAME ANSWER`
+fn answer(page: &mut Page, header: &Header, words: &mut Reader) -> bool {
+    let name = words.name();
+    let answer = answer_of(words, header);
+    write_fault(page, &answer, name.as_str()).is_ok()
+}
+
+// Prints the line of a command that looks at a ledger or makes one; whether the page took it.
+fn print_look(page: &mut Page, kind: &str, words: &mut Reader) -> bool {
     match kind {
-        "confirmed" => confirmed(page, words),
-        "rejected" => rejected(page, words),
-        "refused" => refused(page, words),
-        "summary" => summary(page, words),
         "init" => init(page, words),
         "status" => status(page, words),
-        "resumed" => resumed(page, words),
-        "recovery" => recovery(page, words),
         "audit" => audit(page, words),
         _ => {
             words.refuse();
@@ -126,40 +128,54 @@ fn print_line(page: &mut Page, kind: &str, words: &mut Reader) -> bool {
     }
 }
 
-// `NAME ANSWER`
-fn answer(page: &mut Page, header: &Header, words: &mut Reader) -> bool {
-    let name = words.name();
-    let answer = answer_of(words, header);
-    write_fault(page, &answer, name.as_str()).is_ok()
+// Prints a line that tells what comes of submissions or batches, or another one; whether the page took it.
+fn print_line(page: &mut Page, header: &Header, kind: &str, words: &mut Reader) -> bool {
+    match kind {
+        "fault" => answer(page, header, words),
+        "confirmed" => confirmed(page, words),
+        "rejected" => rejected(page, words),
+        "refused" => refused(page, words),
+        "summary" => summary(page, words),
+        "resumed" => resumed(page, words),
+        "recovery" => recovery(page, words),
+        kind => print_look(page, kind, words),
+    }
 }
 
-// What a page with so much room takes of a line, and whether it takes all of it.
-fn printed(header: &Header, words: &[&str], room: usize, told: &mut Told) -> (Page, bool) {
-    let alloc = told.alloc;
-    let mut page = Page::new(alloc, room);
-    let mut words = Reader::new(alloc, words);
+// Prints the line that words tell; whether the page took all of it.
+fn print(page: &mut Page, header: &Header, words: &[&str], told: &mut Told) -> bool {
+    let mut words = Reader::new(told.alloc, words);
     let kind = words.word();
-    let took = if kind == "fault" {
-        answer(&mut page, header, &mut words)
-    } else {
-        print_line(&mut page, kind, &mut words)
-    };
+    let took = print_line(page, header, kind, &mut words);
     told.given(words.end());
-    (page, took)
+    took
 }
 
-// The room of a page that takes each line.
-const ROOM: usize = 4096;
-
-// A page with so much room takes a front of the text, and says so where it is not all of it.
-fn check_front(header: &Header, words: &[&str], text: &str, room: usize, told: &mut Told) {
-    let (page, took) = printed(header, words, room, told);
+// A page took a front of the text, as much as it has room for, and says so where it is not all of it.
+fn check_taken(page: &Page, took: bool, text: &str, room: usize, told: &mut Told) {
     if took != (room == text.len()) {
         told.refuse("a page says something else than that it has room, or none");
     }
     if text.as_bytes().get(..room) != Some(page.bytes.as_slice()) {
         told.refuse("a page with less room has no front of the line");
     }
+}
+
+// A page with so much room takes a front of the text, and says so where it is not all of it.
+fn check_front(header: &Header, words: &[&str], text: &str, room: usize, told: &mut Told) {
+    let mut page = Page::new(told.alloc, room);
+    let took = print(&mut page, header, words, told);
+    check_taken(&page, took, text, room, told);
+}
+
+// The room of a page that takes each line.
+const ROOM: usize = 4096;
+
+// A page with room for each line takes the text.
+fn check_whole(header: &Header, words: &[&str], text: &str, told: &mut Told) {
+    let mut page = Page::new(told.alloc, ROOM);
+    print(&mut page, header, words, told);
+    check_lines(text, page.bytes.as_slice(), told);
 }
 
 // Bytes are those of a text; else both are told.
@@ -172,8 +188,7 @@ fn check_lines(wanted: &str, came: &[u8], told: &mut Told) {
 
 /// `line KIND WORD..`, with its text; and a page with less room, whatever it is, takes a front of it and says so.
 pub fn line(header: &Header, words: &[&str], text: &str, told: &mut Told) {
-    let (page, _) = printed(header, words, ROOM, told);
-    check_lines(text, page.bytes.as_slice(), told);
+    check_whole(header, words, text, told);
     for room in 0..text.len().saturating_add(1) {
         check_front(header, words, text, room, told);
     }
@@ -195,24 +210,33 @@ fn check_plain(text: &str, plain: Option<Vec<u8>>, told: &mut Told) {
     }
 }
 
+// The plain program says the text of an answer, and it has the status.
+fn check_answer(answer: &Answer, name: &str, block: &Block, told: &mut Told) {
+    let plain = fault_line(told.alloc, answer, name);
+    check_plain(block.text.as_str(), plain, told);
+    check_status(block.status, status_code(answer), told);
+}
+
 /// `fault NAME ANSWER`, with its text and its status; the plain program says the same. `""` is an empty name, and `_` in a name
 /// a blank.
 pub fn fault(header: &Header, words: &[&str], block: &Block, told: &mut Told) {
-    let alloc = told.alloc;
-    let text = block.text.as_str();
-    line(header, words, text, told);
-    let mut words = Reader::new(alloc, rest(words, 1));
+    line(header, words, block.text.as_str(), told);
+    let mut words = Reader::new(told.alloc, rest(words, 1));
     let name = words.name();
     let answer = answer_of(&mut words, header);
-    check_plain(text, fault_line(alloc, &answer, name.as_str()), told);
-    check_status(block.status, status_code(&answer), told);
+    check_answer(&answer, name.as_str(), block, told);
+}
+
+// The verdict of an audit that words spell.
+fn verdict_in(words: &[&str], told: &mut Told) -> Verdict {
+    let mut words = Reader::new(told.alloc, words);
+    let verdict = verdict_of(&mut words);
+    told.given(words.end());
+    verdict
 }
 
 /// `audited VERDICT`, and its text by the plain program.
 pub fn audited(words: &[&str], text: &str, told: &mut Told) {
-    let alloc = told.alloc;
-    let mut words = Reader::new(alloc, words);
-    let verdict = verdict_of(&mut words);
-    told.given(words.end());
-    check_plain(text, verdict_text(alloc, &verdict), told);
+    let verdict = verdict_in(words, told);
+    check_plain(text, verdict_text(told.alloc, &verdict), told);
 }

@@ -1,18 +1,17 @@
 // The words of a step, read one after another.
 use cbdc_types::{BatchId, Hash, LaneId, List, NodeId, Outcome, Refusal};
 use row_records::{Told, Wrong, outcome, refusal_of, rest};
-use std::alloc::{AllocError, Global};
+use std::alloc::Global;
 
 // The name of a file that a word spells.
-fn name_of(alloc: Global, word: &str) -> Result<String, AllocError> {
-    let mut name = String::new(alloc);
-    if word == "\"\"" {
-        return Ok(name);
+fn name_of(word: &str, told: &mut Told) -> String {
+    let mut name = String::new(told.alloc);
+    if word != "\"\"" {
+        for c in word.chars() {
+            told.made(name.push(if c == '_' { ' ' } else { c }));
+        }
     }
-    for c in word.chars() {
-        name.push(if c == '_' { ' ' } else { c })?;
-    }
-    Ok(name)
+    name
 }
 
 /// Words, and how many of them are read. A word that is missing, or that is not what is read, is told at the end.
@@ -129,8 +128,8 @@ impl<'a> Reader<'a> {
 
     /// The name of a file: `""` is an empty one, and `_` in it a blank.
     pub fn name(&mut self) -> String {
-        let made = name_of(self.told.alloc, self.word());
-        self.told.made(made).unwrap_or(String::new(self.told.alloc))
+        let own = self.word();
+        name_of(own, &mut self.told)
     }
 
     /// What was read may not stand there.

@@ -5,30 +5,14 @@ use crate::words::tell_shape;
 use cbdc_types::{Header, Record};
 use record_log::{RecordFault, read_back, read_first, read_record, size_of_record, write_record};
 use row_records::{Told, record, rest, words_around};
-use std::alloc::{AllocError, Global};
-
-// A record written behind other bytes, where there is room for so many.
-fn written(
-    alloc: Global,
-    own: &Record,
-    header: &Header,
-    room: usize,
-) -> Result<Vec<u8>, AllocError> {
-    let mut came = behind_others(alloc, &[])?;
-    came.reserve(room)?;
-    write_record(own, header, &mut came)?;
-    Ok(came)
-}
 
 // A record is written as these bytes behind others, which stay as they are, where there is room for it.
 fn check_written(own: &Record, header: &Header, wanted: &[u8], told: &mut Told) {
-    let alloc = told.alloc;
-    let Some(all) = told.made(behind_others(alloc, wanted)) else {
-        return;
-    };
-    if let Some(came) = told.made(written(alloc, own, header, wanted.len())) {
-        told.check_bytes(&all, &came);
-    }
+    let all = behind_others(wanted, told);
+    let mut came = behind_others(&[], told);
+    told.made(came.reserve(wanted.len()));
+    told.made(write_record(own, header, &mut came));
+    told.check_bytes(&all, &came);
 }
 
 // Whether what was read is this record.
@@ -68,13 +52,12 @@ pub fn record_bytes(state: &State, words: &[&str], told: &mut Told) {
 
 /// `reads-record NODE PIECE..`, and `yes` or `no`: whether the bytes are those of a record of that node.
 pub fn reads_record(state: &State, words: &[&str], told: &mut Told) {
-    let alloc = told.alloc;
     let node = told.small_at(words, 0);
-    let body = bytes_of(state, rest(words, 1), told);
     let Some(header) = told.given(state.known.header(node)) else {
         return;
     };
-    match read_record(alloc, &body, &header) {
+    let body = bytes_of(state, rest(words, 1), told);
+    match read_record(told.alloc, &body, &header) {
         Ok(_) => told.word("yes"),
         Err(RecordFault::NotARecord) => told.word("no"),
         Err(RecordFault::Memory) => told.word("memory"),

@@ -1,17 +1,11 @@
 // Words that are told once and stand there several times.
-use row_records::{Wrong, count, place_of, rest, word};
-use std::alloc::{AllocError, Global};
+use row_records::{Told, place_of, rest};
 
 // Appends words so many times.
-fn put_times<'a>(
-    all: &mut Vec<&'a str>,
-    words: &[&'a str],
-    times: usize,
-) -> Result<(), AllocError> {
+fn put_times<'a>(all: &mut Vec<&'a str>, words: &[&'a str], times: usize, told: &mut Told) {
     for _ in 0..times {
-        all.extend_from_slice(words)?;
+        told.made(all.extend_from_slice(words));
     }
-    Ok(())
 }
 
 // The words from a place up to the next `end`.
@@ -21,23 +15,28 @@ fn group_at<'a, 'b>(words: &'a [&'b str], from: usize) -> &'a [&'b str] {
     &behind[..end.min(behind.len())]
 }
 
+// Appends the words at a place, which may be `repeat N WORD.. end`; the place behind them.
+fn put_at<'a>(all: &mut Vec<&'a str>, words: &[&'a str], at: usize, told: &mut Told) -> usize {
+    let behind = at.saturating_add(1);
+    let word = told.word_at(words, at);
+    if word != "repeat" {
+        told.push(all, word);
+        return behind;
+    }
+    let times = told.number_at(words, behind) as usize;
+    let group = group_at(words, behind.saturating_add(1));
+    put_times(all, group, times, told);
+    behind.saturating_add(group.len()).saturating_add(2)
+}
+
 /// The words of a step, in which `repeat N WORD.. end` is those words N times.
-pub fn repeated<'a>(alloc: Global, words: &[&'a str]) -> Result<Vec<&'a str>, Wrong> {
-    let mut all = Vec::new(alloc);
+pub fn repeated<'a>(words: &[&'a str], told: &mut Told) -> Vec<&'a str> {
+    let mut all = Vec::new(told.alloc);
     let mut at = 0usize;
-    for _ in 0..words.len() {
-        if at >= words.len() {
-            break;
-        }
-        if words[at] == "repeat" {
-            let times = count(word(words, at.saturating_add(1))?)?;
-            let group = group_at(words, at.saturating_add(2));
-            put_times(&mut all, group, times)?;
-            at = at.saturating_add(group.len()).saturating_add(3);
-        } else {
-            all.push(words[at])?;
-            at = at.saturating_add(1);
+    for _ in words {
+        if at < words.len() {
+            at = put_at(&mut all, words, at, told);
         }
     }
-    Ok(all)
+    all
 }

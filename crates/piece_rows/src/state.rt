@@ -33,22 +33,19 @@ impl State {
         self.bytes.forget(self.marked);
     }
 
-    /// Bytes by their name.
-    pub fn bytes(&self, name: &str) -> Result<&[u8], Wrong> {
+    /// Bytes by their name; none where there are no such bytes.
+    pub fn bytes(&self, name: &str, told: &mut Told) -> &[u8] {
         match self.bytes.get(name) {
-            Some(bytes) => Ok(bytes.as_slice()),
-            None => Err(Wrong::Line("no such bytes")),
-        }
-    }
-
-    /// The bytes that the word at a place names; none where there are no such bytes.
-    pub fn bytes_at(&self, words: &[&str], at: usize, told: &mut Told) -> &[u8] {
-        match self.bytes(told.word_at(words, at)) {
-            Ok(bytes) => bytes,
-            Err(wrong) => {
-                told.fail(wrong);
+            Some(bytes) => bytes.as_slice(),
+            None => {
+                told.refuse("no such bytes");
                 &[]
             }
         }
+    }
+
+    /// The bytes that the word at a place names.
+    pub fn bytes_at(&self, words: &[&str], at: usize, told: &mut Told) -> &[u8] {
+        self.bytes(told.word_at(words, at), told)
     }
 }

@@ -1,7 +1,7 @@
 // Client files that come in pieces.
 ghost use Rattle.std.specs.Prelude.{None, ℕ, List, ◌≤◌, ◌≡◌};
 
-use crate::files::check_written;
+use crate::files::tell_txs;
 use crate::kinds::tell_bad;
 use crate::state::State;
 use client_files::{BadFile, StreamFault, stream_clients};
@@ -37,30 +37,33 @@ impl Inbox for ShortInbox {
 /// `streams NAME before N pieces N [fails AT]`: a client file that comes in pieces of at most so many bytes; a read from that place on fails.
 /// `N transactions`, which are written again as they stood there, `at N KIND`, or `no`.
 pub fn streamed(state: &State, words: &[&str], told: &mut Told) {
-    let alloc = told.alloc;
     let bytes = state.bytes_at(words, 0, told);
     let before = told.number_at(words, 2);
-    let piece = told.small_at(words, 4) as usize;
-    let fails = if words.len() > 5 {
-        told.number_at(words, 6)
-    } else {
-        u64::MAX
-    };
-    let Some(own) = told.made(Vec::from_slice(alloc, bytes)) else {
-        return;
-    };
-    let mut inbox = ShortInbox {
-        bytes: own,
-        piece,
-        fails,
+    let mut inbox = inbox_of(bytes, words, told);
+    stream(&mut inbox, bytes, before, told);
+}
+
+// The file of these bytes, by the words of its step.
+fn inbox_of(bytes: &[u8], words: &[&str], told: &mut Told) -> ShortInbox {
+    let alloc = told.alloc;
+    ShortInbox {
+        bytes: told
+            .made(Vec::from_slice(alloc, bytes))
+            .unwrap_or(Vec::new(alloc)),
+        piece: told.small_at(words, 4) as usize,
+        fails: if words.len() > 5 {
+            told.number_at(words, 6)
+        } else {
+            u64::MAX
+        },
         faults: 0,
-    };
-    match stream_clients(alloc, &mut inbox, "c", before) {
-        Ok(txs) => {
-            check_written(txs.as_slice(), bytes, told);
-            told.number(txs.len() as u64);
-            told.word("transactions");
-        }
+    }
+}
+
+// Tells what comes of a file behind so many transactions.
+fn stream(inbox: &mut ShortInbox, bytes: &[u8], before: u64, told: &mut Told) {
+    match stream_clients(told.alloc, inbox, "c", before) {
+        Ok(txs) => tell_txs(txs.as_slice(), bytes, told),
         Err(StreamFault::Bad(BadFile { at, kind })) => tell_bad(told, at, kind),
         Err(StreamFault::ReadFault) => told.word("no"),
         Err(StreamFault::Memory) => told.word("memory"),

@@ -6,14 +6,15 @@ use crate::kinds::tell_bad;
 use crate::state::State;
 use cbdc_types::FullTx;
 use row_records::{Told, rest};
-use std::alloc::{AllocError, Global};
+use std::alloc::Global;
 use tx_codec::{BadTx, Fed, ReadFault, TxFeed, read_back, read_tx, write_tx};
 
-// A transaction written behind other bytes.
-fn written(alloc: Global, tx: &FullTx) -> Result<Vec<u8>, AllocError> {
-    let mut came = behind_others(alloc, &[])?;
-    write_tx(alloc, tx, &mut came)?;
-    Ok(came)
+// A transaction is written as these bytes behind others, which stay as they are.
+fn check_written(tx: &FullTx, wanted: &[u8], told: &mut Told) {
+    let all = behind_others(wanted, told);
+    let mut came = behind_others(&[], told);
+    told.made(write_tx(told.alloc, tx, &mut came));
+    told.check_bytes(&all, &came);
 }
 
 // Whether a transaction is read back, and ends there, whatever stands behind it.
@@ -26,14 +27,8 @@ fn is_read_back(alloc: Global, tx: &FullTx, len: usize) -> bool {
 
 // A transaction is written as these bytes behind others, which stay as they are, and is read back.
 fn check_both_ways(tx: &FullTx, wanted: &[u8], told: &mut Told) {
-    let alloc = told.alloc;
-    let Some(all) = told.made(behind_others(alloc, wanted)) else {
-        return;
-    };
-    if let Some(came) = told.made(written(alloc, tx)) {
-        told.check_bytes(&all, &came);
-    }
-    if !is_read_back(alloc, tx, wanted.len()) {
+    check_written(tx, wanted, told);
+    if !is_read_back(told.alloc, tx, wanted.len()) {
         told.refuse("the bytes are read as another transaction");
     }
 }
@@ -47,24 +42,32 @@ pub fn tx_bytes(state: &State, words: &[&str], told: &mut Told) {
     }
 }
 
+// Tells where a transaction ends that was read of bytes; it is written again as it stood there, and read back.
+fn tell_tx(tx: &FullTx, bytes: &[u8], at: usize, end: usize, told: &mut Told) {
+    let own = bytes.get(at..end).unwrap_or(&[]);
+    check_both_ways(tx, own, told);
+    told.named("ends", end as u128);
+}
+
+// Tells what is read from a place on.
+fn tell_read(bytes: &[u8], at: usize, told: &mut Told) {
+    if bytes.len() < at {
+        told.refuse("there are fewer bytes");
+        return;
+    }
+    match read_tx(told.alloc, bytes, at) {
+        Ok((tx, end)) => tell_tx(&tx, bytes, at, end, told),
+        Err(ReadFault::Bad(BadTx { at, kind })) => tell_bad(told, at as u64, kind),
+        Err(ReadFault::Memory) => told.word("memory"),
+    }
+}
+
 /// `reads-tx AT PIECE..`: what is read from that place on, `ends N` or `at N KIND`. What is read is written again as it stood there,
 /// and read back.
 pub fn reads_tx(state: &State, words: &[&str], told: &mut Told) {
     let at = told.small_at(words, 0) as usize;
     let bytes = bytes_of(state, rest(words, 1), told);
-    if bytes.len() < at {
-        told.refuse("there are fewer bytes");
-        return;
-    }
-    match read_tx(told.alloc, bytes.as_slice(), at) {
-        Ok((tx, end)) => {
-            let own = bytes.as_slice().get(at..end).unwrap_or(&[]);
-            check_both_ways(&tx, own, told);
-            told.named("ends", end as u128);
-        }
-        Err(ReadFault::Bad(BadTx { at, kind })) => tell_bad(told, at as u64, kind),
-        Err(ReadFault::Memory) => told.word("memory"),
-    }
+    tell_read(&bytes, at, told);
 }
 
 // What a feed tells where no more bytes come, behind so many that it took.

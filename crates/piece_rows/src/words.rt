@@ -3,7 +3,6 @@ use cbdc_types::{Hash, Shape};
 use command_line::parse;
 use requests::{FileWord, Request, RunOptions, WordsFault};
 use row_records::{Told, words_around};
-use std::alloc::{AllocError, Global};
 
 /// Tells the four numbers of a shape.
 pub fn tell_shape(told: &mut Told, shape: &Shape) {
@@ -75,22 +74,22 @@ fn tell_request(told: &mut Told, request: &Request) {
 }
 
 // The words of a program: `""` stands for an empty one.
-fn owned(alloc: Global, words: &[&str]) -> Result<Vec<String>, AllocError> {
+fn owned(words: &[&str], told: &mut Told) -> Vec<String> {
+    let alloc = told.alloc;
     let mut all = Vec::new(alloc);
     for word in words {
-        let is_empty = *word == "\"\"";
-        all.push(String::from_str(alloc, if is_empty { "" } else { *word })?)?;
+        let own = if *word == "\"\"" { "" } else { *word };
+        if let Some(own) = told.made(String::from_str(alloc, own)) {
+            told.push(&mut all, own);
+        }
     }
-    Ok(all)
+    all
 }
 
 /// `words WORD..`, and what they ask for, or the text that they show.
 pub fn words_ask(words: &[&str], told: &mut Told) {
-    let alloc = told.alloc;
-    let Some(own) = told.made(owned(alloc, words)) else {
-        return;
-    };
-    match parse(alloc, own.as_slice()) {
+    let own = owned(words, told);
+    match parse(told.alloc, own.as_slice()) {
         Ok(request) => tell_request(told, &request),
         Err(WordsFault::Bad) => told.word("bad"),
         Err(WordsFault::Memory) => told.word("memory"),
