@@ -405,17 +405,36 @@ fn named<R: AllocGlobal + Files + Print, S: Subject + Drop, F: Fn(&mut S, &str, 
     file::<R, S, F>(rt, step, alloc, &lines)
 }
 
-/// Does the rows of the files that the program's words name, each file with a new subject, and tells the result of each, how many held, how
-/// many differed as they should, and how many did neither. The answer is whether there is none of the last.
-pub fn run_files<
-    R: AllocGlobal + Env + Files + Print,
-    S: Subject + Drop,
-    F: Fn(&mut S, &str, &Block),
->(rt: &R, step: &F) -> io::Result<bool>
+/// Those of the program's words that are meant, in order.
+pub fn words_where<R: AllocGlobal + Env, P: Fn(&str) -> bool>(
+    rt: &R,
+    is_meant: &P,
+) -> io::Result<Vec<String>>
+    requires able { (s : _) → P.pre is_meant.now s }
+{
+    let mut words = Vec::new(rt.alloc());
+    for word in env::args(rt)?.skip(1) {
+        if is_meant(word.as_str()) {
+            words.push(word)?;
+        }
+    }
+    Ok(words)
+}
+
+/// Does the rows of these files, each file with a new subject, and tells the result of each, how many held, how many differed as they should, and
+/// how many did neither. The answer is whether there is none of the last. Of no file nothing is told.
+pub fn run_files<R: AllocGlobal + Files + Print, S: Subject + Drop, F: Fn(&mut S, &str, &Block)>(
+    rt: &R,
+    step: &F,
+    names: &[String],
+) -> io::Result<bool>
     requires able { (s t b : _) → F.pre step.now s t b }
 {
+    if names.is_empty() {
+        return Ok(true);
+    }
     let mut counts = Counts::none();
-    for name in env::args(rt)?.skip(1) {
+    for name in names {
         counts.add_all(named::<R, S, F>(rt, step, name.as_str())?);
     }
     let Counts {

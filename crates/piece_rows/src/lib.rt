@@ -21,20 +21,19 @@ mod transactions;
 mod verbs;
 mod words;
 
-use row_records::{Block, run_files};
+use row_records::{Block, run_files, words_where};
 use state::State;
 use std::io;
-use std::process::ExitCode;
+use std::rt::{Env, Files};
 use subject::step;
 
-fn main(rt: HostRuntime) -> io::Result<ExitCode> {
+/// Runs the rows of those files that stand in the folder `pieces` among the ones that the program's words name. The answer is whether each came to
+/// what it should.
+pub fn run_rows<R: AllocGlobal + Env + Files + Print>(rt: &R) -> io::Result<bool> {
     let alloc = rt.alloc();
     let does = |state: &mut State, text: &str, block: &Block| {
         step(alloc, state, text, block);
     };
-    if run_files::<HostRuntime, State, _>(&rt, &does)? {
-        Ok(ExitCode::from(0))
-    } else {
-        Ok(ExitCode::from(1))
-    }
+    let names = words_where(rt, &|name: &str| name.starts_with("pieces/"))?;
+    run_files::<R, State, _>(rt, &does, names.as_slice())
 }
