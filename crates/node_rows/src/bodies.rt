@@ -1,9 +1,8 @@
 // Journals of bodies, and of records.
-use crate::pieces::bytes_of;
 use crate::state::Node;
 use gate_journal::Journal;
 use mem_devices::FaultDisk;
-use row_records::{Known, Told, record};
+use row_records::{Known, Told, bytes_of, record};
 
 const NO_BODIES: &str = "no journal of bodies";
 

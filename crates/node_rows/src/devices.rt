@@ -1,11 +1,10 @@
 // A rack, a sink, an inbox and gates in memory.
 ghost use Rattle.mem_devices.specs.Racks.{NoneOut};
 
-use crate::pieces::bytes_of;
 use cbdc_types::NodeId;
 use mem_devices::{MemInbox, MemRack, MemSink, PlainDisk, TestGate};
 use outside::{Disk, Failed, Gate, Inbox, OpenGate, Point, Rack, Sink, When};
-use row_records::{Told, rest, words_around};
+use row_records::{Told, bytes_of, rest, words_around};
 use std::sync::Wait;
 
 /// Decimal numbers.
@@ -104,10 +103,9 @@ fn inbox_of(words: &[&str], told: &mut Told) -> MemInbox {
     let bytes = bytes_of(rest(words, 1), told);
     let name = told.word_at(words, 0);
     let made = String::from_str(told.alloc, name);
-    let Some(name) = told.made(made) else {
-        return MemInbox::new(files);
-    };
-    told.push(&mut files, (name, bytes));
+    if let Some(name) = told.made(made) {
+        told.push(&mut files, (name, bytes));
+    }
     MemInbox::new(files)
 }
 

@@ -2,14 +2,13 @@
 ghost use Rattle.std.specs.Prelude.{◌≤◌, length};
 
 use crate::devices::{numbers, tell_count};
-use crate::pieces::bytes_of;
 use crate::state::{Node, make_place, put_node, take_node};
 use crate::verbs::Verb;
 use cbdc_types::{Header, Record};
 use mem_devices::{Choice, FaultDisk, PlainDisk};
 use outside::Disk;
 use record_log::write_record;
-use row_records::{Known, Told, put_number, records_in, rest, words_around};
+use row_records::{Known, Told, bytes_of, put_number, records_in, rest, words_around};
 use std::alloc::{AllocError, Global};
 
 const TOO_LONG: &str = "a disk has more bytes than its capacity";
@@ -21,27 +20,21 @@ pub const NO_FAULTS: &str = "no disk that may fail";
 pub const CALLS: u32 = 100_000;
 
 /// Appends a record as a journal has it: its open gate, the length of its body, and the body.
-pub fn put_record(
-    alloc: Global,
-    bytes: &mut Vec<u8>,
-    own: &Record,
-    header: &Header,
-) -> Result<(), AllocError> {
-    let mut body = Vec::new(alloc);
-    write_record(own, header, &mut body)?;
-    bytes.push(1)?;
-    put_number(bytes, body.len() as u64)?;
-    bytes.extend_from_slice(&body)
+pub fn put_record(bytes: &mut Vec<u8>, own: &Record, header: &Header, told: &mut Told) {
+    let mut body = Vec::new(told.alloc);
+    told.made(write_record(own, header, &mut body));
+    told.push(bytes, 1);
+    told.made(put_number(bytes, body.len() as u64));
+    told.made(bytes.extend_from_slice(&body));
 }
 
 // Appends the records of a node's journal, a line each, and a closed gate.
 fn put_journal(bytes: &mut Vec<u8>, known: &Known, node: u32, text: &str, told: &mut Told) {
-    let alloc = told.alloc;
     let Some(header) = told.given(known.header(node)) else {
         return;
     };
     for own in &records_in(known, node, text, told) {
-        told.made(put_record(alloc, bytes, own, &header));
+        put_record(bytes, own, &header, told);
     }
     told.push(bytes, 0);
 }

@@ -11,7 +11,6 @@ mod ledgers;
 mod looking;
 mod opening;
 mod parts;
-mod pieces;
 mod slots;
 mod state;
 mod stores;

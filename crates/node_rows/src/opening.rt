@@ -129,12 +129,11 @@ const CAPACITY: u32 = 10_000;
 
 // The bytes of a node's journal in a ledger: its records, and a closed gate.
 fn bytes_in(known: &Known, node: u32, rows: &[(u32, Record)], told: &mut Told) -> Vec<u8> {
-    let alloc = told.alloc;
-    let mut bytes = Vec::new(alloc);
+    let mut bytes = Vec::new(told.alloc);
     if let Some(header) = told.given(known.header(node)) {
         for (own, record) in rows {
             if *own == node {
-                told.made(put_record(alloc, &mut bytes, record, &header));
+                put_record(&mut bytes, record, &header, told);
             }
         }
     }

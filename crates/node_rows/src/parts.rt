@@ -3,11 +3,13 @@ ghost use Rattle.std.specs.Prelude.{◌≤◌, ◌↔◌, IsTrue, length, All};
 
 use cbdc_types::{
     BatchId, CompactTx, FinishCall, ForgetCall, Hash, LaneId, List, LockCall, NodeFault, Outcome,
-    Record, Replied, Reply, Shape, Stamp,
+    Record, Replied, Replies, Reply, Shape, Stamp,
 };
-use lane_driver::{BatchRoom, LaterRoom, finish_calls, forget_calls, gather, latest, lock_calls};
+use lane_driver::{
+    BatchRoom, LaterRoom, ShardFault, finish_calls, forget_calls, gather, latest, lock_calls,
+};
 use row_records::{
-    Known, Told, Wrong, finish_call, forget_call, lock_call, record, rest, txs, words_around,
+    Known, Told, finish_call, forget_call, lock_call, record, rest, txs, words_around,
 };
 use std::alloc::Global;
 
@@ -33,62 +35,75 @@ const DISCARDED: Stamp = Stamp(5);
 
 // The calls of a batch of these transactions, whose Commit has these outcomes.
 fn calls_of(
-    alloc: Global,
     shape: &Shape,
     txs: &[CompactTx],
     batch: &BatchId,
     committed: Stamp,
     outcomes: &[Outcome],
-) -> Result<BatchCalls, Wrong> {
+    told: &mut Told,
+) -> Option<BatchCalls> {
     if txs.len() != outcomes.len() || txs.len() > 1024 {
-        return Err(Wrong::Line("an outcome for each transaction"));
+        told.refuse("an outcome for each transaction");
+        return None;
     }
-    let BatchRoom {
-        parts,
-        mut locks,
-        later,
-        ..
-    } = BatchRoom::take(alloc, shape, txs)?;
-    let LaterRoom {
-        mut finishes,
-        mut forgets,
-        mut decisions,
-        ..
-    } = later;
-    lock_calls(parts, batch, PREPARED, &mut locks);
-    if !are_small(&locks, outcomes.len()) {
-        return Err(Wrong::Line("a large part"));
+    match BatchRoom::take(told.alloc, shape, txs) {
+        Ok(room) => {
+            let BatchRoom {
+                parts,
+                mut locks,
+                later,
+                ..
+            } = room;
+            let LaterRoom {
+                mut finishes,
+                mut forgets,
+                mut decisions,
+                ..
+            } = later;
+            lock_calls(parts, batch, PREPARED, &mut locks);
+            if are_small(&locks, outcomes.len()) {
+                finish_calls(
+                    &locks,
+                    outcomes,
+                    batch,
+                    committed,
+                    &mut decisions,
+                    &mut finishes,
+                );
+                forget_calls(&locks, batch, DISCARDED, &mut forgets);
+            } else {
+                told.refuse("a large part");
+            }
+            Some(BatchCalls {
+                locks,
+                finishes,
+                forgets,
+            })
+        }
+        Err(_) => {
+            told.no_memory();
+            None
+        }
     }
-    finish_calls(
-        &locks,
-        outcomes,
-        batch,
-        committed,
-        &mut decisions,
-        &mut finishes,
-    );
-    forget_calls(&locks, batch, DISCARDED, &mut forgets);
-    Ok(BatchCalls {
-        locks,
-        finishes,
-        forgets,
-    })
 }
 
 // The calls of a batch of these transactions, by its Commit.
 fn calls_by(
-    alloc: Global,
     shape: &Shape,
     txs: &[CompactTx],
     commit: &Record,
-) -> Result<BatchCalls, Wrong> {
+    told: &mut Told,
+) -> Option<BatchCalls> {
     match commit {
         Record::Commit {
             stamp,
             batch,
             outcomes,
-        } => calls_of(alloc, shape, txs, batch, *stamp, outcomes.as_slice()),
-        _ => Err(Wrong::Line("no Commit")),
+        } => calls_of(shape, txs, batch, *stamp, outcomes.as_slice(), told),
+        _ => {
+            told.refuse("no Commit");
+            None
+        }
     }
 }
 
@@ -136,25 +151,28 @@ fn calls_told(known: &Known, shape: &Shape, text: &str, told: &mut Told) -> Batc
     calls
 }
 
+// Looks whether calls of a batch are those.
+fn check_calls(wanted: &BatchCalls, came: &BatchCalls, told: &mut Told) {
+    told.check_yes(
+        wanted.locks == came.locks
+            && wanted.finishes == came.finishes
+            && wanted.forgets == came.forgets,
+    );
+}
+
 /// `calls TX.. / COMMIT`, and a line for each call at a shard of the batch of these transactions that has this Commit, whose Prepare has the stamp 1
 /// and whose Discard has 5: `SHARD lock ..`, `SHARD finish ..`, `SHARD forget ..`, those of a kind in their order.
 pub fn calls(known: &Known, words: &[&str], text: &str, told: &mut Told) {
-    let alloc = told.alloc;
     let (names, commit) = words_around(words, "/");
     let Some(shape) = told.given(known.shape()) else {
         return;
     };
-    let wanted = calls_told(known, &shape, text, told);
-    let Some(commit) = record(known, 0, commit, told) else {
-        return;
-    };
     let batch = txs(known, names, told);
-    if let Some(came) = told.given(calls_by(alloc, &shape, batch.as_slice(), &commit)) {
-        told.check_yes(
-            wanted.locks == came.locks
-                && wanted.finishes == came.finishes
-                && wanted.forgets == came.forgets,
-        );
+    if let Some(commit) = record(known, 0, commit, told) {
+        if let Some(came) = calls_by(&shape, batch.as_slice(), &commit, told) {
+            let wanted = calls_told(known, &shape, text, told);
+            check_calls(&wanted, &came, told);
+        }
     }
 }
 
@@ -232,6 +250,34 @@ fn empty_call(alloc: Global) -> LockCall {
     }
 }
 
+// Tells the shards and the stamps of all replies, or the first fault.
+fn tell_gathered(told: &mut Told, came: &Result<Replies, ShardFault>) {
+    match came {
+        Ok(replies) => {
+            for one in replies.as_slice() {
+                told.numbers(&[u64::from(one.shard), one.stamp.0]);
+            }
+        }
+        Err(first) => told.shown(first),
+    }
+}
+
+// Gathers the answers to calls.
+fn gather_all(
+    calls: &[(u32, LockCall)],
+    answers: Vec<Result<Replied, NodeFault>>,
+    told: &mut Told,
+) {
+    if answers.len() != calls.len() {
+        told.refuse("an answer is missing");
+        return;
+    }
+    match Vec::with_capacity(told.alloc, calls.len()) {
+        Ok(replies) => tell_gathered(told, &gather(calls, answers, replies)),
+        Err(_) => told.no_memory(),
+    }
+}
+
 /// `gather SHARD ANSWER / SHARD ANSWER ..`, each answer a stamp, with the reply that 04 is missing, or a fault; and the shards and stamps of all replies, or the first fault
 pub fn gathers(words: &[&str], told: &mut Told) {
     let alloc = told.alloc;
@@ -243,22 +289,7 @@ pub fn gathers(words: &[&str], told: &mut Told) {
         let one = replied(answer, told);
         told.push(&mut answers, one);
     }
-    let Ok(replies) = Vec::with_capacity(alloc, calls.len()) else {
-        told.no_memory();
-        return;
-    };
-    if answers.len() != calls.len() {
-        told.refuse("an answer is missing");
-        return;
-    }
-    match gather(&calls, answers, replies) {
-        Ok(replies) => {
-            for one in replies.as_slice() {
-                told.numbers(&[u64::from(one.shard), one.stamp.0]);
-            }
-        }
-        Err(first) => told.shown(&first),
-    }
+    gather_all(&calls, answers, told);
 }
 
 /// `latest SHARD ANSWER / SHARD ANSWER ..`, each answer a stamp or a fault, and the greatest stamp, or the first fault

@@ -1,6 +1,6 @@
 // What a shard remembers of each lane, and the entries of a part with their replies.
 use crate::state::Tables;
-use cbdc_types::{Answered, LaneId, List, Record, Reply, Stamp};
+use cbdc_types::{Answered, Entry, LaneId, List, Record, Reply, Stamp};
 use row_records::{Known, Told, part, record, rest};
 use shard_core::{LaneSlot, Slots, answered};
 
@@ -11,35 +11,61 @@ pub fn make_slots(tables: &mut Tables, words: &[&str], told: &mut Told) {
     tables.slots = told.made(made);
 }
 
-// A slot: `idle NUMBER STAMP`, `locked NUMBER STAMP NAME@PLACE..`, all of them Held, or `finished NUMBER STAMP STAMP NAME@PLACE..`, all of them Held and committed.
-fn slot(known: &Known, words: &[&str], told: &mut Told) -> Option<LaneSlot> {
-    let alloc = told.alloc;
-    let kind = told.word_at(words, 0);
-    let number = told.number_at(words, 1);
+// The part that entries tell, `NAME@PLACE` each, at the first shard.
+fn part_told(known: &Known, entries: &[&str], told: &mut Told) -> List<Entry> {
+    match known.shape() {
+        Ok(shape) => part(known, &shape, shape.coordinators(), entries, told),
+        Err(wrong) => {
+            told.fail(wrong);
+            List::new(told.alloc)
+        }
+    }
+}
+
+// The same so many times.
+fn repeated<T: Copy + Drop>(one: T, many: usize, told: &mut Told) -> List<T> {
+    let mut all = Vec::new(told.alloc);
+    for _ in 0..many {
+        told.push(&mut all, one);
+    }
+    List::from_vec(all)
+}
+
+// `locked NUMBER STAMP NAME@PLACE..`, all of them Held
+fn locked(known: &Known, words: &[&str], told: &mut Told) -> LaneSlot {
+    let own = part_told(known, rest(words, 3), told);
+    let held = repeated(Reply::Held, own.len(), told);
     let stamp = Stamp(told.number_at(words, 2));
-    if kind == "idle" {
-        told.at_most(words, 3);
-        return Some(LaneSlot::Idle(number, stamp));
-    }
-    let is_locked = kind == "locked";
-    let entries = rest(words, if is_locked { 3 } else { 4 });
-    let shape = told.given(known.shape())?;
-    let own = part(known, &shape, shape.coordinators(), entries, told);
-    let held = told.made(vec![in alloc; Reply::Held; own.len()])?;
-    if is_locked {
-        return Some(LaneSlot::Locked(number, own, List::from_vec(held), stamp));
-    }
-    told.expect(words, 0, "finished");
-    let later = Stamp(told.number_at(words, 3));
-    let given = told.made(vec![in alloc; true; own.len()])?;
-    Some(LaneSlot::Finished(
+    LaneSlot::Locked(told.number_at(words, 1), own, held, stamp)
+}
+
+// `finished NUMBER STAMP STAMP NAME@PLACE..`, all of them Held and committed
+fn finished(known: &Known, words: &[&str], told: &mut Told) -> LaneSlot {
+    let own = part_told(known, rest(words, 4), told);
+    let held = repeated(Reply::Held, own.len(), told);
+    let given = repeated(true, own.len(), told);
+    let (number, stamp) = (told.number_at(words, 1), Stamp(told.number_at(words, 2)));
+    LaneSlot::Finished(
         number,
         own,
-        List::from_vec(held),
-        List::from_vec(given),
+        held,
+        given,
         stamp,
-        later,
-    ))
+        Stamp(told.number_at(words, 3)),
+    )
+}
+
+// A slot: `idle NUMBER STAMP`, or one of the above.
+fn slot(known: &Known, words: &[&str], told: &mut Told) -> LaneSlot {
+    match told.word_at(words, 0) {
+        "locked" => locked(known, words, told),
+        "finished" => finished(known, words, told),
+        _ => {
+            told.expect(words, 0, "idle");
+            told.at_most(words, 3);
+            LaneSlot::Idle(told.number_at(words, 1), Stamp(told.number_at(words, 2)))
+        }
+    }
 }
 
 // Tells where a slot is another one.
@@ -80,9 +106,8 @@ pub fn slot_step(known: &Known, tables: &mut Tables, words: &[&str], told: &mut 
         return;
     }
     let lane = told.lane_at(words, 1);
-    if let Some(own) = slot(known, rest(words, 2), told) {
-        at_slot(slots, action, lane, own, told);
-    }
+    let own = slot(known, rest(words, 2), told);
+    at_slot(slots, action, lane, own, told);
 }
 
 // Tells how many entries there are, where they are those of a Lock with their replies.

@@ -11,7 +11,7 @@ use crate::parts::{calls, gathers, latest_of};
 use crate::slots::{entries, make_slots, slot_step};
 use crate::state::{Node, State, make_place};
 use crate::stores::{find, len, make_store, put, put_all, reserve, room, spare, take_out};
-use crate::verbs::{Verb, is_for_steps, takes_text, verb_of};
+use crate::verbs::{Verb, takes_text, verb_of};
 use lane_driver::no_memory;
 use row_records::{Block, Known, Names, Subject, Told, Wrong, name_form, rest, shape};
 use std::alloc::Global;
@@ -27,25 +27,39 @@ fn tell<W: Wait>(
     told: &mut Told,
 ) {
     match verb {
-        Verb::Ledger => ledger(&state.known, &mut state.nodes, words, text, told),
-        Verb::Disk => disk(&state.known, &mut state.nodes, words, text, told),
-        Verb::Calls => calls(&state.known, words, text, told),
-        Verb::Asked => asked(&state.seen, text, told),
-        Verb::Shape => shape(&mut state.known, words, told),
-        Verb::Form => name_form(&mut state.known, words, told),
-        Verb::Gate => gate(rt, words, told),
         Verb::Lane => lane(rt, state, words, true, told),
         Verb::Batch => lane(rt, state, words, false, told),
+        Verb::Gate => gate(rt, words, told),
+        Verb::Asked => asked(&state.seen, text, told),
         Verb::Asks => asks(&state.seen, told),
+        other => make(state, other, words, text, told),
+    }
+}
+
+// Does a step that names something or lays nodes, or looks at all nodes.
+fn make(state: &mut State, verb: Verb, words: &[&str], text: &str, told: &mut Told) {
+    match verb {
+        Verb::Shape => shape(&mut state.known, words, told),
+        Verb::Form => name_form(&mut state.known, words, told),
+        Verb::Ledger => ledger(&state.known, &mut state.nodes, words, text, told),
+        Verb::Disk => disk(&state.known, &mut state.nodes, words, text, told),
         Verb::Keep => keep(&state.nodes, &mut state.kept, words, told),
         Verb::Same => same(&state.nodes, &state.kept, words, told),
-        Verb::Rack => rack(words, told),
-        Verb::Sink => sink(words, told),
-        Verb::Inbox => inbox(words, told),
+        other => compute(state, other, words, text, told),
+    }
+}
+
+// Does a step of what asks no node: a driver's parts, and devices.
+fn compute(state: &mut State, verb: Verb, words: &[&str], text: &str, told: &mut Told) {
+    match verb {
+        Verb::Calls => calls(&state.known, words, text, told),
+        Verb::Answered => entries(&state.known, words, told),
         Verb::Gather => gathers(words, told),
         Verb::Latest => latest_of(words, told),
         Verb::NoMemory => told.shown(&no_memory()),
-        Verb::Answered => entries(&state.known, words, told),
+        Verb::Rack => rack(words, told),
+        Verb::Sink => sink(words, told),
+        Verb::Inbox => inbox(words, told),
         other => tabulate(state, other, words, text, told),
     }
 }
@@ -54,21 +68,29 @@ fn tell<W: Wait>(
 fn tabulate(state: &mut State, verb: Verb, words: &[&str], text: &str, told: &mut Told) {
     match verb {
         Verb::Store => make_store(&mut state.tables, words, told),
-        Verb::Reserve => reserve(&mut state.tables.store, words, told),
         Verb::Room => room(&mut state.tables, words, told),
         Verb::Spare => spare(&state.tables, words, told),
-        Verb::Len => len(&state.tables.store, told),
-        Verb::Put => put(&mut state.tables.store, words, told),
-        Verb::PutAll => put_all(&mut state.tables.store, words, told),
-        Verb::Out => take_out(&mut state.tables.store, words, told),
-        Verb::Find => find(&state.tables.store, words, told),
         Verb::Slots => make_slots(&mut state.tables, words, told),
         Verb::Slot => slot_step(&state.known, &mut state.tables, words, told),
+        other => at_store(state, other, words, text, told),
+    }
+}
+
+// Does a step of one table.
+fn at_store(state: &mut State, verb: Verb, words: &[&str], text: &str, told: &mut Told) {
+    let store = &mut state.tables.store;
+    match verb {
+        Verb::Reserve => reserve(store, words, told),
+        Verb::Len => len(store, told),
+        Verb::Put => put(store, words, told),
+        Verb::PutAll => put_all(store, words, told),
+        Verb::Out => take_out(store, words, told),
+        Verb::Find => find(store, words, told),
         other => turn(state, other, words, text, told),
     }
 }
 
-// Makes another of what stands in the place that a step begins with.
+// Makes another of what stands in the place that a step begins with, or asks what stands there.
 fn turn(state: &mut State, verb: Verb, words: &[&str], text: &str, told: &mut Told) {
     let place = told.small_at(words, 0);
     let own = rest(words, 1);
@@ -91,7 +113,7 @@ fn turn(state: &mut State, verb: Verb, words: &[&str], text: &str, told: &mut To
     }
 }
 
-// Asks a node, or looks at it.
+// Asks a node.
 fn act(known: &Known, node: &mut Node, verb: Verb, words: &[&str], text: &str, told: &mut Told) {
     match verb {
         Verb::Memory => memory(node, words, told),
@@ -100,6 +122,13 @@ fn act(known: &Known, node: &mut Node, verb: Verb, words: &[&str], text: &str, t
         Verb::Call => call(known, node, words, told),
         Verb::Next => next(known, node, words, text, told),
         Verb::Admits => admits(known, node, words, told),
+        other => look(known, node, other, words, text, told),
+    }
+}
+
+// Looks at a node.
+fn look(known: &Known, node: &mut Node, verb: Verb, words: &[&str], text: &str, told: &mut Told) {
+    match verb {
         Verb::Journal => journal(known, node, text, told),
         Verb::Bytes => bytes(node, words, told),
         Verb::Used => used(node, told),
@@ -116,26 +145,6 @@ fn at_disk(node: &mut Node, verb: Verb, words: &[&str], told: &mut Told) {
         Node::Plain(disk) => on_disk(disk, verb, words, told),
         Node::Disk(disk) => on_disk(disk, verb, words, told),
         _ => told.refuse("no disk"),
-    }
-}
-
-// Does a step, and compares what comes of it with the text behind it, where the step does not take that in.
-fn answer<W: Wait>(
-    rt: &W,
-    state: &mut State,
-    alloc: Global,
-    verb: Verb,
-    most: usize,
-    words: &[&str],
-    text: &str,
-) -> Result<(), Wrong> {
-    let mut told = Told::new(alloc);
-    told.at_most(words, most);
-    tell(rt, state, verb, rest(words, 1), text, &mut told);
-    if takes_text(verb) {
-        told.end()
-    } else {
-        told.check(text)
     }
 }
 
@@ -161,25 +170,16 @@ impl Subject for State {
     }
 }
 
-// Does a step, with what stands behind it.
-fn step_of<W: Wait>(
-    rt: &W,
-    alloc: Global,
-    state: &mut State,
-    text: &str,
-    block: &Block,
-) -> Result<(), Wrong> {
-    let words = text.split_whitespace().collect::<Vec<&str>>(alloc)?;
-    match verb_of(&words) {
-        Some((verb, most)) if is_for_steps(block) => {
-            answer(rt, state, alloc, verb, most, &words, block.text.as_str())
-        }
-        Some(_) => Err(Wrong::Line("what stands behind it is not for this step")),
-        None => Err(Wrong::Line("no such step")),
-    }
-}
-
-/// Does a step, with what stands behind it; where it does not hold, the state keeps why.
+/// Does a step, with what stands behind it, and compares what comes of it with that, where the step does not take it in; where it does not hold, the
+/// state keeps why.
 pub fn step<W: Wait>(rt: &W, alloc: Global, state: &mut State, text: &str, block: &Block) {
-    state.wrong = step_of(rt, alloc, state, text, block).err();
+    let mut told = Told::new(alloc);
+    let words = told.words_of(text);
+    let behind = block.text.as_str();
+    let mut is_taken = true;
+    if let Some(verb) = verb_of(&words, block, &mut told) {
+        is_taken = takes_text(verb);
+        tell(rt, state, verb, rest(&words, 1), behind, &mut told);
+    }
+    state.wrong = told.wrong(is_taken, behind);
 }

@@ -1,5 +1,5 @@
 // The steps, by their first words.
-use row_records::Block;
+use row_records::{Block, Told, verb_in};
 
 /// What a step does.
 #[derive(Clone, Copy, Drop)]
@@ -117,15 +117,9 @@ const VERBS: [(&str, Verb, usize); 52] = [
     ("core", Verb::Core, 5),
 ];
 
-/// The verb that words begin with, and how many they may be.
-pub fn verb_of(words: &[&str]) -> Option<(Verb, usize)> {
-    let own = words.first()?;
-    for (name, verb, most) in &VERBS {
-        if *name == *own {
-            return Some((*verb, *most));
-        }
-    }
-    None
+/// The verb that words begin with, where what stands behind the step is for it.
+pub fn verb_of(words: &[&str], block: &Block, told: &mut Told) -> Option<Verb> {
+    verb_in(&VERBS, words, block, told)
 }
 
 /// Whether a step takes the text behind it in; else that is its answer.
@@ -134,9 +128,4 @@ pub fn takes_text(verb: Verb) -> bool {
         Verb::Ledger | Verb::Disk | Verb::Journal | Verb::Next | Verb::Calls | Verb::Asked => true,
         _ => false,
     }
-}
-
-/// Whether what stands behind a step is for it: a text alone, which each step looks at.
-pub fn is_for_steps(block: &Block) -> bool {
-    !block.is_any && !block.is_any_status && block.status == 0
 }
