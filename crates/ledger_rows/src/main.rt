@@ -21,6 +21,9 @@ use row_records::{Block, run_files, words_where};
 use state::State;
 use std::io;
 use std::process::ExitCode;
+use std::rt::{Env, Files};
+use std::sync::Wait;
+use std::thread::Threads;
 use subject::step;
 
 // The folders of files that are not its own.
@@ -35,7 +38,7 @@ fn is_own(word: &str) -> bool {
 }
 
 // Runs the rows that stand in code, where a word asks for them.
-fn run_locks(rt: &HostRuntime) -> io::Result<bool> {
+fn run_locks<R: AllocGlobal + Env + Print + Threads + Wait + Sync>(rt: &R) -> io::Result<bool> {
     let asks = words_where(rt, &|word: &str| word == LOCKS)?;
     if asks.is_empty() {
         Ok(true)
@@ -45,13 +48,15 @@ fn run_locks(rt: &HostRuntime) -> io::Result<bool> {
 }
 
 // Runs the rows of whole runs.
-fn run_ledgers(rt: &HostRuntime) -> io::Result<bool> {
+fn run_ledgers<R: AllocGlobal + Env + Files + Print + Threads + Wait + Sync>(
+    rt: &R,
+) -> io::Result<bool> {
     let alloc = rt.alloc();
     let does = |state: &mut State, text: &str, block: &Block| {
         step(rt, alloc, state, text, block);
     };
     let names = words_where(rt, &|word: &str| is_own(word))?;
-    run_files::<HostRuntime, State, _>(rt, &does, names.as_slice())
+    run_files::<R, State, _>(rt, &does, names.as_slice())
 }
 
 fn main(rt: HostRuntime) -> io::Result<ExitCode> {
