@@ -6,8 +6,8 @@ ghost use Rattle.cbdc_model.specs.Book.{Book as ModelBook, key, take_out, take_a
 ghost use Rattle.cbdc_model.specs.Coins.{made_coins, tx_id};
 
 use cbdc_types::{FullTx, Hash, Input, Output};
-use compact_tx::genesis_id;
 use same_records::is_same_output;
+use sentinel::genesis_id;
 use std::alloc::{AllocError, Global};
 use std::collections::HashMap;
 

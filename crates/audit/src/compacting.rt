@@ -4,8 +4,8 @@ ghost use Rattle.std.specs.List.{AllZip};
 ghost use Rattle.audit.specs.Keeping.{IsFormOf};
 
 use cbdc_types::{CompactTx, FullTx};
-use compact_tx::compact;
 use rayon::prelude::*;
+use sentinel::compact;
 use std::alloc::{AllocError, Global};
 use std::thread::Threads;
 

@@ -2,14 +2,13 @@
 use crate::state::State;
 use crate::verbs::Verb;
 use cbdc_types::{CompactTx, FullTx, Hash, Input, List, Record, Shape};
-use compact_tx::{input_hash, tx_id};
 use plain_check::{
     Row, are_alike, are_waves, committed_compact, committed_of, count_of_book, fold_of,
     genesis_book, has, history_of, is_clean, is_kept_ledger, outcome_of, stamp_of, unspent_of,
     value_of,
 };
 use row_records::{Told, rest};
-use sentinel::AllGood;
+use sentinel::{AllGood, input_hash, tx_id};
 use std::alloc::AllocError;
 
 // Whether what came is the yes or the no that the word at a place tells.

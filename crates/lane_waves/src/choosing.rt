@@ -2,7 +2,7 @@
 use cbdc_types::Shape;
 use lane_driver::Source;
 use ledger_runs::Work;
-use port_sets::Pace;
+use phase_calls::Pace;
 
 // How many transactions a batch may have at least where its calls are taken to be slow before one was measured.
 const LARGE_BATCH: u32 = 1024;

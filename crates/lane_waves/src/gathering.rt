@@ -11,7 +11,8 @@ use crate::{Dealt, LaneRun, SeatSet, gather, seats_back};
 use lane_driver::{Ports, Source};
 use node_lock::Seat;
 use outside::Disk;
-use port_sets::{Fanout, Locks, LogSeat, Shard, SharedLog};
+use phase_calls::Fanout;
+use port_sets::{Locks, LogSeat, Shard, SharedLog};
 use std::sync::Wait;
 
 // The first lane that is not back gives back its seats: those of the shards onto their lists, that of its coordinator to the caller.

@@ -9,13 +9,13 @@ ghost use Rattle.lane_driver.specs.Told.{IsLane, AreShardsOf};
 ghost use Rattle.lane_driver.specs.Reports.{IsReported};
 ghost use Rattle.lane_driver.specs.Outcomes.{LaneResult};
 ghost use Rattle.node_ports.specs.Nodes.{sight_at};
-ghost use Rattle.port_sets.specs.Phase.{MakesAll, AsksLocks, AsksFinishes, AsksForgets, Locks, Finishes, Forgets, IsToldAtOnce};
+ghost use Rattle.phase_calls.specs.Phase.{MakesAll, AsksLocks, AsksFinishes, AsksForgets, Locks, Finishes, Forgets, IsToldAtOnce};
 ghost use Rattle.lane_waves.specs.Phases.{SeatsShow, SeatsTell, KeepsSeats};
 
 use cbdc_types::{FinishCall, ForgetCall, LaneId, LockCall, NodeFault, Replied, Shape, Stamp};
 use lane_driver::{LaneFault, LaneReport, LogPort, PortSet, Ports, ShardPort, Source, run_lane};
 use outside::Gate;
-use port_sets::{AtOnce, Fanout, finish_at_once, forget_at_once, lock_at_once};
+use phase_calls::{AtOnce, Fanout, finish_at_once, forget_at_once, lock_at_once};
 use std::alloc::Global;
 use std::thread::Threads;
 

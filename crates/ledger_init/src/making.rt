@@ -12,9 +12,9 @@ ghost use Rattle.ledger_init.specs.Made.{first_record_of, HoldsFirst, LeavesBut,
 use crate::dealing::total_of;
 use crate::writing::write_firsts;
 use cbdc_types::{Answer, CompactTx, FullTx, Hash, List, Mint, Shape};
-use compact_tx::compact;
 use outside::Rack;
 use rack_ledgers::{Blank, open_all};
+use sentinel::compact;
 use std::alloc::{AllocError, Global};
 
 /// A ledger that was made: how many coins were minted, their sum, and the id of the mint.

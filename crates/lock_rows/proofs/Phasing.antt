@@ -12,7 +12,7 @@ use Rattle.cbdc_model.specs.Records.{Header}
 use Rattle.cbdc_model.specs.Calls.{IsLockCall}
 use Rattle.cbdc_model.specs.Sights.{Sight}
 use Rattle.node_ports.specs.Nodes.{sight_at}
-use Rattle.port_sets.specs.Phase.{AsksLocks}
+use Rattle.phase_calls.specs.Phase.{AsksLocks}
 
 module _ {P : Type 0} (sight : P → Sight) where
   -- calls that fit three shards may be made at the three ports

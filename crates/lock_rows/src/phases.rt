@@ -7,7 +7,7 @@ use cbdc_types::{
 };
 use mem_devices::PlainDisk;
 use node_ports::NodeShard;
-use port_sets::lock_at_once;
+use phase_calls::lock_at_once;
 use shard_node::{ShardNode, is_lock_call};
 use std::alloc::Global;
 use std::sync::Wait;

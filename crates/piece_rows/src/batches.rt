@@ -4,9 +4,8 @@ use crate::hashes::digest;
 use crate::state::State;
 use batcher::Batcher;
 use cbdc_types::{CompactTx, FullTx, Part, Refusal};
-use compact_tx::tx_id;
 use row_records::{Told, txs};
-use sentinel::{AllGood, check};
+use sentinel::{AllGood, check, tx_id};
 use shard_ranges::{shard_of, split};
 use workload::{Workload, generate};
 

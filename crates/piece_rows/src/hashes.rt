@@ -2,8 +2,8 @@
 use crate::bytes::bytes_of;
 use crate::state::State;
 use cbdc_types::{CompactTx, Hash};
-use compact_tx::{compact, input_hash, tx_id, uhs_id};
 use row_records::{Told, inputs};
+use sentinel::{compact, input_hash, tx_id, uhs_id};
 use sha2::{Digest, Sha256};
 
 // The id, the hashes of the inputs and those of the outputs, a line each.

@@ -5,8 +5,8 @@ ghost use Rattle.cbdc_model.specs.Coins.{coin_hash, tx_id as id_of_tx};
 ghost use Rattle.plain_check.specs.Agreeing.{Agree, CoinsAgree};
 
 use cbdc_types::{FullTx, Hash, Input, Output};
-use compact_tx::{input_hash, tx_id};
 use same_records::is_hash;
+use sentinel::{input_hash, tx_id};
 
 // Whether two coins are the same.
 #[tactic(auto, using(crate::proofs::Equality::coin_decides))]

@@ -9,8 +9,8 @@ ghost use Rattle.cbdc_model.specs.Coins.{made_coins, tx_coins, genesis_tx};
 ghost use Rattle.plain_check.specs.Coins.{coin_entry, book_of};
 
 use cbdc_types::{FullTx, Hash, Input, List, OutPoint, Output};
-use compact_tx::{genesis_tx, tx_id};
 use same_records::{is_same_output, is_same_point};
+use sentinel::{genesis_tx, tx_id};
 use std::alloc::{AllocError, Global};
 
 // The output of the first of these coins with the outpoint.

@@ -8,7 +8,7 @@ ghost use Rattle.plain_check.specs.Agreeing.{Agree, coins_in};
 use crate::agreeing::{agrees_with, all_agree, all_coins_agree};
 use crate::{coins_of, minted_coins};
 use cbdc_types::{FullTx, Input, Output};
-use compact_tx::genesis_tx;
+use sentinel::genesis_tx;
 use std::alloc::{AllocError, Global};
 
 // Puts the coins that transactions spend and make behind those so far.

@@ -6,8 +6,8 @@ ghost use Rattle.cbdc_model.specs.History.{first_with, AreHandedIn, AreCommitted
 use crate::copying::{copy_of_full, with_front};
 use crate::history::{Row, committed_compact};
 use cbdc_types::{CompactTx, FullTx, List};
-use compact_tx::compact;
 use same_records::is_same_compact;
+use sentinel::compact;
 use std::alloc::{AllocError, Global};
 
 /// The first submission with a compact form.

@@ -10,8 +10,8 @@ ghost use Rattle.plain_check.specs.Minting.{compact_mint};
 use crate::proper::passes;
 use crate::{Row, copy_of_record, is_after, is_caused_at, journal_of};
 use cbdc_types::{CompactTx, FullTx, Hash, Header, List, NodeId, Output, Record, Shape};
-use compact_tx::{compact, genesis_tx};
 use same_records::hashes_on;
+use sentinel::{compact, genesis_tx};
 use std::alloc::{AllocError, Global};
 
 /// A copy of a row.

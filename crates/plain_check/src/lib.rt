@@ -5,8 +5,8 @@
 //!   alike; what a run adds to the journals, wave after wave (all journals that those at exit may have been once are tried); the whole ledger as
 //!   a value, with what may happen to its nodes in any order; and what each command prints.
 //! - Tested in `journal_rows`, on worked examples whose numbers come from the rules of these documents and not from the program. Ids, compact
-//!   forms, shard numbers, stamps, what is in the grammar and a sentinel's first refusal these rows take from the program itself (`compact_tx`,
-//!   `shard_ranges`, `audit`, `record_grammar`, `sentinel`), whose contracts are the definitions. Proper is what a sentinel lets pass to which all
+//!   forms, shard numbers, stamps, what is in the grammar and a sentinel's first refusal these rows take from the program itself (`shard_ranges`,
+//!   `audit`, `record_grammar`, `sentinel`), whose contracts are the definitions. Proper is what a sentinel lets pass to which all
 //!   witnesses are good: by a law of `run_laws`, just what the definition says.
 //! - `World::step`, `World::run`: Tested in `journal_rows` (`worlds.rows`).
 //! - That each command prints the text computed here is a promise of `process`; of `gen` these are the numbers that end a run and those of an

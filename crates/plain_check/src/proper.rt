@@ -4,9 +4,8 @@ ghost use Rattle.cbdc_model.specs.Clean.{IsProper, IsProperCompact};
 ghost use Rattle.cbdc_model.specs.History.{TxsPass};
 
 use cbdc_types::{CompactTx, FullTx, Hash, Record};
-use compact_tx::compact;
 use same_records::is_compact;
-use sentinel::{AllGood, check};
+use sentinel::{AllGood, check, compact};
 use std::alloc::{AllocError, Global};
 
 /// Whether a transaction is proper: all but its witnesses' verdicts is as it must be. A sentinel to which all witnesses are good

@@ -9,12 +9,11 @@ use crate::line_unspent::unspent_count;
 use crate::page::Page;
 use crate::reporting::reports_of;
 use cbdc_types::{FullTx, Hash, List, Outcome, Record, Shape};
-use compact_tx::tx_id;
 use line_text::{
     Summary, WriteFault, write_confirmed, write_refused, write_rejected, write_summary,
 };
 use printed_lines::Report;
-use sentinel::Verifier;
+use sentinel::{Verifier, tx_id};
 use std::alloc::Global;
 
 // Puts the line of a submission on a page.

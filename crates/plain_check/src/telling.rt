@@ -11,8 +11,8 @@ use crate::page::Page;
 use crate::{journal_at, status_of};
 use audit::{Totals, Verdict};
 use cbdc_types::{Answer, Hash, List, Output, Record, Shape};
-use compact_tx::genesis_id;
 use line_text::{AuditSummary, WriteFault, write_audit, write_fault, write_init, write_status};
+use sentinel::genesis_id;
 use shard_ranges::shard_of;
 use std::alloc::{AllocError, Global};
 

@@ -5,5 +5,3 @@ pub mod Deciding
 pub mod Stepping
 pub mod Owning
 pub mod Turning
-pub mod Halves
-pub mod Telling

@@ -12,8 +12,8 @@ ghost use Rattle.rack_ledgers.specs.Audited.{HasAuditVerdict, IsAudited, History
 use crate::{Nodes, close_nodes, lend_logs, lend_shards, open_minted};
 use audit::{Verdict, audit, merge};
 use cbdc_types::{Answer, FullTx, Output};
-use compact_tx::genesis_id;
 use outside::{Disk, Rack};
+use sentinel::genesis_id;
 use std::alloc::{AllocError, Global};
 use std::thread::Threads;
 

@@ -1,3 +1,4 @@
+pub mod Coins
 mod LineLemmas
 mod KeyLemmas
 mod ReadLemmas

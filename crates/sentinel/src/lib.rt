@@ -1,12 +1,18 @@
-//! What can be said of a transaction without the ledger: its form, its sums and the verdicts on its witnesses, with the verifier that is asked for
-//! these and the file that has them.
+//! What a sentinel makes of a transaction, without the ledger: its id, the hashes of its coins, and its compact form, which is what coordinators and
+//! shards see of it; a mint as a transaction, with its id; and whether its form, its sums and the verdicts on its witnesses let it pass, with the
+//! verifier that is asked for these and the file that has them.
 //!
 //! - `check`: It takes no memory. A repeated outpoint is sought by comparing each input with those before it, at most 255 * 254 / 2 comparisons.
-//! - Open: that bytes of a verdict file have only one reading is not a law of its own. No signature is checked here.
-//! - Tested in `piece_rows`: every reason to refuse a transaction (`refusals.rows`); verdict files (`verdicts.rows`).
+//! - `tx_id`, `uhs_id`, `input_hash`: They take no memory. Witnesses change no id.
+//! - Open: that bytes of a verdict file have only one reading is not a law of its own. No signature is checked here. That hashes don't collide is a
+//!   hypothesis wherever it is needed.
+//! - Tested in `piece_rows`: every reason to refuse a transaction (`refusals.rows`); verdict files (`verdicts.rows`); digests that another program
+//!   computed (`hashes.rows`).
 #![tactic(auto)]
 
+mod compacting;
 mod file;
+mod identifiers;
 mod line;
 mod places;
 mod steps;
@@ -16,7 +22,9 @@ ghost use Rattle.std.specs.Prelude.{MatchResult};
 ghost use Rattle.sentinel.specs.FirstRefusal.{IsFirstRefusal, IsSoundTx};
 
 use cbdc_types::{FullTx, Hash, Refusal};
+pub use compacting::{compact, compact_as, genesis_id, genesis_tx};
 pub use file::{BadLine, VerdictFault, VerdictFile};
+pub use identifiers::{input_hash, tx_id, uhs_id};
 use steps::{
     balances, fits_inputs, fits_outputs, has_bad, has_inputs, has_outputs, has_unverified,
     has_witnesses, has_zero_input, has_zero_output, repeats,

@@ -13,8 +13,7 @@ ghost use Rattle.sentinel.specs.FirstRefusal.{IsSoundTx};
 ghost use Rattle.submissions.specs.Checks.{VerdictsOf, AllEmpty, IsJudged, IsRuled, IsDealt, IsDealtAt, AreSubmitted};
 
 use cbdc_types::{CompactTx, FullTx, Hash, Refusal, Shape};
-use compact_tx::{compact_as, tx_id};
-use sentinel::{Verifier, check};
+use sentinel::{Verifier, check, compact_as, tx_id};
 pub use sound::{is_sound_law, one_test_law, sound_test_law};
 use std::alloc::{AllocError, Global};
 

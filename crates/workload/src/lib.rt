@@ -12,7 +12,7 @@ ghost use Rattle.workload.specs.Generator.{workload_of, mint_of as the_mint, spl
 
 use cbdc_types::{FullTx, List, Mint};
 use coins::{genesis_of, mint_of};
-use compact_tx::tx_id;
+use sentinel::tx_id;
 use spends::{joins_of, splits_of};
 use std::alloc::{AllocError, Global};
 use verdicts::verdicts_of;

@@ -5,7 +5,7 @@ ghost use Rattle.workload.specs.Generator.{zero_witness as witness_bytes, low_ha
 
 use crate::coins::{coin, program, value};
 use cbdc_types::{FullTx, Hash, Input, List, OutPoint, Output};
-use compact_tx::tx_id;
+use sentinel::tx_id;
 use std::alloc::{AllocError, Global};
 
 // A witness of zeros.

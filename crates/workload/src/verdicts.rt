@@ -5,8 +5,8 @@ ghost use Rattle.hex.specs.Hex.{encode_lower};
 ghost use Rattle.workload.specs.Generator.{good_line, split_lines, join_lines};
 
 use cbdc_types::{FullTx, Hash, List};
-use compact_tx::tx_id;
 use hex::encode_to_slice;
+use sentinel::tx_id;
 use std::alloc::{AllocError, Global};
 
 // The 64 digits of an id.

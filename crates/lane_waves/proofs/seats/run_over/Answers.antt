@@ -1,5 +1,5 @@
 use Rattle.std.proofs.Common.{rules}
-use Rattle.port_sets.specs.Phase.{AsksLocks, AsksFinishes, AsksForgets, Locks, Finishes, Forgets, IsToldAtOnce}
+use Rattle.phase_calls.specs.Phase.{AsksLocks, AsksFinishes, AsksForgets, Locks, Finishes, Forgets, IsToldAtOnce}
 use Rattle.lane_waves.specs.Phases.{KeepsPorts}
 use Rattle.lane_waves.proofs.Making.{asked_at, told_at}
 use Rattle.lane_waves.proofs.seats.run_over.Goals as goal
