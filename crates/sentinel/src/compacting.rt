@@ -2,6 +2,7 @@
 ghost use Rattle.std.specs.Prelude.{◌≡◌, map, IfOk};
 ghost use Rattle.cbdc_model.specs.Coins.{compact, coin_hash, made_coins, genesis_tx, genesis_id, tx_id as spec_id};
 
+use crate::identifiers::{input_hash, tx_id, uhs_id};
 use cbdc_types::{CompactTx, FullTx, Hash, Input, List, Output};
 use std::alloc::{AllocError, Global};
 
