@@ -1,5 +1,6 @@
-//! Runs the rows that its words name: `locks`, those of `lock_rows`, which stand in code; and the files of `piece_rows`, `node_rows` and `journal_rows` in the
-//! folders `pieces`, `nodes` and `journals`. All other words name files of its own rows, of whole runs of the program over devices in memory.
+//! Runs the rows that its words name: `locks` and `devices`, those of `lock_rows` and `device_rows`, which stand in code; and the files of `piece_rows`,
+//! `node_rows` and `journal_rows` in the folders `pieces`, `nodes` and `journals`. All other words name files of its own rows, of whole runs of the
+//! program over devices in memory. Where the first word is `speeds` it runs no rows, and measures the part that the next word names.
 #![tactic(auto)]
 
 mod disks;
@@ -29,21 +30,40 @@ use subject::step;
 // The folders of files that are not its own.
 const FOLDERS: [&str; 3] = ["pieces/", "nodes/", "journals/"];
 
-// The word for the rows that stand in code.
+// The words for the rows that stand in code: of the lock round a node, and of the real devices.
 const LOCKS: &str = "locks";
+
+const DEVICES: &str = "devices";
+
+// The first word where parts are measured, and no rows are run.
+const SPEEDS: &str = "speeds";
 
 // Whether a word names a file of whole runs.
 fn is_own(word: &str) -> bool {
-    word != LOCKS && !FOLDERS.iter().any(|folder| word.starts_with(*folder))
+    word != LOCKS && word != DEVICES && !FOLDERS.iter().any(|folder| word.starts_with(*folder))
 }
 
-// Runs the rows that stand in code, where a word asks for them.
+// Whether a word asks for these rows, which stand in code.
+fn asks_for<R: AllocGlobal + Env>(rt: &R, rows: &str) -> io::Result<bool> {
+    let asks = words_where(rt, &|word: &str| word == rows)?;
+    Ok(!asks.is_empty())
+}
+
+// Runs the rows of the lock round a node, where a word asks for them.
 fn run_locks<R: AllocGlobal + Env + Print + Threads + Wait + Sync>(rt: &R) -> io::Result<bool> {
-    let asks = words_where(rt, &|word: &str| word == LOCKS)?;
-    if asks.is_empty() {
-        Ok(true)
-    } else {
+    if asks_for(rt, LOCKS)? {
         lock_rows::tell_rows(rt)
+    } else {
+        Ok(true)
+    }
+}
+
+// Runs the rows of the real devices, where a word asks for them.
+fn run_devices(rt: &HostRuntime) -> io::Result<bool> {
+    if asks_for(rt, DEVICES)? {
+        device_rows::tell_rows(rt)
+    } else {
+        Ok(true)
     }
 }
 
@@ -59,15 +79,28 @@ fn run_ledgers<R: AllocGlobal + Env + Files + Print + Threads + Wait + Sync>(
     run_files::<R, State, _>(rt, &does, names.as_slice())
 }
 
-fn main(rt: HostRuntime) -> io::Result<ExitCode> {
-    let has_locks = run_locks(&rt)?;
-    let has_pieces = piece_rows::run_rows(&rt)?;
-    let has_nodes = node_rows::run_rows(&rt)?;
-    let has_journals = journal_rows::run_rows(&rt)?;
-    let has_ledgers = run_ledgers(&rt)?;
-    if has_locks && has_pieces && has_nodes && has_journals && has_ledgers {
+// Runs all rows that the words name.
+fn run_rows(rt: &HostRuntime) -> io::Result<ExitCode> {
+    let has_locks = run_locks(rt)?;
+    let has_devices = run_devices(rt)?;
+    let has_pieces = piece_rows::run_rows(rt)?;
+    let has_nodes = node_rows::run_rows(rt)?;
+    let has_journals = journal_rows::run_rows(rt)?;
+    let has_ledgers = run_ledgers(rt)?;
+    if has_locks && has_devices && has_pieces && has_nodes && has_journals && has_ledgers {
         Ok(ExitCode::from(0))
     } else {
         Ok(ExitCode::from(1))
+    }
+}
+
+fn main(rt: HostRuntime) -> io::Result<ExitCode> {
+    let words = words_where(&rt, &|_word: &str| true)?;
+    match words.as_slice().split_first() {
+        Some((first, more)) if first.as_str() == SPEEDS => {
+            device_rows::measure(&rt, more)?;
+            Ok(ExitCode::from(0))
+        }
+        _rows => run_rows(&rt),
     }
 }
