@@ -17,6 +17,7 @@ mod table;
 
 use lines::Lines;
 use std::io::{self, ErrorKind};
+use std::sync::Wait;
 
 // Does a little of each part.
 fn measure_little(rt: &HostRuntime) -> io::Result<()> {
@@ -39,7 +40,7 @@ pub fn measure(rt: &HostRuntime, words: &[String]) -> io::Result<()> {
 }
 
 /// Writes a line for each row, with what it came to, and one that counts them. The answer is whether all came to what they should.
-pub fn tell_rows(rt: &HostRuntime) -> io::Result<bool> {
+pub fn tell_rows<W: Wait>(rt: &HostRuntime, wait: &W) -> io::Result<bool> {
     let mut lines = Lines::new(rt);
     lines.tell(
         "row a disk of a real file has the three bytes that were written to it and synced, room for 2^40, and no fault",
@@ -55,7 +56,7 @@ pub fn tell_rows(rt: &HostRuntime) -> io::Result<bool> {
     );
     lines.tell(
         "row four slow calls in a row are slow, three are not, and a quick one ends that: one that another one overlaps is not measured",
-        calls::are_slow(rt),
+        calls::are_slow(wait),
     );
     lines.tell(
         "row parts are measured: transactions are written as they were read, a journal opens, and a table gives back what it was given",

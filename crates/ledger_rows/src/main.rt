@@ -59,9 +59,9 @@ fn run_locks<R: AllocGlobal + Env + Print + Threads + Wait + Sync>(rt: &R) -> io
 }
 
 // Runs the rows of the real devices, where a word asks for them.
-fn run_devices(rt: &HostRuntime) -> io::Result<bool> {
+fn run_devices<W: Wait>(rt: &HostRuntime, wait: &W) -> io::Result<bool> {
     if asks_for(rt, DEVICES)? {
-        device_rows::tell_rows(rt)
+        device_rows::tell_rows(rt, wait)
     } else {
         Ok(true)
     }
@@ -80,9 +80,12 @@ fn run_ledgers<R: AllocGlobal + Env + Files + Print + Threads + Wait + Sync>(
 }
 
 // Runs all rows that the words name.
-fn run_rows(rt: &HostRuntime) -> io::Result<ExitCode> {
+fn run_rows<R: AllocGlobal + Env + Files + Print + Threads + Wait + Sync>(
+    rt: &R,
+    host: &HostRuntime,
+) -> io::Result<ExitCode> {
     let has_locks = run_locks(rt)?;
-    let has_devices = run_devices(rt)?;
+    let has_devices = run_devices(host, rt)?;
     let has_pieces = piece_rows::run_rows(rt)?;
     let has_nodes = node_rows::run_rows(rt)?;
     let has_journals = journal_rows::run_rows(rt)?;
@@ -101,6 +104,6 @@ fn main(rt: HostRuntime) -> io::Result<ExitCode> {
             device_rows::measure(&rt, more)?;
             Ok(ExitCode::from(0))
         }
-        _rows => run_rows(&rt),
+        _rows => run_rows(&rt, &rt),
     }
 }
