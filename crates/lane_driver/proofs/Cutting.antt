@@ -1,12 +1,21 @@
 -- A lane's list, cut into batches.
-use Rattle.std.proofs.Common.{◌≡◌, ℕ, ◌+◌, ◌-◌, ◌*◌, ◌<◌, ◌≤◌, min, List, [], ◌∷◌, ◌++◌, length, take, drop, reverse, arith, ◌∙◌, sym, subst}
+use Rattle.std.proofs.Common.{◌≡◌, ℕ, ◌+◌, ◌-◌, ◌*◌, ◌<◌, ◌≤◌, min, List, [], ◌∷◌, ◌++◌, length, take, drop, reverse, inl, inr, arith, ◌∙◌, sym, subst}
 use Rattle.std.proofs.Math.Nat.{mul-le-mul_left}
+use Rattle.std.proofs.lemmas.Bool.{cases_lt}
 use Rattle.std.proofs.lemmas.List.{length-take, length-drop}
 use Rattle.std.proofs.lemmas.Slice.Zip.{all_zipped_more}
 use Rattle.std.proofs.lemmas.Grind.{reverse_onto}
 use Rattle.cbdc_model.specs.Records.{Compact}
 use Rattle.lane_driver.specs.declared.fault.BatchReport.{BatchReport}
 use Rattle.lane_driver.specs.Reports.{IsReported, AreBatchReports}
+
+-- there is room for a piece while something is left
+pub room_left : (r b n c : ℕ) → 0 < r → r + b * n ≤ b * c → n < c
+room_left r b n c some room =
+    elim (cases_lt n c) [
+      | inl lt ↦ lt
+      | inr full ↦ absurd (let most : b * c ≤ b * n = mul-le-mul_left b full in omega arith)
+    ]
 
 -- a piece more needs no more room than there is
 pub room_after : (r b n c m k d : ℕ) → 0 < r → r + b * n ≤ b * c → m ≡ r - b → n < c → k ≡ n + 1 → d ≡ c → m + b * k ≤ b * d

@@ -4,6 +4,7 @@ pub mod Faulted
 pub mod Phasing
 pub mod Rising
 pub mod Rooming
+mod Filling
 pub mod Fitting
 pub mod Cutting
 mod Telling

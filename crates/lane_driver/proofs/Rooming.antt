@@ -1,5 +1,5 @@
 -- The calls that were made of parts, and of other calls, may be made.
-use Rattle.std.proofs.Common.{◌≡◌, ℕ, ◌≤◌, List, [], ◌∷◌, length, map, refl, arith, ap, ◌∙◌, sym, subst}
+use Rattle.std.proofs.Common.{◌≡◌, ℕ, ◌≤◌, Bool, List, [], ◌∷◌, length, map, refl, arith, ap, ◌∙◌, sym, subst}
 use Rattle.std.specs.List.{All}
 use Rattle.std.proofs.lemmas.List.Elements.{All-map, All-weaker, All-same}
 use Rattle.cbdc_types.specs.declared.calls.LockCall.{LockCall}
@@ -29,6 +29,10 @@ lock_sizes b t ps cs n m e h k =
     let P : ℕ × LockCall → Type 0 = λ c. length c.1.part ≤ m in
     All-same P cs (map (lock_call_of b t) ps) e
     (All-map P (lock_call_of b t) ps (All-weaker (λ p. length p.1 ≤ n) (λ p. length p.1 ≤ m) (λ p lt. omega arith) ps h))
+
+-- a finish call with these decisions
+abbrev pub finish_with : Batch → ℕ → ℕ → List Bool → ℕ × FinishCall
+finish_with b t s ds = (s, record { batch = b; decisions = ds; cause = t })
 
 pub finish_shards : (b : Batch) (t : ℕ) (os : List Outcome) (m n : ℕ) → m ≡ n → (cs : List (ℕ × LockCall)) (fs : List (ℕ × FinishCall)) → fs ≡ map (finish_call_of b t os) cs → AreShards shard n cs → AreShards shard m fs
 finish_shards b t os m n k cs fs e h = mapped_shards (finish_call_of b t os) (λ x. refl) m n k cs fs e h

@@ -11,3 +11,4 @@ pub mod Wanting
 pub mod Readied
 pub mod Showing
 pub mod Outcomes
+pub mod Nexts

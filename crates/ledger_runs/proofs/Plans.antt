@@ -1,7 +1,8 @@
 -- What was found of lanes, and their plans, taken from the end as the lanes are taken up.
-use Rattle.std.proofs.Common.{◌≡◌, ℕ, suc, ◌+◌, ◌<◌, ◌≤◌, List, [], ◌∷◌, ◌++◌, length, get_or, take, drop, reverse, Option, arith, sym, ap, ◌∙◌, subst, add-one, drop-cons}
+use Rattle.std.proofs.Common.{◌≡◌, ℕ, suc, ◌+◌, ◌<◌, ◌≤◌, List, [], ◌∷◌, ◌++◌, length, get_or, take, drop, reverse, Option, None, inl, inr, arith, sym, ap, ◌∙◌, subst, add-one, drop-cons}
 use Rattle.std.specs.List.{AllZip}
-use Rattle.std.proofs.lemmas.List.{reverse-append, take_more, get_or_default}
+use Rattle.std.proofs.lemmas.Bool.{cases_lt}
+use Rattle.std.proofs.lemmas.List.{reverse-append, take_more, get_or_default, get_or_append_left, get_or_push}
 use Rattle.std.proofs.lemmas.Slice.Zip.{all_zipped_more}
 use Rattle.cbdc_types.specs.declared.batch.OpenLane.{OpenLane}
 use Rattle.cbdc_model.specs.Records.{Shape, Record}
@@ -57,3 +58,22 @@ found_on K H turn I J opens now same lanes keeps k above inside found was = reco
   idle = λ none. subst (λ h. KeepsLanes h turn I J) same lanes k inside (λ e. omega (arith, e, above)) ∙ was.idle none;
   size = was.size;
 }
+
+-- ---- one lane more
+
+-- there is room for what is found of it
+pub within_room : (n i count room : ℕ) → n ≤ i → i < count → room ≡ count → n < room
+within_room n i count room few low same = omega arith
+
+-- what is said of each lane is said of it, too
+pub found_more : (P : ℕ → Option OpenLane → Type 0) (old new : List (Option OpenLane)) (i : ℕ) (x : Option OpenLane) → length old ≡ i → new ≡ old ++ x ∷ []
+    → ((k : ℕ) → k < i → P k (get_or old k None)) → P i x → (k : ℕ) → k < i + 1 → P k (get_or new k None)
+found_more P old new i x long is before here k low = elim (cases_lt k i) [
+  | inl earlier ↦
+      let same : get_or new k None ≡ get_or old k None = ap (λ xs. get_or xs k None) is ∙ get_or_append_left old (x ∷ []) None k (subst (λ n. k < n) (sym long) earlier) in
+      subst (P k) (sym same) (before k earlier)
+  | inr later ↦
+      let at : i ≡ k = omega arith in
+      let same : get_or new k None ≡ x = ap (λ xs. get_or xs k None) is ∙ get_or_push old x None k (long ∙ at) in
+      subst (P k) (sym same) (subst (λ n. P n x) at here)
+]

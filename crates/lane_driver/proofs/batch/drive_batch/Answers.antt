@@ -1,4 +1,4 @@
-use Rattle.std.proofs.Common.{◌∙◌, ◌*◌, ◌<◌, refl, subst}
+use Rattle.std.proofs.Common.{◌∙◌, ◌*◌, ◌<◌, refl, subst, ◌≡◌, length, ap, sym}
 use Rattle.cbdc_model.specs.Records.{Shape}
 use Rattle.lane_driver.specs.Told.{KeepsOtherLanes}
 use Rattle.lane_driver.specs.Showing.{LaneSights, lane_sights}
@@ -6,6 +6,12 @@ use Rattle.lane_driver.proofs.Batching.{prepare_stops, prepared_done, prepared_s
 use Rattle.lane_driver.proofs.Fitting.{parts_fit, others_on}
 use Rattle.lane_driver.proofs.Causing.{log_fault, prepare_caused}
 use Rattle.lane_driver.proofs.Keeping.{log_on, shards_same}
+use Rattle.cbdc_model.specs.Records.{Header}
+use Rattle.cbdc_model.specs.Ranges.{home_of}
+use Rattle.cbdc_model.specs.Slots.{Idle, InPrepare}
+use Rattle.cbdc_model.specs.Grammar.{HasSize, IsBatchOf}
+use Rattle.lane_driver.specs.Told.{IsLane}
+use Rattle.lane_driver.specs.Rooms.{IsBatchRoom}
 use Rattle.lane_driver.proofs.batch.drive_batch.Goals as goal
 
 pub from_prepared-requires-clause-parts : goal.from_prepared-requires-clause-parts
@@ -49,3 +55,38 @@ returns-in-Err-from_prepared-clause-keeps g c = record {
       (subst (λ n. KeepsOtherLanes (g.L.LogPort.header c.prepare.new.self) n (g.L.LogPort.phase c.prepare.new.self) (g.L.LogPort.phase c.from_prepared.new.ports.log) (g.L.LogPort.open_txs c.prepare.new.self) (g.L.LogPort.open_txs c.from_prepared.new.ports.log))
       c.in-Ok.ensures.prepared.lane_is (c.in-Err-from_prepared.ensures.keeps.others quiet));
 }
+
+pub prepare-requires-clause-size : goal.prepare-requires-clause-size
+prepare-requires-clause-size g c = subst (λ (K : Shape). HasSize K c.args.txs.now) (sym c.requires.shape) c.requires.size
+
+pub from_prepared-requires-clause-at : goal.from_prepared-requires-clause-at
+from_prepared-requires-clause-at g c = c.in-Ok.ensures.keeps.at_same ∙ c.requires.at ∙ ap (home_of c.args.shape.now) (sym c.in-Ok.ensures.prepared.lane_is)
+
+pub from_prepared-requires-clause-home : goal.from_prepared-requires-clause-home
+from_prepared-requires-clause-home g c =
+    subst (λ (h : Header). IsLane h c.in-Ok.prepared.0.lane) (sym c.in-Ok.ensures.keeps.header_same) (subst (λ n. IsLane (g.L.LogPort.header c.args.ports.now.log) n) (sym c.in-Ok.ensures.prepared.lane_is) c.requires.home)
+
+pub from_prepared-requires-clause-shape : goal.from_prepared-requires-clause-shape
+from_prepared-requires-clause-shape g c = ap (λ (h : Header). h.shape) c.in-Ok.ensures.keeps.header_same ∙ c.requires.shape
+
+pub from_prepared-requires-clause-phase : goal.from_prepared-requires-clause-phase
+from_prepared-requires-clause-phase g c = subst (λ n. g.L.LogPort.phase c.prepare.new.self n ≡ InPrepare) (sym c.in-Ok.ensures.prepared.lane_is) c.in-Ok.ensures.phase
+
+pub from_prepared-requires-clause-mine : goal.from_prepared-requires-clause-mine
+from_prepared-requires-clause-mine g c = subst (λ n. g.S.PortSet.serves c.args.ports.now.shards n) (sym c.in-Ok.ensures.prepared.lane_is) c.requires.mine
+
+pub from_prepared-requires-clause-batch : goal.from_prepared-requires-clause-batch
+from_prepared-requires-clause-batch g c = subst (λ (K : Shape). IsBatchOf K c.in-Ok.prepared.0) c.requires.shape c.in-Ok.ensures.prepared.batch
+
+pub from_prepared-requires-clause-room : goal.from_prepared-requires-clause-room
+from_prepared-requires-clause-room g c =
+    let same : g.L.LogPort.open_txs c.prepare.new.self c.in-Ok.prepared.0.lane ≡ c.args.txs.now = subst (λ n. g.L.LogPort.open_txs c.prepare.new.self n ≡ c.args.txs.now) (sym c.in-Ok.ensures.prepared.lane_is) c.in-Ok.ensures.txs in
+    subst (λ n. IsBatchRoom c.args.shape.now.shards n c.args.room) (sym (ap length same)) c.requires.readied.room_is
+
+pub returns-in-Ok-from_prepared-clause-idle : goal.returns-in-Ok-from_prepared-clause-idle
+returns-in-Ok-from_prepared-clause-idle g c = subst (λ n. g.L.LogPort.phase c.from_prepared.new.ports.log n ≡ Idle) c.in-Ok.ensures.prepared.lane_is c.in-Ok-from_prepared.ensures.phase
+
+pub returns-in-Ok-from_prepared-clause-report : goal.returns-in-Ok-from_prepared-clause-report
+returns-in-Ok-from_prepared-clause-report g c =
+    let same : g.L.LogPort.open_txs c.prepare.new.self c.in-Ok.prepared.0.lane ≡ c.args.txs.now = subst (λ n. g.L.LogPort.open_txs c.prepare.new.self n ≡ c.args.txs.now) (sym c.in-Ok.ensures.prepared.lane_is) c.in-Ok.ensures.txs in
+    (c.in-Ok.ensures.prepared.lane_is, c.in-Ok-from_prepared.ensures.outcomes ∙ ap length same)

@@ -1,15 +1,18 @@
-use Rattle.std.proofs.Common.{◌∙◌, refl, map}
+use Rattle.std.proofs.Common.{◌∙◌, refl, map, inr, ◌≤◌, length, sym, subst}
 use Rattle.lane_laws.specs.Calls.{finish_call_of, forget_call_of}
 use Rattle.lane_laws.specs.Answers.{LockAnswer, FinishAnswer, ForgetAnswer}
 use Rattle.lane_driver.proofs.Turning.{turn_stamped, turn_times, finish_stops, discard_stops, later_stops}
 use Rattle.cbdc_model.specs.Calls.{IsLockCall, IsFinishCall, IsForgetCall}
 use Rattle.lane_driver.proofs.Rooming.{finish_shards, forget_shards}
 use Rattle.lane_driver.proofs.Fitting.{finishes_ready, forgets_ready, calls_kept, ledger_kept, others_on}
-use Rattle.std.proofs.Common.{inr}
 use Rattle.lane_driver.proofs.Wanting.{told_free}
 use Rattle.lane_driver.proofs.Causing.{log_fault, discard_caused}
 use Rattle.lane_driver.proofs.Serving.{own_served, finishes_served, forgets_served}
 use Rattle.lane_driver.proofs.Keeping.{log_same, log_on, shards_on}
+use Rattle.cbdc_model.specs.Records.{Header}
+use Rattle.lane_driver.specs.Calls.{shard}
+use Rattle.lane_driver.specs.Told.{IsLane, AreShards}
+use Rattle.lane_driver.proofs.Filling.{filled_fits}
 use Rattle.lane_driver.proofs.batch.from_committed.Goals as goal
 
 pub finish_phase-requires-clause-shards : goal.finish_phase-requires-clause-shards
@@ -141,3 +144,36 @@ returns-clause-keeps g c = record {
   to_shards = shards_on (shards_on (shards_on (shards_on (shards_on c.in-Ok.ensures.keeps c.finish_again.ensures.keeps) c.in-Ok-from_discarded.ensures.keeps.to_shards) c.lock_again.ensures.keeps) c.finish_again-2.ensures.keeps) c.forget_again.ensures.keeps;
   others = λ quiet. others_on _ _ _ _ _ _ _ _ _ c.in-Ok-discard.ensures.keeps.header_same (c.in-Ok-discard.ensures.others quiet) (c.in-Ok-from_discarded.ensures.keeps.others quiet);
 }
+
+pub finish_phase-requires-clause-room : goal.finish_phase-requires-clause-room
+finish_phase-requires-clause-room g c = filled_fits (finish_call_of c.args.batch.now c.args.cause c.args.outcomes.now) c.args.locks.now c.deref.result.now _ (c.deref.ensures.value ∙ c.finish_calls.ensures) c.requires.room.stamped
+
+pub finish_again-requires-clause-room : goal.finish_again-requires-clause-room
+finish_again-requires-clause-room g c =
+    subst (λ n. length c.deref-2.result.now ≤ n) (sym c.in-Ok.ensures.capacity)
+    (filled_fits (finish_call_of c.args.batch.now c.args.cause c.args.outcomes.now) c.args.locks.now c.deref-2.result.now _ (c.deref-2.ensures.value ∙ c.finish_calls.ensures) c.requires.room.stamped)
+
+pub finish_again-requires-2-clause-room : goal.finish_again-requires-2-clause-room
+finish_again-requires-2-clause-room g c =
+    subst (λ n. length c.deref-3.result.now ≤ n) (sym (c.in-Ok-from_discarded.ensures.capacity ∙ c.finish_again.ensures.capacity ∙ c.in-Ok.ensures.capacity))
+    (filled_fits (finish_call_of c.args.batch.now c.args.cause c.args.outcomes.now) c.args.locks.now c.deref-3.result.now _ (c.deref-3.ensures.value ∙ c.finish_calls.ensures) c.requires.room.stamped)
+
+pub forget_again-requires-clause-room : goal.forget_again-requires-clause-room
+forget_again-requires-clause-room g c =
+    subst (λ n. length c.deref-4.result.now ≤ n) (sym (c.finish_again-2.ensures.capacity ∙ c.in-Ok-from_discarded.ensures.capacity ∙ c.finish_again.ensures.capacity ∙ c.in-Ok.ensures.capacity))
+    (filled_fits (forget_call_of c.args.batch.now c.in-Ok-discard.stamp) c.args.locks.now c.deref-4.result.now _ (c.deref-4.ensures.value ∙ c.in-Ok-from_discarded.ensures.calls) c.requires.room.stamped)
+
+pub from_discarded-requires-clause-at : goal.from_discarded-requires-clause-at
+from_discarded-requires-clause-at g c = c.in-Ok-discard.ensures.keeps.at_same ∙ c.requires.at
+
+pub from_discarded-requires-clause-home : goal.from_discarded-requires-clause-home
+from_discarded-requires-clause-home g c = subst (λ (h : Header). IsLane h c.args.batch.now.lane) (sym c.in-Ok-discard.ensures.keeps.header_same) c.requires.home
+
+pub from_discarded-requires-clause-count : goal.from_discarded-requires-clause-count
+from_discarded-requires-clause-count g c = (shards_on c.in-Ok.ensures.keeps c.finish_again.ensures.keeps).count_same ∙ c.requires.count
+
+pub from_discarded-requires-clause-answers : goal.from_discarded-requires-clause-answers
+from_discarded-requires-clause-answers g c = subst (λ n. length c.args.locks.now ≤ n) (sym (c.finish_again.ensures.capacity ∙ c.in-Ok.ensures.capacity)) c.requires.room.stamped
+
+pub lock_again-requires-clause-shards : goal.lock_again-requires-clause-shards
+lock_again-requires-clause-shards g c = subst (λ n. AreShards shard n c.args.locks.now) (sym ((shards_on (shards_on c.in-Ok.ensures.keeps c.finish_again.ensures.keeps) c.in-Ok-from_discarded.ensures.keeps.to_shards).count_same ∙ c.requires.count)) c.requires.shards

@@ -1,15 +1,15 @@
-use Rattle.std.proofs.Common.{◌∙◌, refl, map}
+use Rattle.std.proofs.Common.{◌∙◌, refl, map, inr, ◌≤◌, length, sym, subst}
 use Rattle.lane_laws.specs.Calls.{forget_call_of}
 use Rattle.lane_laws.specs.Answers.{ForgetAnswer}
 use Rattle.lane_driver.proofs.Turning.{turn_stamped, turn_times, forget_stops, done_stops}
 use Rattle.lane_driver.proofs.Rooming.{forget_shards}
 use Rattle.lane_driver.proofs.Fitting.{forgets_ready, calls_kept}
 use Rattle.cbdc_model.specs.Calls.{IsForgetCall}
-use Rattle.std.proofs.Common.{inr}
 use Rattle.lane_driver.proofs.Wanting.{told_free}
 use Rattle.lane_driver.proofs.Causing.{log_fault, done_caused}
 use Rattle.lane_driver.proofs.Serving.{forgets_served}
 use Rattle.lane_driver.proofs.Keeping.{log_same, shards_on}
+use Rattle.lane_driver.proofs.Filling.{filled_fits}
 use Rattle.lane_driver.proofs.batch.from_discarded.Goals as goal
 
 pub forget_phase-requires-clause-shards : goal.forget_phase-requires-clause-shards
@@ -73,3 +73,17 @@ returns-in-Ok-done-clause-keeps g c = record { to_log = c.in-Ok-done.ensures.kee
 
 pub returns-in-Err-done-clause-keeps : goal.returns-in-Err-done-clause-keeps
 returns-in-Err-done-clause-keeps g c = record { to_log = c.in-Err-done.ensures.keeps; to_shards = shards_on c.in-Ok.ensures.keeps c.forget_again.ensures.keeps; others = c.in-Err-done.ensures.others }
+
+pub forget_phase-requires-clause-room : goal.forget_phase-requires-clause-room
+forget_phase-requires-clause-room g c = filled_fits (forget_call_of c.args.batch.now c.args.cause) c.args.locks.now c.deref.result.now _ (c.deref.ensures.value ∙ c.forget_calls.ensures) c.requires.answers
+
+pub forget_again-requires-clause-room : goal.forget_again-requires-clause-room
+forget_again-requires-clause-room g c =
+    subst (λ n. length c.deref-2.result.now ≤ n) (sym c.in-Ok.ensures.capacity)
+    (filled_fits (forget_call_of c.args.batch.now c.args.cause) c.args.locks.now c.deref-2.result.now _ (c.deref-2.ensures.value ∙ c.forget_calls.ensures) c.requires.answers)
+
+pub returns-in-Ok-done-clause-capacity : goal.returns-in-Ok-done-clause-capacity
+returns-in-Ok-done-clause-capacity g c = c.forget_again.ensures.capacity ∙ c.in-Ok.ensures.capacity
+
+pub returns-in-Err-done-clause-capacity : goal.returns-in-Err-done-clause-capacity
+returns-in-Err-done-clause-capacity g c = c.forget_again.ensures.capacity ∙ c.in-Ok.ensures.capacity

@@ -1,4 +1,4 @@
-use Rattle.std.proofs.Common.{◌∙◌, refl, sym, ap, length, map}
+use Rattle.std.proofs.Common.{◌∙◌, refl, sym, ap, length, map, inr, ◌≤◌, subst}
 use Rattle.lane_laws.specs.Calls.{lock_call_of}
 use Rattle.lane_laws.specs.Answers.{LockAnswer}
 use Rattle.lane_driver.proofs.Turning.{turn_locked, turn_times, turn_committed, lock_stops, decide_stops, commit_stops}
@@ -6,11 +6,13 @@ use Rattle.std.proofs.lemmas.List.{length-map}
 use Rattle.lane_driver.proofs.Rooming.{lock_shards, lock_sizes, later_room}
 use Rattle.cbdc_model.specs.Calls.{IsLockCall}
 use Rattle.lane_driver.proofs.Fitting.{locks_ready, calls_kept, ledger_kept, others_on}
-use Rattle.std.proofs.Common.{inr}
 use Rattle.lane_driver.proofs.Wanting.{lock_want, decide_free}
 use Rattle.lane_driver.proofs.Causing.{log_fault, decide_caused}
 use Rattle.lane_driver.proofs.Serving.{locks_own, locks_served}
 use Rattle.lane_driver.proofs.Keeping.{log_same, log_on, shards_on}
+use Rattle.cbdc_model.specs.Records.{Shape, Header}
+use Rattle.lane_driver.specs.Told.{IsLane, AreReplies}
+use Rattle.lane_driver.proofs.Filling.{filled_fits}
 use Rattle.lane_driver.proofs.batch.from_prepared.Goals as goal
 
 pub lock_phase-requires-clause-shards : goal.lock_phase-requires-clause-shards
@@ -125,3 +127,35 @@ returns-clause-keeps g c = record {
   to_shards = shards_on (shards_on c.in-Ok.ensures.keeps c.lock_again.ensures.keeps) c.in-Err-from_committed.ensures.keeps.to_shards;
   others = λ quiet. others_on _ _ _ _ _ _ _ _ _ c.in-Ok-decide.ensures.keeps.header_same (c.in-Ok-decide.ensures.others quiet) (c.in-Err-from_committed.ensures.keeps.others quiet);
 }
+
+pub lock_phase-requires-clause-room : goal.lock_phase-requires-clause-room
+lock_phase-requires-clause-room g c = filled_fits (lock_call_of c.args.batch.now c.args.cause) c.args.room.parts c.deref.result.now _ (c.deref.ensures.value ∙ c.lock_calls.ensures) c.requires.room.replied
+
+pub lock_phase-requires-clause-replies_room : goal.lock_phase-requires-clause-replies_room
+lock_phase-requires-clause-replies_room g c = filled_fits (lock_call_of c.args.batch.now c.args.cause) c.args.room.parts c.deref.result.now _ (c.deref.ensures.value ∙ c.lock_calls.ensures) c.requires.room.replies
+
+pub lock_again-requires-clause-room : goal.lock_again-requires-clause-room
+lock_again-requires-clause-room g c = filled_fits (lock_call_of c.args.batch.now c.args.cause) c.args.room.parts c.deref-2.result.now _ (c.deref-2.ensures.value ∙ c.lock_calls.ensures) c.requires.room.again
+
+pub decide-requires-clause-replies : goal.decide-requires-clause-replies
+decide-requires-clause-replies g c = subst (λ (K : Shape). AreReplies K c.in-Ok.replies) (sym c.requires.shape) c.in-Ok.ensures.replies
+
+pub from_committed-requires-clause-at : goal.from_committed-requires-clause-at
+from_committed-requires-clause-at g c = c.in-Ok-decide.ensures.keeps.at_same ∙ c.requires.at
+
+pub from_committed-requires-clause-home : goal.from_committed-requires-clause-home
+from_committed-requires-clause-home g c = subst (λ (h : Header). IsLane h c.args.batch.now.lane) (sym c.in-Ok-decide.ensures.keeps.header_same) c.requires.home
+
+pub from_committed-requires-clause-count : goal.from_committed-requires-clause-count
+from_committed-requires-clause-count g c = (shards_on c.in-Ok.ensures.keeps c.lock_again.ensures.keeps).count_same ∙ c.requires.count
+
+pub from_committed-requires-clause-mine : goal.from_committed-requires-clause-mine
+from_committed-requires-clause-mine g c = (shards_on c.in-Ok.ensures.keeps c.lock_again.ensures.keeps).served _ c.requires.mine
+
+pub from_committed-requires-clause-again : goal.from_committed-requires-clause-again
+from_committed-requires-clause-again g c =
+    subst (λ n. length c.deref-3.result.now ≤ n) (sym c.lock_again.ensures.capacity)
+    (filled_fits (lock_call_of c.args.batch.now c.args.cause) c.args.room.parts c.deref-3.result.now _ (c.deref-3.ensures.value ∙ c.lock_calls.ensures) c.requires.room.again)
+
+pub returns-in-Ok-from_committed-clause-outcomes : goal.returns-in-Ok-from_committed-clause-outcomes
+returns-in-Ok-from_committed-clause-outcomes g c = ap length c.from_vec.ensures ∙ c.in-Ok-decide.ensures.outcomes

@@ -1,5 +1,5 @@
 use Rattle.std.proofs.lemmas.List.{get_or_default}
-use Rattle.std.proofs.Common.{rules, ◌≡◌, ◌≢◌, inr, ◌*◌, ◌<◌, length, get_or, reverse, arith, refl, sym, ap, ◌∙◌, subst, None}
+use Rattle.std.proofs.Common.{rules, ◌≡◌, ◌≢◌, inl, inr, ◌*◌, ◌<◌, ◌≤◌, length, get_or, reverse, arith, refl, sym, ap, ◌∙◌, subst, None}
 use Rattle.std.specs.List.{AllZip}
 use Rattle.ledger_runs.specs.Planning.{IsFound, IsPlanOf}
 use Rattle.std.specs.Option.{option_or}
@@ -9,6 +9,8 @@ use Rattle.run_laws.proofs.WaveTurns.{resuming_begins_law, resuming_step_law, re
 use Rattle.ledger_runs.proofs.Keeping.{stays, stays_next, idle_next, so_next, of_ok, ledger_same, ledger_on}
 use Rattle.ledger_runs.specs.Telling.{TellResumed}
 use Rattle.ledger_laws.proofs.Cuts.{end_self, end_trans}
+use Rattle.cbdc_model.specs.Records.{Shape}
+use Rattle.lane_driver.specs.declared.fault.LaneFault.{LaneFault}
 use Rattle.ledger_runs.specs.Turning.{IsLaneOf}
 use Rattle.ledger_runs.specs.Faults.{HaveFailed, MayHoldBytes, Nothing}
 use Rattle.ledger_runs.proofs.Faulting.{grown_end, none_taken, one_more, risen_later, holds_later}
@@ -17,7 +19,7 @@ use Rattle.ledger_runs.proofs.Flying.{flies_next}
 use Rattle.ledger_runs.proofs.Launching.{launches_begin, launches_next}
 use Rattle.ledger_runs.proofs.WaveTelling.{resumed_told}
 use Rattle.ledger_runs.proofs.Preparing.{resumed_none}
-use Rattle.ledger_runs.proofs.Plans.{here_at, less_at, some_at, found_on}
+use Rattle.ledger_runs.proofs.Plans.{here_at, less_at, some_at, found_on, within_room}
 use Rattle.ledger_runs.proofs.resuming.resume_all.Goals as goal
 
 pub lanes-init : goal.lanes-init
@@ -165,3 +167,127 @@ resume_next-came-requires-clause-planned g c =
     subst (λ k. IsPlanOf k it c.in-Some.planned) (sym so.keeps_ledger.shape_same)
     (subst (λ x. IsPlanOf K x c.in-Some.planned) (sym (c.index-found-lane.is ∙ get_or_default c.as_slice-found.result.now c.lanes.lane it None low))
     (here_at (IsPlanOf K) c.as_slice-found.result.now c.lanes.lane None low c.lanes.plans.items c.pop.new.self.items c.in-Some.planned c.in-Some.ensures.items so.plans))
+
+pub returns-in_default-clause-keeps : goal.returns-in_default-clause-keeps
+returns-in_default-clause-keeps g c = stays (g.L.Turns.shape c.args.ledger.now) (g.L.Turns.journals c.args.ledger.now)
+
+pub returns-in_default-clause-prepares : goal.returns-in_default-clause-prepares
+returns-in_default-clause-prepares g c = λ lane. refl
+
+pub returns-in_default-clause-flies : goal.returns-in_default-clause-flies
+returns-in_default-clause-flies g c = λ mint submissions kept may. may
+
+pub returns-in_default-clause-grows : goal.returns-in_default-clause-grows
+returns-in_default-clause-grows g c = λ n. end_self (g.L.Turns.journals c.args.ledger.now n)
+
+pub returns-in_default-clause-least : goal.returns-in_default-clause-least
+returns-in_default-clause-least g c = inl (ap (λ (e : LaneFault). e.fault) c.no_memory.ensures, λ n. refl)
+
+pub returns-in_default-clause-rests : goal.returns-in_default-clause-rests
+returns-in_default-clause-rests g c = inl (ap (λ (e : LaneFault). e.fault) c.no_memory.ensures, λ n. refl)
+
+pub returns-in_default-open_lanes-clause-keeps_ledger : goal.returns-in_default-open_lanes-clause-keeps_ledger
+returns-in_default-open_lanes-clause-keeps_ledger g c = ledger_same c.args.ledger.now
+
+pub returns-in_default-open_lanes-clause-keeps : goal.returns-in_default-open_lanes-clause-keeps
+returns-in_default-open_lanes-clause-keeps g c = stays (g.L.Turns.shape c.args.ledger.now) (g.L.Turns.journals c.args.ledger.now)
+
+pub returns-in_default-open_lanes-clause-prepares : goal.returns-in_default-open_lanes-clause-prepares
+returns-in_default-open_lanes-clause-prepares g c = λ lane. refl
+
+pub returns-in_default-open_lanes-clause-flies : goal.returns-in_default-open_lanes-clause-flies
+returns-in_default-open_lanes-clause-flies g c = λ mint submissions kept may. may
+
+pub returns-in_default-open_lanes-clause-launches : goal.returns-in_default-open_lanes-clause-launches
+returns-in_default-open_lanes-clause-launches g c = launches_begin (g.L.Turns.shape c.args.ledger.now) (λ _. Nothing) (g.L.Turns.journals c.args.ledger.now) (g.L.Turns.flights c.args.ledger.now)
+
+pub returns-in_default-open_lanes-clause-grows : goal.returns-in_default-open_lanes-clause-grows
+returns-in_default-open_lanes-clause-grows g c = λ n. end_self (g.L.Turns.journals c.args.ledger.now n)
+
+pub returns-in_default-open_lanes-clause-order : goal.returns-in_default-open_lanes-clause-order
+returns-in_default-open_lanes-clause-order g c = none_taken (g.L.Turns.shape c.args.ledger.now) (g.L.Turns.journals c.args.ledger.now)
+
+pub returns-in_default-open_lanes-clause-least : goal.returns-in_default-open_lanes-clause-least
+returns-in_default-open_lanes-clause-least g c = inl (ap (λ (e : LaneFault). e.fault) c.no_memory-in_default-open_lanes.ensures, λ n. refl)
+
+pub returns-in_default-open_lanes-clause-rests : goal.returns-in_default-open_lanes-clause-rests
+returns-in_default-open_lanes-clause-rests g c = inl (ap (λ (e : LaneFault). e.fault) c.no_memory-in_default-open_lanes.ensures, λ n. refl)
+
+pub returns-in_default-plan_lanes-clause-keeps_ledger : goal.returns-in_default-plan_lanes-clause-keeps_ledger
+returns-in_default-plan_lanes-clause-keeps_ledger g c = ledger_same c.args.ledger.now
+
+pub returns-in_default-plan_lanes-clause-keeps : goal.returns-in_default-plan_lanes-clause-keeps
+returns-in_default-plan_lanes-clause-keeps g c = stays (g.L.Turns.shape c.args.ledger.now) (g.L.Turns.journals c.args.ledger.now)
+
+pub returns-in_default-plan_lanes-clause-prepares : goal.returns-in_default-plan_lanes-clause-prepares
+returns-in_default-plan_lanes-clause-prepares g c = λ lane. refl
+
+pub returns-in_default-plan_lanes-clause-flies : goal.returns-in_default-plan_lanes-clause-flies
+returns-in_default-plan_lanes-clause-flies g c = λ mint submissions kept may. may
+
+pub returns-in_default-plan_lanes-clause-launches : goal.returns-in_default-plan_lanes-clause-launches
+returns-in_default-plan_lanes-clause-launches g c = launches_begin (g.L.Turns.shape c.args.ledger.now) (λ _. Nothing) (g.L.Turns.journals c.args.ledger.now) (g.L.Turns.flights c.args.ledger.now)
+
+pub returns-in_default-plan_lanes-clause-grows : goal.returns-in_default-plan_lanes-clause-grows
+returns-in_default-plan_lanes-clause-grows g c = λ n. end_self (g.L.Turns.journals c.args.ledger.now n)
+
+pub returns-in_default-plan_lanes-clause-order : goal.returns-in_default-plan_lanes-clause-order
+returns-in_default-plan_lanes-clause-order g c = none_taken (g.L.Turns.shape c.args.ledger.now) (g.L.Turns.journals c.args.ledger.now)
+
+pub returns-in_default-plan_lanes-clause-least : goal.returns-in_default-plan_lanes-clause-least
+returns-in_default-plan_lanes-clause-least g c = inl (ap (λ (e : LaneFault). e.fault) c.no_memory-in_default-plan_lanes.ensures, λ n. refl)
+
+pub returns-in_default-plan_lanes-clause-rests : goal.returns-in_default-plan_lanes-clause-rests
+returns-in_default-plan_lanes-clause-rests g c = inl (ap (λ (e : LaneFault). e.fault) c.no_memory-in_default-plan_lanes.ensures, λ n. refl)
+
+pub returns-in-Some-first-clause-keeps_ledger : goal.returns-in-Some-first-clause-keeps_ledger
+returns-in-Some-first-clause-keeps_ledger g c = c.lanes.invariant.keeps_ledger
+
+pub returns-in-Some-first-clause-keeps : goal.returns-in-Some-first-clause-keeps
+returns-in-Some-first-clause-keeps g c = c.lanes.invariant.keeps
+
+pub returns-in-Some-first-clause-prepares : goal.returns-in-Some-first-clause-prepares
+returns-in-Some-first-clause-prepares g c = c.lanes.invariant.prepares
+
+pub returns-in-Some-first-clause-flies : goal.returns-in-Some-first-clause-flies
+returns-in-Some-first-clause-flies g c = c.lanes.invariant.flies
+
+pub returns-in-Some-first-clause-launches : goal.returns-in-Some-first-clause-launches
+returns-in-Some-first-clause-launches g c = c.lanes.invariant.launches
+
+pub returns-in-Some-first-clause-grows : goal.returns-in-Some-first-clause-grows
+returns-in-Some-first-clause-grows g c = c.lanes.invariant.grows
+
+pub returns-in-Some-first-clause-order : goal.returns-in-Some-first-clause-order
+returns-in-Some-first-clause-order g c = (c.lanes.lane, subst (λ n. c.lanes.lane ≤ n) c.lanes.invariant.count c.lanes.auto.lane-end, c.lanes.invariant.order)
+
+pub returns-in-None-clause-keeps_ledger : goal.returns-in-None-clause-keeps_ledger
+returns-in-None-clause-keeps_ledger g c = c.lanes.invariant.keeps_ledger
+
+pub returns-in-None-clause-keeps : goal.returns-in-None-clause-keeps
+returns-in-None-clause-keeps g c = c.lanes.invariant.keeps
+
+pub returns-in-None-clause-prepares : goal.returns-in-None-clause-prepares
+returns-in-None-clause-prepares g c = c.lanes.invariant.prepares
+
+pub returns-in-None-clause-flies : goal.returns-in-None-clause-flies
+returns-in-None-clause-flies g c = c.lanes.invariant.flies
+
+pub returns-in-None-clause-launches : goal.returns-in-None-clause-launches
+returns-in-None-clause-launches g c = c.lanes.invariant.launches
+
+pub returns-in-None-clause-grows : goal.returns-in-None-clause-grows
+returns-in-None-clause-grows g c = c.lanes.invariant.grows
+
+pub returns-in-None-clause-order : goal.returns-in-None-clause-order
+returns-in-None-clause-order g c = (c.lanes.lane, subst (λ n. c.lanes.lane ≤ n) c.lanes.invariant.count c.lanes.auto.lane-end, c.lanes.invariant.order)
+
+pub returns-in-None-clause-idle : goal.returns-in-None-clause-idle
+returns-in-None-clause-idle g c = λ lane low. c.lanes.invariant.idle c.in-None.is lane (omega (arith, low, c.lanes.invariant.count, c.lanes-test.false))
+
+pub resume_next-came-requires-clause-lane : goal.resume_next-came-requires-clause-lane
+resume_next-came-requires-clause-lane g c =
+    subst (λ (k : Shape). IsLaneOf k c.lanes.lane) (sym c.lanes.invariant.keeps_ledger.shape_same) (subst (λ n. c.lanes.lane < n) c.lanes.invariant.count c.lanes-test.true)
+
+pub resume_next-came-requires-clause-room : goal.resume_next-came-requires-clause-room
+resume_next-came-requires-clause-room g c = within_room _ c.lanes.lane _ _ c.lanes.invariant.len c.lanes-test.true c.lanes.invariant.room

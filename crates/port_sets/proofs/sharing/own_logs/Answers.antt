@@ -1,5 +1,5 @@
-use Rattle.std.proofs.Common.{refl}
-use Rattle.port_sets.proofs.Turning.{owning, owns_on, room_first, room_on}
+use Rattle.std.proofs.Common.{refl, ◌∙◌}
+use Rattle.port_sets.proofs.Turning.{owning, owns_on, owned, none_left, room_first, has_room, room_on}
 use Rattle.port_sets.proofs.sharing.own_logs.Goals as goal
 
 pub loop-node-init : goal.loop-node-init
@@ -9,3 +9,14 @@ pub loop-node-preserved : goal.loop-node-preserved
 loop-node-preserved g c =
     let inv = c.loop-node.invariant in
     (owns_on (λ s. s.node) c.args.shared.items c.loop-node.shared.items c.pop.new.self.items c.loop-node.nodes.items c.push_reserved.new.self.items c.in-Some.field-0.node c.in-Some.field-0 inv.0 c.in-Some.ensures.items c.push_reserved.ensures.items refl, room_on c.loop-node.shared.items c.pop.new.self.items c.loop-node.nodes.items c.in-Some.field-0 _ c.in-Some.ensures.items inv.1 c.push_reserved.new.self.items _ _ c.push_reserved.ensures.items c.push_reserved.ensures.capacity)
+
+pub push_reserved-requires : goal.push_reserved-requires
+push_reserved-requires g c = has_room c.loop-node.shared.items c.pop.new.self.items c.loop-node.nodes.items c.in-Some.field-0 _ c.in-Some.ensures.items c.loop-node.invariant.1 _ c.loop-node.nodes.ok.0
+
+pub destroy_empty-requires : goal.destroy_empty-requires
+destroy_empty-requires g c = c.in_default.ensures.cases.1
+
+pub returns : goal.returns
+returns g c =
+    c.reverse.ensures.items
+    ∙ owned (λ s. s.node) c.args.shared.items c.loop-node.shared.items c.loop-node.nodes.items c.loop-node.invariant.0 (none_left c.loop-node.shared.items _ c.loop-node.shared.ok.0 c.in_default.ensures.cases.0)

@@ -1,16 +1,17 @@
 use Rattle.std.proofs.Common.{◌+◌, ◌<◌, ◌++◌, ◌∷◌, ◌∙◌, [], ℕ, true, take, length, sym, subst, refl, arith, rules}
 use Rattle.std.specs.List.{All, AllZip}
 use Rattle.std.specs.Result.{IfOk}
+use Rattle.std.proofs.lemmas.List.{take_all}
 use Rattle.std.proofs.lemmas.Slice.Zip.{all_zipped_more}
 use Rattle.cbdc_model.specs.Calls.{IsLockCall}
 use Rattle.cbdc_model.specs.Grammar.{IsReply}
 use Rattle.cbdc_model.specs.Sights.{Sight}
-use Rattle.lane_laws.specs.Answers.{LockAnswer, EachTold}
+use Rattle.lane_laws.specs.Answers.{LockAnswer, EachTold, Others}
 use Rattle.lane_driver.specs.Told.{LockTold, IsStamp}
 use Rattle.lane_driver.proofs.Fitting.{nodes_same, nodes_on}
 use Rattle.node_journal.specs.Nodes.{sight}
 use Rattle.node_ports.specs.Nodes.{sight_at}
-use Rattle.node_ports.proofs.Walking.{longer, as_found, as_found0, told_more, others_more}
+use Rattle.node_ports.proofs.Walking.{longer, as_found, as_found0, told_more, others_more, next_fits}
 use Rattle.node_ports.proofs.shards.NodeShardsPortSet.lock.Goals as goal
 
 pub calls-preserved : goal.calls-preserved
@@ -57,3 +58,19 @@ returns-clause-keeps g c = record {
   held = c.calls.invariant.holds;
   served = λ l mine. mine;
 }
+
+pub push_reserved-requires : goal.push_reserved-requires
+push_reserved-requires g c = next_fits _ c.calls.shard-index (length c.args.calls.now) _ _ c.calls.invariant.filled c.calls-test.true c.requires.room c.calls.invariant.capacity
+
+pub returns-clause-each : goal.returns-clause-each
+returns-clause-each g c = subst (λ xs. AllZip (LockTold (sight_at sight c.args.self.now.nodes.items)) xs c.calls.out.items) (take_all c.calls.shard-index c.args.calls.now c.calls-test.false) c.calls.invariant.each
+
+pub returns-clause-told : goal.returns-clause-told
+returns-clause-told g c =
+    subst (λ xs. EachTold (LockAnswer true) xs c.calls.out.items (sight_at sight c.args.self.now.nodes.items) (sight_at sight c.calls.self.nodes.items)) (take_all c.calls.shard-index c.args.calls.now c.calls-test.false) c.calls.invariant.told
+
+pub returns-clause-untouched : goal.returns-clause-untouched
+returns-clause-untouched g c = subst (λ xs. Others xs (sight_at sight c.args.self.now.nodes.items) (sight_at sight c.calls.self.nodes.items)) (take_all c.calls.shard-index c.args.calls.now c.calls-test.false) c.calls.invariant.untouched
+
+pub returns-clause-capacity : goal.returns-clause-capacity
+returns-clause-capacity g c = c.calls.invariant.capacity
