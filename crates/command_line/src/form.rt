@@ -158,8 +158,8 @@ fn and_subcommand<'a>(
     command: Result<Command<'a>, AllocError>,
     below: Result<Command<'a>, AllocError>,
 ) -> Result<Command<'a>, AllocError>
-    ensures { (a : App) → (s : Shape) → IfOk command.entry (λ c. IsTop c a) → IfOk below.entry (λ c. IsLeaf c s)
-        → IfOk result (λ c. IsTop c (with_subcommand a s)) }
+    ensures { (a : App) → (s : Shape) → IfOk command.entry (λ c. IsTop c a)
+        → IfOk below.entry (λ c. IsLeaf c s) → IfOk result (λ c. IsTop c (with_subcommand a s)) }
 {
     let below = below?;
     command?.subcommand(below)
