@@ -1,5 +1,7 @@
 // What is wrong with what is handed in: why a sentinel refuses a transaction, and what is wrong with an input file.
 
+use std::fmt;
+use std::fmt::{Display, Formatter, Write};
 use thiserror::Error;
 
 /// Why a sentinel refuses a transaction. Places count from 0.
@@ -41,27 +43,39 @@ pub enum Refusal {
 #[derive(Clone, Copy, Debug, PartialEq, Eq, Error)]
 pub enum InputKind {
     /// The file ends within a field.
-    #[error("the file ends within a field")]
     Cut,
     /// A count is above its limit.
-    #[error("a count is above its limit")]
     TooMany,
     /// A witness has more than 4,096 bytes.
-    #[error("a witness has more than 4096 bytes")]
     TooLong,
     /// A minted output has the value 0.
-    #[error("a minted output has the value 0")]
     Zero,
     /// The file goes on behind the last item.
-    #[error("the file goes on behind the last item")]
     Extra,
     /// A field reaches past the first 2^30 bytes of a file that goes on there.
-    #[error("a field is too large")]
     Large,
     /// A line of a verdict file is outside its form.
-    #[error("a field or line is outside its form")]
     Form,
     /// A line of a verdict file has the id and index of an earlier one.
-    #[error("a line repeats an earlier one")]
     Repeated,
+}
+
+// What is wrong, in words.
+fn words(kind: &InputKind) -> &'static str {
+    match kind {
+        InputKind::Cut => "the file ends within a field",
+        InputKind::TooMany => "a count is above its limit",
+        InputKind::TooLong => "a witness has more than 4096 bytes",
+        InputKind::Zero => "a minted output has the value 0",
+        InputKind::Extra => "the file goes on behind the last item",
+        InputKind::Large => "a field is too large",
+        InputKind::Form => "a field or line is outside its form",
+        InputKind::Repeated => "a line repeats an earlier one",
+    }
+}
+
+impl Display for InputKind {
+    fn fmt<W: Write>(&self, f: &mut Formatter<W>) -> fmt::Result {
+        f.write_str(words(self))
+    }
 }

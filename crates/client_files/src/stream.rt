@@ -56,7 +56,8 @@ fn more<I: Inbox>(inbox: &mut I, name: &str, window: &mut Window) -> Result<usiz
         return Ok(0);
     }
     let mut buf = [0u8; PIECE];
-    read_next(inbox, name, window, &mut buf[..PIECE.min(room)])
+    let piece = &mut buf[..PIECE.min(room)];
+    read_next(inbox, name, window, piece)
 }
 
 // Whether a file of which no more is read goes on there.

@@ -34,7 +34,7 @@ impl<D: Disk + Drop> MemRack<D> {
         ensures slots { IfOk result (λ r. r.slots.items ≡ map (λ d. DiskSlot.In d) disks.items) }
         ensures whole { IfOk result (λ r. NoneOut r) }
     {
-        let slots = disks.into_iter().map(|d| DiskSlot::In(d)).collect(alloc)?;
+        let slots = places_of(alloc, disks)?;
         Ok(MemRack { slots, misses: 0 })
     }
 
@@ -43,9 +43,26 @@ impl<D: Disk + Drop> MemRack<D> {
         ensures { option_map (λ d. d.now) result ≡ held_in (slice_get self.now.slots.items node) }
     {
         match self.slots.get(node.0 as usize) {
-            Some(DiskSlot::In(disk)) => Some(disk),
-            _ => None,
+            Some(slot) => disk_in(slot),
+            None => None,
         }
+    }
+}
+
+// Each disk in its place.
+fn places_of<D: Disk + Drop>(alloc: Global, disks: Vec<D>) -> Result<Vec<DiskSlot<D>>, AllocError>
+    ensures { IfOk result (λ v. v.items ≡ map (λ d. DiskSlot.In d) disks.items) }
+{
+    disks.into_iter().map(|d| DiskSlot::In(d)).collect(alloc)
+}
+
+// The disk that is in its place.
+fn disk_in<D: Disk + Drop>(slot: &DiskSlot<D>) -> Option<&D>
+    ensures { option_map (λ d. d.now) result ≡ held_in (Some slot.now) }
+{
+    match slot {
+        DiskSlot::In(disk) => Some(disk),
+        DiskSlot::Out(_) => None,
     }
 }
 
