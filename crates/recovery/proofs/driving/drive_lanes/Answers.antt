@@ -1,4 +1,5 @@
 use Rattle.std.proofs.Common.{◌≡◌, ◌<◌, ◌∙◌, [], sym, ap, subst, arith}
+use Rattle.std.proofs.lemmas.Grind.{common_steps}
 use Rattle.std.specs.Prelude.{OnOk}
 use Rattle.cbdc_model.specs.Ranges.{home_of}
 use Rattle.cbdc_model.specs.Slots.{Idle}
@@ -86,3 +87,15 @@ pub resume_lane-came-requires-clause-room : goal.resume_lane-came-requires-claus
 resume_lane-came-requires-clause-room g c =
     room_here c.args.shape.now c.args.lanes.now c.loop-unfinished.unfinished-index c.unfinished-item.result c.loop-unfinished-test.true c.unfinished-item.is c.loop-unfinished.rooms.items c.pop.new.self.items c.in-Some.room c.in-Some.ensures.items
     c.loop-unfinished.invariant.rooms
+
+pub unreachable-requires : goal.unreachable-requires
+unreachable-requires g c = grind (arith, common_steps)
+
+pub returns-in-Some-first-clause-outcome : goal.returns-in-Some-first-clause-outcome
+returns-in-Some-first-clause-outcome g c = grind (arith, common_steps)
+
+pub returns-clause-outcome : goal.returns-clause-outcome
+returns-clause-outcome g c = grind (arith, common_steps)
+
+pub returns-clause-idle : goal.returns-clause-idle
+returns-clause-idle g c = grind (arith, common_steps)

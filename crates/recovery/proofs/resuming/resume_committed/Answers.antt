@@ -1,4 +1,5 @@
-use Rattle.std.proofs.Common.{◌∙◌, refl, sym, ap, subst, length}
+use Rattle.std.proofs.Common.{◌∙◌, refl, sym, ap, subst, length, arith}
+use Rattle.std.proofs.lemmas.Grind.{common_steps}
 use Rattle.std.proofs.lemmas.List.{length-map}
 use Rattle.cbdc_types.specs.declared.batch.Phase.TheVariants.{Committed}
 use Rattle.cbdc_model.specs.Grammar.{HasSize, IsBatchOf}
@@ -55,3 +56,6 @@ returns-clause-outcome g c = record {
 
 pub lane_fault-requires : goal.lane_fault-requires
 lane_fault-requires g c = resume_granted c.args.shape.now g.L.LogPort.alone c.args.unfinished.now c.args.room.parts c.requires.readied.parts (lane_sights g.L.LogPort g.S.PortSet c.args.ports.now) (lane_sights g.L.LogPort g.S.PortSet c.from_committed.new.ports) c.in-Err.stop (committed_from c.args.shape.now g.L.LogPort.alone c.args.unfinished.now c.args.room.parts c.requires.readied.parts (lane_sights g.L.LogPort g.S.PortSet c.args.ports.now) (lane_sights g.L.LogPort g.S.PortSet c.from_committed.new.ports) c.in-Err.stop c.deref.result.now (c.deref.ensures.value ∙ c.lock_calls.ensures) c.as_slice.result.now c.as_slice.ensures c.requires.phase c.in-Err.ensures.outcome) c.requires.stands
+
+pub from_committed-requires-clause-again : goal.from_committed-requires-clause-again
+from_committed-requires-clause-again g c = grind (arith, common_steps)

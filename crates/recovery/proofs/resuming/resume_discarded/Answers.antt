@@ -1,4 +1,5 @@
-use Rattle.std.proofs.Common.{◌∙◌, refl, sym, ap, subst, length}
+use Rattle.std.proofs.Common.{◌∙◌, refl, sym, ap, subst, length, arith}
+use Rattle.std.proofs.lemmas.Grind.{common_steps}
 use Rattle.cbdc_types.specs.declared.batch.Phase.TheVariants.{Discarded}
 use Rattle.cbdc_model.specs.Grammar.{IsBatchOf}
 use Rattle.lane_driver.specs.Showing.{lane_sights}
@@ -33,3 +34,9 @@ returns-clause-outcome g c = record {
 
 pub lane_fault-requires : goal.lane_fault-requires
 lane_fault-requires g c = resume_granted c.args.shape.now g.L.LogPort.alone c.args.unfinished.now c.args.room.parts c.requires.readied.parts (lane_sights g.L.LogPort g.S.PortSet c.args.ports.now) (lane_sights g.L.LogPort g.S.PortSet c.from_discarded.new.ports) c.in-Err.stop (discarded_from c.args.shape.now g.L.LogPort.alone c.args.unfinished.now c.args.room.parts c.requires.readied.parts (lane_sights g.L.LogPort g.S.PortSet c.args.ports.now) (lane_sights g.L.LogPort g.S.PortSet c.from_discarded.new.ports) c.in-Err.stop c.deref.result.now (c.deref.ensures.value ∙ c.lock_calls.ensures) c.requires.phase c.in-Err.ensures.outcome) c.requires.stands
+
+pub from_discarded-requires-clause-answers : goal.from_discarded-requires-clause-answers
+from_discarded-requires-clause-answers g c = grind (arith, common_steps)
+
+pub from_discarded-requires-clause-room : goal.from_discarded-requires-clause-room
+from_discarded-requires-clause-room g c = grind (arith, common_steps)

@@ -1,4 +1,5 @@
 use Rattle.std.proofs.Common.{◌≡◌, List, drop, arith, ap}
+use Rattle.std.proofs.lemmas.Grind.{common_steps}
 use Rattle.cbdc_model.specs.Records.{Entry}
 use Rattle.shard_core.specs.Moves.{hashes_in}
 use Rattle.shard_core.proofs.Moves.{drop_end}
@@ -11,3 +12,6 @@ returns c =
     let i = c.loop-entry.invariant.count in
     let f = c.loop-entry.invariant.fits in
     omega (arith, e, i, f)
+
+pub loop-entry-preserved : goal.loop-entry-preserved
+loop-entry-preserved c = grind (arith, common_steps)

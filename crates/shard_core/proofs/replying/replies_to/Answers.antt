@@ -1,4 +1,5 @@
-use Rattle.std.proofs.Common.{◌≡◌, ℕ, true, false, ◌||◌, ◌+◌, ◌++◌, [], List, if◌then◌else◌, sym, ap, ◌∙◌, add-one}
+use Rattle.std.proofs.Common.{◌≡◌, ℕ, true, false, ◌||◌, ◌+◌, ◌++◌, [], List, drop, if◌then◌else◌, sym, ap, ◌∙◌, add-one, arith}
+use Rattle.std.proofs.lemmas.List.{append-nil, drop_all}
 use Rattle.cbdc_model.specs.Records.{Digest, is_held}
 use Rattle.cbdc_model.specs.Status.{has}
 use Rattle.cbdc_model.specs.Replies.{reply_to}
@@ -38,3 +39,9 @@ loop-entry-preserved c = record {
         step,
       );
 }
+
+pub returns-clause-replies : goal.returns-clause-replies
+returns-clause-replies c = λ J a.
+    let so_far = c.loop-entry.invariant.replies J a in
+    let done : drop c.loop-entry.entry-index c.args.entries.now ≡ [] = drop_all c.loop-entry.entry-index c.args.entries.now (omega arith) in
+    sym (append-nil c.loop-entry.replies.items) ∙ (rw done at so_far.2)
