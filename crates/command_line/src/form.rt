@@ -1,8 +1,8 @@
 // The program's command as clap reads it, and the same as data. Each function states what the definitions say of its part.
 
 ghost use Rattle.std.specs.Prelude.{◌≡◌, codes, IfOk};
-ghost use Rattle.clap.specs.Words.{app_of, new_app};
-ghost use Rattle.command_line.specs.Command.{required, one_or_more, option, IsArg, IsLeaf, IsTop, with_settings, shards_rule, coordinators_rule, lanes_rule, batch_rule, mint_rule, verdicts_rule, repeats_rule, client_rule, audit_client_rule, hash_rule, topic_rule, seed_rule, count_rule, nodes_shape, sized_shape, init_shape, run_shape, recover_shape, status_shape, audit_shape, sized_gen_shape, gen_shape, help_shape, with_run, with_status, with_gen, hamilton};
+ghost use Rattle.clap.specs.Words.{App, Rule, Shape, app_of, new_app, with_subcommand};
+ghost use Rattle.command_line.specs.Command.{required, one_or_more, option, with_arg, IsArg, IsLeaf, IsTop, with_settings, shards_rule, coordinators_rule, lanes_rule, batch_rule, mint_rule, verdicts_rule, repeats_rule, client_rule, audit_client_rule, hash_rule, topic_rule, seed_rule, count_rule, nodes_shape, sized_shape, init_shape, run_shape, recover_shape, status_shape, audit_shape, sized_gen_shape, gen_shape, help_shape, with_run, with_status, with_gen, hamilton};
 
 use crate::help;
 use clap::{Arg, Command};
@@ -142,36 +142,73 @@ struct Sizes<'a> {
     batch: &'a str,
 }
 
+// A command with one more argument, or the error that came before.
+fn and_arg<'a>(
+    command: Result<Command<'a>, AllocError>,
+    arg: Arg<'a>,
+) -> Result<Command<'a>, AllocError>
+    ensures { (s : Shape) → (r : Rule) → IfOk command.entry (λ c. IsLeaf c s) → IsArg arg.entry r
+        → IfOk result (λ c. IsLeaf c (with_arg s r)) }
+{
+    command?.arg(arg)
+}
+
+// A command with one more command below it, or the error that came before.
+fn and_subcommand<'a>(
+    command: Result<Command<'a>, AllocError>,
+    below: Result<Command<'a>, AllocError>,
+) -> Result<Command<'a>, AllocError>
+    ensures { (a : App) → (s : Shape) → IfOk command.entry (λ c. IsTop c a)
+        → IfOk below.entry (λ c. IsLeaf c s) → IfOk result (λ c. IsTop c (with_subcommand a s)) }
+{
+    let below = below?;
+    command?.subcommand(below)
+}
+
+// A command with no arguments yet, and the texts of its help.
+fn plain_command<'a>(
+    alloc: Global,
+    name: &'a str,
+    about: &'static str,
+    after_help: &'static str,
+) -> Command<'a>
+    ensures { IsLeaf result (new_app name.now).top }
+{
+    Command::new(alloc, name)
+        .about(about)
+        .after_help(after_help)
+}
+
 // A command with the numbers of a ledger's nodes.
 fn with_nodes<'a>(
     alloc: Global,
     name: &'a str,
-    about: &'a str,
+    about: &'static str,
+    after_help: &'static str,
     sizes: Sizes<'a>,
 ) -> Result<Command<'a>, AllocError>
     ensures { IfOk result
         (λ c. IsLeaf c (nodes_shape name.now sizes.entry.shards.now sizes.entry.coordinators.now)) }
 {
-    Command::new(alloc, name)
-        .about(about)
-        .arg(shards_arg(alloc, sizes.shards))?
-        .arg(coordinators_arg(alloc, sizes.coordinators))
+    let plain = plain_command(alloc, name, about, after_help);
+    let sharded = and_arg(Ok(plain), shards_arg(alloc, sizes.shards));
+    and_arg(sharded, coordinators_arg(alloc, sizes.coordinators))
 }
 
 // A command with all options of a ledger's shape.
 fn with_sizes<'a>(
     alloc: Global,
     name: &'a str,
-    about: &'a str,
+    about: &'static str,
+    after_help: &'static str,
     sizes: Sizes<'a>,
 ) -> Result<Command<'a>, AllocError>
     ensures { IfOk result (λ c. IsLeaf c (sized_shape (nodes_shape name.now
         sizes.entry.shards.now sizes.entry.coordinators.now) sizes.entry.lanes.now sizes.entry.batch.now)) }
 {
-    let command = with_nodes(alloc, name, about, sizes)?;
-    command
-        .arg(lanes_arg(alloc, sizes.lanes))?
-        .arg(batch_arg(alloc, sizes.batch))
+    let nodes = with_nodes(alloc, name, about, after_help, sizes);
+    let laned = and_arg(nodes, lanes_arg(alloc, sizes.lanes));
+    and_arg(laned, batch_arg(alloc, sizes.batch))
 }
 
 fn init_command<'a>(alloc: Global) -> Result<Command<'a>, AllocError>
@@ -183,11 +220,11 @@ fn init_command<'a>(alloc: Global) -> Result<Command<'a>, AllocError>
         lanes: "1",
         batch: "16",
     };
-    let init = with_sizes(alloc, "init", "Writes the first record of each node", sizes)?;
-    init.after_help(help::of_init()).arg(mint_arg(alloc))
+    let sized = with_sizes(alloc, "init", help::about_init(), help::of_init(), sizes);
+    and_arg(sized, mint_arg(alloc))
 }
 
-// `gen` with its options.
+// `gen` with the options of a ledger's shape.
 fn gen_with_sizes<'a>(alloc: Global) -> Result<Command<'a>, AllocError>
     ensures { IfOk result (λ c. IsLeaf c sized_gen_shape) }
 {
@@ -197,60 +234,45 @@ fn gen_with_sizes<'a>(alloc: Global) -> Result<Command<'a>, AllocError>
         lanes: "2",
         batch: "16",
     };
-    with_sizes(
-        alloc,
-        "gen",
-        "Makes a workload from a number, and runs and checks it in memory",
-        sizes,
-    )
+    with_sizes(alloc, "gen", help::about_gen(), help::of_gen(), sizes)
 }
 
 fn gen_command<'a>(alloc: Global) -> Result<Command<'a>, AllocError>
     ensures { IfOk result (λ c. IsLeaf c gen_shape) }
 {
-    let sized = gen_with_sizes(alloc)?;
-    sized
-        .after_help(help::of_gen())
-        .arg(seed_arg(alloc))?
-        .arg(count_arg(alloc))
+    let sized = gen_with_sizes(alloc);
+    let seeded = and_arg(sized, seed_arg(alloc));
+    and_arg(seeded, count_arg(alloc))
 }
 
 fn run_command<'a>(alloc: Global) -> Result<Command<'a>, AllocError>
     ensures { IfOk result (λ c. IsLeaf c run_shape) }
 {
-    Command::new(alloc, "run")
-        .about(help::about_run())
-        .after_help(help::of_run())
-        .arg(verdicts_arg(alloc))?
-        .arg(repeats_arg(alloc))?
-        .arg(client_arg(alloc))
+    let plain = plain_command(alloc, "run", help::about_run(), help::of_run());
+    let told = and_arg(Ok(plain), verdicts_arg(alloc));
+    let repeated = and_arg(told, repeats_arg(alloc));
+    and_arg(repeated, client_arg(alloc))
 }
 
 fn recover_command<'a>(alloc: Global) -> Command<'a>
     ensures { IsLeaf result recover_shape }
 {
-    Command::new(alloc, "recover")
-        .about(help::about_recover())
-        .after_help(help::of_recover())
+    plain_command(alloc, "recover", help::about_recover(), help::of_recover())
 }
 
 fn status_command<'a>(alloc: Global) -> Result<Command<'a>, AllocError>
     ensures { IfOk result (λ c. IsLeaf c status_shape) }
 {
-    Command::new(alloc, "status")
-        .about(help::about_status())
-        .after_help(help::of_status())
-        .arg(hash_arg(alloc))
+    let plain = plain_command(alloc, "status", help::about_status(), help::of_status());
+    and_arg(Ok(plain), hash_arg(alloc))
 }
 
 fn audit_command<'a>(alloc: Global) -> Result<Command<'a>, AllocError>
     ensures { IfOk result (λ c. IsLeaf c audit_shape) }
 {
-    Command::new(alloc, "audit")
-        .about(help::about_audit())
-        .after_help(help::of_audit())
-        .arg(mint_arg(alloc))?
-        .arg(audit_client_arg(alloc))
+    let plain = plain_command(alloc, "audit", help::about_audit(), help::of_audit());
+    let minted = and_arg(Ok(plain), mint_arg(alloc));
+    and_arg(minted, audit_client_arg(alloc))
 }
 
 fn help_command<'a>(alloc: Global) -> Result<Command<'a>, AllocError>
@@ -277,28 +299,26 @@ fn top<'a>(alloc: Global) -> Command<'a>
 fn app_with_run<'a>(alloc: Global) -> Result<Command<'a>, AllocError>
     ensures { IfOk result (λ c. IsTop c with_run) }
 {
-    let init = init_command(alloc)?;
-    let run = run_command(alloc)?;
-    top(alloc).subcommand(init)?.subcommand(run)
+    let with_init = and_subcommand(Ok(top(alloc)), init_command(alloc));
+    and_subcommand(with_init, run_command(alloc))
 }
 
 // The command with those below it that look at a ledger, too.
 fn app_with_status<'a>(alloc: Global) -> Result<Command<'a>, AllocError>
     ensures { IfOk result (λ c. IsTop c with_status) }
 {
-    let status = status_command(alloc)?;
-    let first = app_with_run(alloc)?;
-    first.subcommand(recover_command(alloc))?.subcommand(status)
+    let first = app_with_run(alloc);
+    let with_recover = and_subcommand(first, Ok(recover_command(alloc)));
+    and_subcommand(with_recover, status_command(alloc))
 }
 
 // The command with those below it that check a ledger, too.
 fn app_with_gen<'a>(alloc: Global) -> Result<Command<'a>, AllocError>
     ensures { IfOk result (λ c. IsTop c with_gen) }
 {
-    let audit = audit_command(alloc)?;
-    let generate = gen_command(alloc)?;
-    let first = app_with_status(alloc)?;
-    first.subcommand(audit)?.subcommand(generate)
+    let first = app_with_status(alloc);
+    let with_audit = and_subcommand(first, audit_command(alloc));
+    and_subcommand(with_audit, gen_command(alloc))
 }
 
 /// The program's command.
@@ -307,7 +327,6 @@ fn app_with_gen<'a>(alloc: Global) -> Result<Command<'a>, AllocError>
 pub fn program<'a>(alloc: Global) -> Result<Command<'a>, AllocError>
     ensures { IfOk result (λ c. app_of c ≡ hamilton) }
 {
-    let help = help_command(alloc)?;
-    let all = app_with_gen(alloc)?;
-    all.subcommand(help)
+    let all = app_with_gen(alloc);
+    and_subcommand(all, help_command(alloc))
 }

@@ -171,6 +171,16 @@ pub(crate) fn topic<'a>() -> &'a str {
 }
 
 // What the command does, in the first line of its help text.
+pub(crate) fn about_init() -> &'static str {
+    "Writes the first record of each node"
+}
+
+// What the command does, in the first line of its help text.
+pub(crate) fn about_gen() -> &'static str {
+    "Makes a workload from a number, and runs and checks it in memory"
+}
+
+// What the command does, in the first line of its help text.
 pub(crate) fn about_run() -> &'static str {
     "Finishes what is open, and runs the transactions of files"
 }
