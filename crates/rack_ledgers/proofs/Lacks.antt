@@ -22,7 +22,8 @@ pub memory_refused : {D : Type 0} (device : Ghosts D) (held : ℕ → Option D) 
 memory_refused device held before now Is ledger place e is =
     subst (λ (a : Answer). IsNodeRefused device held before now Is ledger place a) (sym is) (record { kind = tt; fault = tt; cause = λ was told c reads. tt })
 
-other_mint_kind : (id : Option Digest) (h : Header) (e : Answer) → IsOtherMint id h e → IsNodeRefusal e
+-- the answer where another mint began the ledger is a refusal
+pub other_mint_kind : (id : Option Digest) (h : Header) (e : Answer) → IsOtherMint id h e → IsNodeRefusal e
 other_mint_kind None h e is = absurd is
 other_mint_kind (Some id) h e is = subst IsNodeRefusal (sym is.1) tt
 

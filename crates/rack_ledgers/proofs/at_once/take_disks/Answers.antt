@@ -2,12 +2,13 @@ use Rattle.std.proofs.Common.{◌≡◌, ◌≢◌, ◌+◌, ◌∷◌, [], ℕ,
 use Rattle.std.proofs.lemmas.Bool.{cases_eq}
 use Rattle.rack_ledgers.specs.Places.{EachFrom}
 use Rattle.rack_ledgers.proofs.Each.{each_push, each_weaker}
-use Rattle.rack_ledgers.proofs.Others.{kept_but, kept_wider, kept_then}
+use Rattle.rack_ledgers.proofs.Others.{kept_but, kept_same, kept_wider, kept_then}
 use Rattle.rack_ledgers.proofs.Told.{of_told}
 use Rattle.rack_ledgers.specs.declared.slots.Slot.{Slot}
 use Rattle.rack_ledgers.specs.declared.slots.Slot.TheVariants as slots
 use Rattle.rack_ledgers.specs.Slots.{IsTakenSlot, MayPut}
 use Rattle.rack_ledgers.proofs.Beside.{may_still}
+use Rattle.outside.specs.Counts.{Rose}
 use Rattle.rack_ledgers.proofs.at_once.take_disks.Goals as goal
 
 pub returns-in-Err-clause-out : goal.returns-in-Err-clause-out
@@ -76,3 +77,43 @@ places-preserved g c =
           (kept_wider (omega arith) (omega (arith, longer, place)) c.places.invariant.others)
           (kept_wider (omega (arith, place)) (omega (arith, longer)) (kept_but c.take.ensures.others c.take.ensures.others_in c.take.ensures.others_out c.take.ensures.later));
     }
+
+pub places-init : goal.places-init
+places-init g c = record {
+  place = ap length c.requires.empty;
+  room = c.requires.room;
+  taken = subst (λ l. EachFrom (IsTakenSlot {N = g.row.N.Denot} g.R.Disk.Disk (g.R.Rack.held c.args.rack.now) (g.R.Rack.count c.args.rack.now)) c.args.first l) (sym c.requires.empty) tt;
+  out = subst (λ l. EachFrom (MayPut g.R.Disk.Disk g.N.OnDisk.disk_of (g.R.Rack.can_put c.args.rack.now)) c.args.first l) (sym c.requires.empty) tt;
+  others = kept_same;
+}
+
+pub take-requires : goal.take-requires
+take-requires g c =
+    let place = c.places.invariant.place in
+    let node = c.args.first + c.places.place in
+    c.places.invariant.others.takes node (inr (omega (arith, place))) (c.requires.waiting node (omega arith) (omega (arith, c.places-test.true)))
+
+pub returns-in-Err-clause-some : goal.returns-in-Err-clause-some
+returns-in-Err-clause-some g c = omega (arith, c.places.invariant.place, c.places-test.true)
+
+pub returns-in-Err-clause-taken : goal.returns-in-Err-clause-taken
+returns-in-Err-clause-taken g c = c.places.invariant.taken
+
+pub returns-in-Err-clause-failed : goal.returns-in-Err-clause-failed
+returns-in-Err-clause-failed g c = λ lt.
+    let node = c.args.first + c.places.place in
+    let place = c.places.invariant.place in
+    let rose : Rose (g.R.Rack.count c.args.rack.now node) (g.R.Rack.count c.take.new.self node) = omega (arith, c.in-Err.ensures.failed, c.places.invariant.others.later node) in
+    subst (λ (k : ℕ). Rose (g.R.Rack.count c.args.rack.now k) (g.R.Rack.count c.take.new.self k)) (omega (arith, place)) rose
+
+pub returns-clause-some : goal.returns-clause-some
+returns-clause-some g c = omega (arith, c.places.invariant.place, c.places-test.false)
+
+pub returns-clause-taken : goal.returns-clause-taken
+returns-clause-taken g c = c.places.invariant.taken
+
+pub returns-clause-failed : goal.returns-clause-failed
+returns-clause-failed g c = λ lt. absurd (omega (arith, lt, c.places.invariant.place, c.places-test.false))
+
+pub returns-clause-out : goal.returns-clause-out
+returns-clause-out g c = c.places.invariant.out
