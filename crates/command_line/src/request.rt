@@ -351,7 +351,6 @@ fn hashes_of(alloc: Global, given: &[&str]) -> Result<Vec<Hash>, WordsFault>
 }
 
 // What the matches of `status` ask for.
-#[tactic(auto, using(crate::proofs::Rows::rows))]
 fn status_request<'a, 'b>(
     alloc: Global,
     words: &'b [String],
