@@ -96,7 +96,8 @@ fn deal_lane<'a, W: Wait, D: Disk, S: Shard, B: Locks, X: Source>(
             shards: SeatSet {
                 rt,
                 locks,
-                each: Fanout { pace, ports },
+                pace,
+                each: Fanout { ports },
             },
             log: home,
         },

@@ -46,9 +46,10 @@ fn gather_lane<'a, W: Wait, D: Disk, S: Shard, B: Locks, X: Source>(
     let SeatSet {
         rt: _,
         locks: _,
+        pace: _,
         each,
     } = shards;
-    let Fanout { pace: _, ports } = each;
+    let Fanout { ports } = each;
     let LogSeat {
         rt: _,
         node: _,

@@ -15,16 +15,17 @@ ghost use Rattle.lane_waves.specs.Phases.{SeatsShow, SeatsTell, KeepsSeats};
 use cbdc_types::{FinishCall, ForgetCall, LaneId, LockCall, NodeFault, Replied, Shape, Stamp};
 use lane_driver::{LaneFault, LaneReport, LogPort, PortSet, Ports, ShardPort, Source, run_lane};
 use outside::Gate;
-use phase_calls::{AtOnce, Fanout, finish_at_once, forget_at_once, lock_at_once};
+use phase_calls::{Fanout, Pace, PhaseGate, finish_phase, forget_phase, lock_phase};
 use std::alloc::Global;
 use std::thread::Threads;
 
-/// A port to each shard, over the seats of a lane, with the runtime and the locks that the ports borrow.
+/// A port to each shard, over the seats of a lane, with the runtime and the locks that the ports borrow, and how the calls of a phase are made.
 ///
 /// Keeps `PortSet` over a lane's seats of the shards, not alone.
 pub struct SeatSet<'a, W, X, P> {
     pub rt: &'a W,
     pub locks: &'a [X],
+    pub pace: Pace,
     pub each: Fanout<P>,
 }
 
@@ -38,7 +39,7 @@ impl<
     L: Fn(&[(u32, LockCall)], &mut Vec<Result<Replied, NodeFault>>, &mut [P]),
     N: Fn(&[(u32, FinishCall)], &mut Vec<Result<Stamp, NodeFault>>, &mut [P]),
     T: Fn(&[(u32, ForgetCall)], &mut Vec<Result<Stamp, NodeFault>>, &mut [P]),
-> PortSet<AtOnce<'g, G, L, N, T>> for SeatSet<'a, W, X, P> {
+> PortSet<PhaseGate<'g, G, L, N, T>> for SeatSet<'a, W, X, P> {
     ghost sights = { λ p n. sight_at P.sight p.each.ports.items n };
 
     ghost alone = { P.alone };
@@ -55,7 +56,7 @@ impl<
         &mut self,
         calls: &[(u32, LockCall)],
         out: &mut Vec<Result<Replied, NodeFault>>,
-        gate: &AtOnce<'g, G, L, N, T>,
+        gate: &PhaseGate<'g, G, L, N, T>,
     ) {
         self.each.lock(calls, out, gate);
     }
@@ -64,7 +65,7 @@ impl<
         &mut self,
         calls: &[(u32, FinishCall)],
         out: &mut Vec<Result<Stamp, NodeFault>>,
-        gate: &AtOnce<'g, G, L, N, T>,
+        gate: &PhaseGate<'g, G, L, N, T>,
     ) {
         self.each.finish(calls, out, gate);
     }
@@ -73,7 +74,7 @@ impl<
         &mut self,
         calls: &[(u32, ForgetCall)],
         out: &mut Vec<Result<Stamp, NodeFault>>,
-        gate: &AtOnce<'g, G, L, N, T>,
+        gate: &PhaseGate<'g, G, L, N, T>,
     ) {
         self.each.forget(calls, out, gate);
     }
@@ -117,6 +118,7 @@ pub(crate) fn run_over<
     ensures report { IfOk result (λ r. IsReported lane shape.now.batch (Y.all source.old) [] r.batches) }
 {
     let rt = ports.shards.rt;
+    let pace = ports.shards.pace;
     let lock = |calls: &[(u32, LockCall)], out: &mut Vec<
         Result<Replied, NodeFault>,
     >, ports: &mut [P]|
@@ -124,7 +126,7 @@ pub(crate) fn run_over<
             × IsSend P.row × IsSync G.row × AsksLocks P.sight P.serves calls.now out.old ports.old }
         ensures { IsToldAtOnce (Locks P.sight P.serves P.alone P.at P.faults P.holds)
             calls.now out.old ports.old out.new ports.new }
-    { lock_at_once(rt, gate, calls, out, ports) };
+    { lock_phase(rt, gate, pace, calls, out, ports) };
     let finish = |calls: &[(u32, FinishCall)], out: &mut Vec<
         Result<Stamp, NodeFault>,
     >, ports: &mut [P]|
@@ -132,7 +134,7 @@ pub(crate) fn run_over<
             × IsSend P.row × IsSync G.row × AsksFinishes P.sight P.serves calls.now out.old ports.old }
         ensures { IsToldAtOnce (Finishes P.sight P.serves P.alone P.at P.faults P.holds)
             calls.now out.old ports.old out.new ports.new }
-    { finish_at_once(rt, gate, calls, out, ports) };
+    { finish_phase(rt, gate, pace, calls, out, ports) };
     let forget = |calls: &[(u32, ForgetCall)], out: &mut Vec<
         Result<Stamp, NodeFault>,
     >, ports: &mut [P]|
@@ -140,8 +142,8 @@ pub(crate) fn run_over<
             × IsSend P.row × IsSync G.row × AsksForgets P.sight P.serves calls.now out.old ports.old }
         ensures { IsToldAtOnce (Forgets P.sight P.serves P.alone P.at P.faults P.holds)
             calls.now out.old ports.old out.new ports.new }
-    { forget_at_once(rt, gate, calls, out, ports) };
-    let phases = AtOnce {
+    { forget_phase(rt, gate, pace, calls, out, ports) };
+    let phases = PhaseGate {
         gate,
         lock: &lock,
         finish: &finish,

@@ -7,7 +7,7 @@ use cbdc_types::{
 };
 use mem_devices::PlainDisk;
 use node_ports::NodeShard;
-use phase_calls::lock_at_once;
+use phase_calls::{Pace, lock_phase};
 use shard_node::{ShardNode, is_lock_call};
 use std::alloc::Global;
 use std::sync::Wait;
@@ -127,9 +127,10 @@ fn ask_three<R: Threads + Wait + Sync>(
         node: NodeId(3),
         shard: three,
     });
-    lock_at_once(
+    lock_phase(
         rt,
         &RowGate::Open,
+        Pace::AtOnce,
         calls.as_slice(),
         &mut answers,
         ports.as_mut_slice(),
@@ -214,9 +215,10 @@ fn is_silent<R: Threads + Wait + Sync>(
         shard: one,
     });
     let none = Vec::new(alloc);
-    lock_at_once(
+    lock_phase(
         rt,
         &RowGate::Open,
+        Pace::AtOnce,
         none.as_slice(),
         &mut answers,
         ports.as_mut_slice(),

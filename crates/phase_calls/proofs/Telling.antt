@@ -1,20 +1,20 @@
 -- What a phase made at once tells is what its calls tell one after another.
-use Rattle.std.proofs.Common.{inl, inr, ◌≡◌, ◌⊎◌, ◌<◌, ◌≤◌, ◌+◌, ℕ, zero, suc, false, true, ◌==◌, Option, Some, None, List, [], ◌∷◌, length, get_or, refl, sym, ap, ◌∙◌, subst, arith}
+use Rattle.std.proofs.Common.{inl, inr, ◌≡◌, ◌⊎◌, ◌<◌, ℕ, zero, suc, false, ◌==◌, Option, Some, None, List, [], ◌∷◌, length, get_or, refl, sym, ap, ◌∙◌, subst, arith}
 use Rattle.std.specs.List.{All, AllZip, slice_get}
 use Rattle.std.specs.Global.{Vec}
 use Rattle.std.specs.Vec.{with_items}
 use Rattle.std.proofs.lemmas.Bool.{cases_eq}
 use Rattle.std.proofs.lemmas.List.{with_items_is}
-use Rattle.std.proofs.lemmas.List.Elements.{All-nil, All-cons, All-head, All-tail, All-weaker}
+use Rattle.std.proofs.lemmas.List.Elements.{All-cons, All-head, All-tail, All-weaker}
 use Rattle.cbdc_model.specs.Sights.{Sight}
-use Rattle.lane_laws.specs.Calls.{shard, IsRising, NotAmong, Every}
+use Rattle.lane_laws.specs.Calls.{shard, NotAmong, Every}
 use Rattle.lane_laws.specs.Answers.{EachTold, Others}
 use Rattle.lane_driver.specs.Told.{IsStillNode, KeepNodes}
-use Rattle.lane_driver.specs.Keeping.{KeepsShard, KeepsShards}
+use Rattle.lane_driver.specs.Keeping.{KeepsShard}
 use Rattle.lane_driver.proofs.Fitting.{nodes_same}
 use Rattle.node_ports.specs.Nodes.{no_sight, sight_at}
-use Rattle.phase_calls.specs.Phase.{IsCallTaken, IsMade, IsPhaseMade, Answered}
-use Rattle.phase_calls.proofs.Halves.{read}
+use Rattle.phase_calls.specs.Phase.{IsCallTaken, IsMade, IsPhaseMade, IsToldAtOnce, Answered}
+use Rattle.phase_calls.proofs.Halves.{none_made}
 
 -- ---- before
 
@@ -84,15 +84,24 @@ pub made_in : {P C A : Type 0} (makes : C → P → P → A → Type 0) (calls :
     → IsPhaseMade makes 0 calls v.items (with_items v qs).items answers
 made_in makes calls v qs answers m = subst (λ xs. IsPhaseMade makes 0 calls v.items xs answers) (sym (with_items_is v qs (m.count ∙ sym v.ok.0))) m
 
--- ---- a phase of more than one call
+-- ---- a phase with calls, and one without
 
--- what holds beside each of them
-pub beside : {X : Type 0} (Q : X → Type 0) (H : Type 0) (xs : List X) → 1 < length xs → All (λ x. Q x × H) xs → H
+-- what holds beside each of some calls
+pub beside : {X : Type 0} (Q : X → Type 0) (H : Type 0) (xs : List X) → 0 < length xs → All (λ x. Q x × H) xs → H
 beside Q H [] some all = absurd (omega (arith, some))
 beside Q H (x ∷ xs) some all = (All-head (λ y. Q y × H) x xs all).1
 
 pub only : {X : Type 0} (Q : X → Type 0) (H : Type 0) (xs : List X) → All (λ x. Q x × H) xs → All Q xs
 only Q H xs all = All-weaker (λ x. Q x × H) Q (λ x h. h.0) xs all
+
+-- a phase is told that is told where it has calls: where it has none nothing has changed
+pub phase_told : {P C A : Type 0} (makes : C → P → P → A → Type 0) (calls : List (ℕ × C)) (out : Vec A) (ps : List P) (out' : Vec A) (ps' : List P) → out.items ≡ [] → (length calls ≡ 0 → (out' ≡ out) × (ps' ≡ ps))
+    → (0 < length calls → IsToldAtOnce makes calls out ps out' ps') → IsToldAtOnce makes calls out ps out' ps'
+phase_told makes [] out ps out' ps' empty none some =
+    let same = none refl in
+    subst (λ o. IsToldAtOnce makes [] out ps o ps') (sym same.0)
+    (subst (λ qs. IsToldAtOnce makes [] out ps out qs) (sym same.1) (record { made = none_made makes 0 ps [] out.items refl (ap length empty); capacity = refl }))
+phase_told makes (c ∷ cs) out ps out' ps' empty none some = some (omega arith)
 
 -- ---- what is seen
 
@@ -137,6 +146,15 @@ module _ {X : Type 0} (R : X → X → Type 0) where
   sights_kept sight f (x ∷ xs) (y ∷ ys) z (suc n) = sights_kept sight f xs ys z.1 n
 
 -- ---- behind
+
+-- what the ports tell of a phase, in the words of the trait of a set
+pub record IsSetTold {P C A : Type 0} (told : ℕ × C → Sight → Sight → A → Type 0) (is : Sight → A → Type 0) (sight : P → Sight) (holds : P → Type 0) (serves : P → ℕ → Type 0) (ps qs : List P) (calls : List (ℕ × C)) (answers : List A) : Type 0 where
+  pub each : AllZip (λ c a. is (sight_at sight ps c.0) a) calls answers
+  pub told_so : EachTold told calls answers (sight_at sight ps) (sight_at sight qs)
+  pub untouched : Others calls (sight_at sight ps) (sight_at sight qs)
+  pub nodes : KeepNodes (sight_at sight ps) (sight_at sight qs)
+  pub held : All holds ps → All holds qs
+  pub served : (l : ℕ) → All (λ p. serves p l) ps → All (λ p. serves p l) qs
 
 unequal : (n m : ℕ) → (n ≡ m → ⊥) → (n == m) ≡ false
 unequal n m ne = grind (arith, ne)
@@ -195,26 +213,19 @@ module _ {P C A : Type 0} (told : ℕ × C → Sight → Sight → A → Type 0)
     ]
   ]
 
-  pub kept : (calls : List (ℕ × C)) (answers : List A) → IsPhaseMade makes 0 calls ps qs answers → AllZip keeps ps qs
+  kept : (calls : List (ℕ × C)) (answers : List A) → IsPhaseMade makes 0 calls ps qs answers → AllZip keeps ps qs
   kept calls answers m = pointwise keeps ps qs m.count (λ n p q e f. elim (place_kept calls answers m.each n p q e f) [
     | inl not ↦ let same : p ≡ q = cc (e, f, m.others n (subst (NotAmong shard calls) (omega arith) not)) in subst (λ y. keeps p y) same (keeps_itself p)
     | inr k ↦ k
   ])
 
-  pub told_at_once : (calls : List (ℕ × C)) (answers : List A) → IsPhaseMade makes 0 calls ps qs answers → EachTold told calls answers (sight_at sight ps) (sight_at sight qs)
-  told_at_once calls answers m = each_told calls answers m.each
-
-  pub answers_at_once : (calls : List (ℕ × C)) (answers : List A) → IsPhaseMade makes 0 calls ps qs answers → AllZip (λ c a. is (sight_at sight ps c.0) a) calls answers
-  answers_at_once calls answers m = each_answer calls answers m.each
-
-  pub others_at_once : (calls : List (ℕ × C)) (answers : List A) → IsPhaseMade makes 0 calls ps qs answers → Others calls (sight_at sight ps) (sight_at sight qs)
-  others_at_once calls answers m = λ s not. seen_same sight ps qs s (m.others s (subst (NotAmong shard calls) (omega arith) not))
-
-  pub nodes_at_once : (calls : List (ℕ × C)) (answers : List A) → IsPhaseMade makes 0 calls ps qs answers → KeepNodes (sight_at sight ps) (sight_at sight qs)
-  nodes_at_once calls answers m = sights_kept keeps sight (λ p q k. k.node) ps qs (kept calls answers m)
-
-  pub held_at_once : (calls : List (ℕ × C)) (answers : List A) → IsPhaseMade makes 0 calls ps qs answers → All holds ps → All holds qs
-  held_at_once calls answers m = all_kept keeps holds (λ p q k. k.held) ps qs (kept calls answers m)
-
-  pub served_at_once : (calls : List (ℕ × C)) (answers : List A) → IsPhaseMade makes 0 calls ps qs answers → (l : ℕ) → All (λ p. serves p l) ps → All (λ p. serves p l) qs
-  served_at_once calls answers m l = all_kept keeps (λ p. serves p l) (λ p q k. k.served l) ps qs (kept calls answers m)
+  pub set_told : (calls : List (ℕ × C)) (answers : List A) → IsPhaseMade makes 0 calls ps qs answers → IsSetTold told is sight holds serves ps qs calls answers
+  set_told calls answers m =
+      let each_kept = kept calls answers m in record {
+        each = each_answer calls answers m.each;
+        told_so = each_told calls answers m.each;
+        untouched = λ s not. seen_same sight ps qs s (m.others s (subst (NotAmong shard calls) (omega arith) not));
+        nodes = sights_kept keeps sight (λ p q k. k.node) ps qs each_kept;
+        held = all_kept keeps holds (λ p q k. k.held) ps qs each_kept;
+        served = λ l. all_kept keeps (λ p. serves p l) (λ p q k. k.served l) ps qs each_kept;
+      }

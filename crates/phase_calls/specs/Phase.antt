@@ -49,6 +49,13 @@ pub record IsPhase {P C A : Type 0} (accepts : C → P → Type 0) (first : ℕ)
   pub taken : Every (IsCallTaken accepts first ports) calls
   pub room : length answers ≡ length calls
 
+-- the calls' shards rise, each is taken, and there is room for the answers and none of them yet
+pub record IsPhaseTaken {P C A : Type 0} (accepts : C → P → Type 0) (calls : List (ℕ × C)) (out : Vec A) (ports : List P) : Type 0 where
+  pub rising : IsRising shard calls
+  pub taken : Every (IsCallTaken accepts 0 ports) calls
+  pub empty : out.items ≡ []
+  pub room : length calls ≤ vec_capacity out
+
 -- the call turned the port of its shard, and was answered
 pub record IsMade {P C A : Type 0} (makes : C → P → P → A → Type 0) (first : ℕ) (old new : List P) (c : ℕ × C) (a : A) : Type 0 where
   pub place : ℕ

@@ -6,8 +6,8 @@
 //!   (calls at three shards, each held inside until those behind it were passed).
 #![tactic(auto)]
 
-mod at_once;
 mod fanout;
+mod phases;
 
-pub use at_once::{finish_at_once, forget_at_once, lock_at_once};
-pub use fanout::{AtOnce, Fanout, Pace};
+pub use fanout::{Fanout, PhaseGate};
+pub use phases::{Pace, finish_phase, forget_phase, lock_phase};

@@ -1,6 +1,0 @@
-use Rattle.std.proofs.Common.{◌≡◌, length}
-use Rattle.std.specs.Vec.{vec_capacity, vec_len}
-use Rattle.phase_calls.proofs.at_once.hold_places.Given as goal
-
-abbrev pub invariant-loop-place : goal.invariant-loop-place
-invariant-loop-place g l = record { filled : vec_len l.out ≡ l._place; capacity : vec_capacity l.out ≡ vec_capacity l.initial.out }
