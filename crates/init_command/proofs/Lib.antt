@@ -1,3 +1,4 @@
 pub mod Making
 pub mod Unmade
 pub mod Did
+mod Faulted

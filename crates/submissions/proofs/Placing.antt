@@ -20,7 +20,7 @@ use Rattle.std.specs.Option.{IsSomeAnd}
 use Rattle.std.specs.Prelude.{MatchOption}
 use Rattle.std.proofs.lemmas.Slice.Zip.{AllZip-right}
 use Rattle.std.proofs.lemmas.Option.{slice_get_within}
-use Rattle.submissions.specs.Checks.{VerdictsOf, TellsSound, IsRuled, IsRuling, IsDealtBy, IsDealtAt, AreSent, IsSentFrom, AreSentFrom, IsSaid}
+use Rattle.submissions.specs.Checks.{VerdictsOf, AllEmpty, TellsSound, IsRuled, IsRuling, IsDealtBy, IsDealtAt, AreSent, IsSentFrom, AreSentFrom, IsSaid}
 use Rattle.submissions.specs.declared.Ruled.{Ruled}
 use Rattle.submissions.specs.declared.Ruling.{Ruling}
 use Rattle.submissions.specs.declared.Ruling.TheVariants as ruling
@@ -28,6 +28,16 @@ use Rattle.submissions.specs.declared.Checked.{Checked}
 use Rattle.submissions.specs.declared.Judgement.{Judgement}
 use Rattle.submissions.specs.declared.Judgement.TheVariants.{Refused, Sound}
 use Rattle.submissions.proofs.Shares.{sent_if, sent_more}
+
+-- one empty list more
+pub empty_more : (lists all : List (Vec CompactTx)) (last : Vec CompactTx) → all ≡ lists ++ last ∷ [] → last.items ≡ [] → AllEmpty lists → AllEmpty all
+empty_more lists all last is none so = subst AllEmpty (sym is) (behind lists so)
+  where
+    behind : (xs : List (Vec CompactTx)) → AllEmpty xs → AllEmpty (xs ++ last ∷ [])
+    behind [] empty zero list at = let same : last ≡ list = cc in subst (λ (v : Vec CompactTx). v.items ≡ []) same none
+    behind [] empty (suc n) list at = absurd cc
+    behind (x ∷ xs) empty zero list at = empty zero list at
+    behind (x ∷ xs) empty (suc n) list at = behind xs (λ lane v there. empty (suc lane) v there) n list at
 
 -- a sentinel's judgement of a transaction: the first reason to refuse it; or it is sound, and its compact form goes to the end of a lane's list
 abbrev IsGiven : VerdictsOf → FullTx → ℕ → List CompactTx → List CompactTx → Judgement → Type 0

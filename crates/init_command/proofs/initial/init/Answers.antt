@@ -1,12 +1,15 @@
 use Rattle.std.proofs.Common.{◌≡◌, subst}
 use Rattle.cbdc_types.specs.declared.answer.Answer.TheVariants as answers
 use Rattle.line_text.specs.Lines.{init_text}
+use Rattle.outside.specs.Counts.{Rose}
 use Rattle.command_answers.specs.Scene.{scene}
+use Rattle.command_answers.specs.Causes.{FileRose}
 use Rattle.rack_ledgers.specs.Racked.{disks_in}
 use Rattle.init_command.specs.Outcomes.{WhyNoInit}
 use Rattle.command_answers.specs.Texts.{IsPrinted}
 use Rattle.init_command.proofs.Did.{init_by}
-use Rattle.command_answers.proofs.Answers.{told}
+use Rattle.init_command.proofs.Faulted.{not_well}
+use Rattle.command_answers.proofs.Answers.{told, fault_done}
 use Rattle.command_answers.proofs.Silent.{silent_same}
 use Rattle.init_command.proofs.initial.init.Goals as goal
 
@@ -32,3 +35,15 @@ returns-in-Err-write_init-clause-did g c well =
 
 pub returns-in-Err-clause-silent : goal.returns-in-Err-clause-silent
 returns-in-Err-clause-silent g c = silent_same (g.O.Sink.taken c.args.out.now) c.in-Err.fault
+
+pub returns-in-Err-clause-cause : goal.returns-in-Err-clause-cause
+returns-in-Err-clause-cause g c =
+    fault_done (λ place. place ≡ c.args.file.now.place) (FileRose (g.I.Inbox.count c.args.inbox.now) (g.I.Inbox.count c.make.new.inbox) c.args.file.now)
+    (Rose (g.O.Sink.count c.args.out.now) (g.O.Sink.count c.args.out.now)) c.in-Err.fault c.in-Err.ensures.fault
+
+pub returns-in-Err-clause-did : goal.returns-in-Err-clause-did
+returns-in-Err-clause-did g c well =
+    absurd (not_well (λ place. place ≡ c.args.file.now.place) (FileRose (g.I.Inbox.count c.args.inbox.now) (g.I.Inbox.count c.make.new.inbox) c.args.file.now) c.in-Err.fault c.in-Err.ensures.fault well)
+
+pub returns-in-Err-clause-left : goal.returns-in-Err-clause-left
+returns-in-Err-clause-left g c without = c.in-Err.ensures.left

@@ -1,11 +1,12 @@
-use Rattle.command_answers.proofs.Refusals.{not_refused}
+use Rattle.outside.specs.Counts.{Rose}
+use Rattle.command_answers.proofs.Refusals.{not_refused, refused_alone, refusal_fault}
 use Rattle.std.proofs.Common.{◌≡◌, ◌≤◌, ◌∙◌, length, map, subst}
 use Rattle.rack_ledgers.specs.Racked.{disks_in}
 use Rattle.cbdc_types.specs.declared.answer.Answer.TheVariants as answers
 use Rattle.status_command.specs.Outcomes.{WhyNoStatus}
 use Rattle.command_answers.specs.Texts.{IsPrinted}
 use Rattle.status_command.specs.Texts.{told_lines, status_among}
-use Rattle.command_answers.proofs.Answers.{told}
+use Rattle.command_answers.proofs.Answers.{told, fault_done}
 use Rattle.status_command.proofs.Ledgers.{few_shards, did_status, all_back}
 use Rattle.command_answers.proofs.Silent.{silent_same}
 use Rattle.status_command.proofs.looking.status.Goals as goal
@@ -70,3 +71,10 @@ returns-in-Err-clause-back g c = c.in-Err.ensures.back.takes
 
 pub close_nodes-requires : goal.close_nodes-requires
 close_nodes-requires g c = c.in-Ok.ensures.opened.may_close
+
+pub returns-in-Err-clause-cause : goal.returns-in-Err-clause-cause
+returns-in-Err-clause-cause g c =
+    fault_done (λ file. ⊥) (λ file. ⊥) (Rose (g.O.Sink.count c.args.out.now) (g.O.Sink.count c.args.out.now)) c.in-Err.fault (refusal_fault (λ file. ⊥) (λ file. ⊥) c.in-Err.fault c.in-Err.ensures.kind)
+
+pub returns-in-Err-clause-did : goal.returns-in-Err-clause-did
+returns-in-Err-clause-did g c well = absurd (refused_alone c.in-Err.fault c.in-Err.ensures.kind well)
