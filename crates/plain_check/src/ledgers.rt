@@ -9,7 +9,7 @@ ghost use Rattle.plain_check.specs.Merging.{put_row, put_records, behind_first, 
 ghost use Rattle.plain_check.specs.Minting.{compact_mint};
 
 use crate::history::journal_at_number;
-use crate::kept::{add_rows, copy_of_row, is_kept, minted_of, on_first};
+use crate::kept::{add_row, add_rows, is_kept, minted_of, on_first};
 use crate::{Row, copy_of_record, goes_above, is_ordered, journal_at};
 use cbdc_types::{CompactTx, FullTx, List, NodeId, Output, Record, Shape};
 use same_records::is_journal;
@@ -91,16 +91,27 @@ pub fn is_history(
 fn add_with(row: &Row, rows: &[Row], out: &mut Vec<Row>) -> Result<(), AllocError>
     ensures { OnOk result (out.new.items ≡ out.old.items ++ put_row row.now rows.now) }
 {
-    let Some((head, later)) = rows.split_first() else {
-        out.push(copy_of_row(row)?)?;
-        return Ok(());
-    };
-    if goes_above(row, head) {
-        out.push(copy_of_row(row)?)?;
-        return add_rows(rows, out);
+    match rows.split_first() {
+        None => add_row(row, out),
+        Some((head, later)) => {
+            if goes_above(row, head) {
+                add_row(row, out)?;
+                add_rows(rows, out)
+            } else {
+                add_row(head, out)?;
+                add_with(row, later, out)
+            }
+        }
     }
-    out.push(copy_of_row(head)?)?;
-    add_with(row, later, out)
+}
+
+// Rows with one more in its place.
+fn with_row(alloc: Global, row: &Row, rows: &[Row]) -> Result<List<Row>, AllocError>
+    ensures { IfOk result (λ l. l ≡ put_row row.now rows.now) }
+{
+    let mut out = Vec::new(alloc);
+    add_with(row, rows, &mut out)?;
+    Ok(List::from_vec(out))
 }
 
 // Rows with a node's record among them.
@@ -116,9 +127,7 @@ fn with_record(
         node,
         what: copy_of_record(r)?,
     };
-    let mut out = Vec::new(alloc);
-    add_with(&row, rows, &mut out)?;
-    Ok(List::from_vec(out))
+    with_row(alloc, &row, rows)
 }
 
 // Rows with a node's records among them.

@@ -7,6 +7,7 @@ ghost use Rattle.cbdc_model.specs.World.{IsUnspent};
 ghost use Rattle.plain_check.specs.Journals.{journals_in};
 ghost use Rattle.plain_check.specs.Named.{entry_hashes, named_hashes, named_below, is_unspent_at, unspent_among};
 
+use crate::copying::put;
 use crate::outcomes::journal_at;
 use crate::records::{has, lock_of};
 use crate::status::status_of;
@@ -85,7 +86,7 @@ fn add_unspent(
         return Ok(());
     };
     if is_unspent_here(journals, shape, x) && !has(rest, x) {
-        out.push(*x)?;
+        put(out, *x)?;
     }
     add_unspent(journals, shape, rest, out)
 }
