@@ -7,6 +7,7 @@ ghost use Rattle.plain_check.specs.Agreeing.{Agree, coins_in};
 
 use crate::agreeing::{agrees_with, all_agree, all_coins_agree};
 use crate::books::add_made;
+use crate::copying::put_slice;
 use crate::minted_coins;
 use cbdc_types::{FullTx, Input, Output};
 use sentinel::genesis_tx;
@@ -19,7 +20,7 @@ fn add_coins(ts: &[FullTx], out: &mut Vec<Input>) -> Result<(), AllocError>
     match ts.split_first() {
         None => Ok(()),
         Some((t, rest)) => {
-            out.extend_from_slice(t.inputs.as_slice())?;
+            put_slice(out, t.inputs.as_slice())?;
             add_made(t, out)?;
             add_coins(rest, out)
         }

@@ -92,6 +92,13 @@ pub fn put<T: Drop>(out: &mut Vec<T>, item: T) -> Result<(), AllocError>
     Ok(())
 }
 
+/// Puts copies of items behind those so far.
+pub fn put_slice<T: Copy>(out: &mut Vec<T>, items: &[T]) -> Result<(), AllocError>
+    ensures { OnOk result (out.new.items ≡ out.old.items ++ items.now) }
+{
+    out.extend_from_slice(items)
+}
+
 /// An item in front of a list.
 pub fn with_front<T: Drop>(first: T, rest: List<T>) -> Result<List<T>, AllocError>
     ensures { IfOk result (λ l. l ≡ first ∷ rest) }

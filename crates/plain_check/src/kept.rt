@@ -1,7 +1,8 @@
 // Whether a history is kept: each row follows its node's journal and is caused by the rows before it.
-ghost use Rattle.std.specs.Prelude.{◌≡◌, ◌↔◌, ◌++◌, ◌∷◌, [], ◌≤◌, IsTrue, IfOk, OnOk};
+ghost use Rattle.std.specs.Prelude.{◌≡◌, ◌↔◌, ◌+◌, ◌++◌, ◌∷◌, [], ◌≤◌, ℕ, IsTrue, IfOk, OnOk};
 ghost use Rattle.cbdc_model.specs.Records.{journal};
 ghost use Rattle.cbdc_model.specs.After.{After};
+ghost use Rattle.cbdc_model.specs.Causes.{IsCaused};
 ghost use Rattle.cbdc_model.specs.History.{starts, geneses, first_rows, header_of, IsSteady, TxsPass, IsKept};
 ghost use Rattle.cbdc_model.specs.Clean.{IsProperCompact};
 ghost use Rattle.cbdc_model.specs.Coins.{compact, genesis_tx};
@@ -154,6 +155,27 @@ fn may_come(
     passes(alloc, submissions, &row.what)
 }
 
+// Whether a row stands on top of a history: it may come, and is caused.
+fn may_stand(
+    alloc: Global,
+    shape: &Shape,
+    genesis: &Hash,
+    submissions: &[FullTx],
+    past: &[Row],
+    row: &Row,
+) -> Result<bool, AllocError>
+    requires { (n : ℕ) → shape.now.coordinators + shape.now.shards ≤ n → journal n past.now ≡ [] }
+    ensures { IfOk result (λ yes. IsTrue yes
+        ↔ ((After (header_of shape.now genesis.now row.now.node) (journal row.now.node past.now) row.now.what
+        × TxsPass (IsProperCompact submissions.now) row.now.what)
+        × IsCaused shape.now (λ n. journal n past.now) row.now.node row.now.what)) }
+{
+    if !may_come(alloc, shape, genesis, submissions, past, row)? {
+        return Ok(false);
+    }
+    is_caused_at(alloc, shape, past, row)
+}
+
 // Whether rows on top of the first ones are steady.
 fn is_steady(
     alloc: Global,
@@ -174,11 +196,7 @@ fn is_steady(
         return Ok(false);
     }
     let rows = rows_on(alloc, rest, first)?;
-    let past = rows.as_slice();
-    if !may_come(alloc, shape, &mint.id, submissions, past, row)? {
-        return Ok(false);
-    }
-    is_caused_at(alloc, shape, past, row)
+    may_stand(alloc, shape, &mint.id, submissions, rows.as_slice(), row)
 }
 
 /// Whether the rows on top of a ledger's first ones are kept: each follows its node's journal and is caused by the rows
