@@ -1,10 +1,10 @@
 // What changes at a node.
-ghost use Rattle.std.specs.Prelude.{◌≡◌, ◌<◌, ◌↔◌, ◌∷◌, true, false, None, IsTrue, OnOk, OnErr, IfErr, length, is_some, slice_set};
+ghost use Rattle.std.specs.Prelude.{◌≡◌, ◌<◌, ◌↔◌, true, false, None, IsTrue, OnOk, OnErr, length, is_some, slice_set};
 ghost use Rattle.cbdc_model.specs.World.{journals, node_at, flushed, IsQuiet};
 
 use crate::Node;
 use cbdc_types::{List, NodeId, Record};
-use std::alloc::{AllocError, AllocFailed, Global};
+use std::alloc::{AllocError, Global};
 use std::mem;
 
 /// Whether the node is up with nothing in flight.
@@ -69,18 +69,6 @@ pub fn lose(nodes: &mut [Node], node: NodeId)
     own.flight = None;
 }
 
-// Puts an item in front of a list. Where memory runs out the item comes back, and the list is as before.
-fn put_first<T: Drop>(alloc: Global, list: &mut List<T>, item: T) -> Result<(), AllocFailed<T>>
-    ensures ok { OnOk result (list.new ≡ item ∷ list.old) }
-    ensures err { OnErr result (list.new ≡ list.old) }
-    ensures value_returned { IfErr result (λ y. y.value ≡ item) }
-{
-    let mut items = mem::replace(list, List::new(alloc)).into_vec();
-    let done = items.insert(0, item);
-    *list = List::from_vec(items);
-    done
-}
-
 // Puts what is in flight at the journal's end. Where memory runs out the node is as before.
 fn write_flight(alloc: Global, own: &mut Node) -> Result<(), AllocError>
     ensures ok { OnOk result (own.new
@@ -90,9 +78,14 @@ fn write_flight(alloc: Global, own: &mut Node) -> Result<(), AllocError>
     let Some(r) = own.flight.take() else {
         return Ok(());
     };
-    match put_first(alloc, &mut own.journal, r) {
-        Ok(()) => Ok(()),
+    let mut items = mem::replace(&mut own.journal, List::new(alloc)).into_vec();
+    match items.insert(0, r) {
+        Ok(()) => {
+            own.journal = List::from_vec(items);
+            Ok(())
+        }
         Err(failed) => {
+            own.journal = List::from_vec(items);
             own.flight = Some(failed.value);
             Err(AllocError)
         }

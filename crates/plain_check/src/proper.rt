@@ -1,7 +1,6 @@
 // Which transactions may be prepared.
 ghost use Rattle.std.specs.Prelude.{◌≡◌, ◌↔◌, All, IsTrue, IfOk};
 ghost use Rattle.cbdc_model.specs.Clean.{IsProper, IsProperCompact};
-ghost use Rattle.cbdc_model.specs.Coins.{compact};
 ghost use Rattle.cbdc_model.specs.History.{TxsPass};
 
 use cbdc_types::{CompactTx, FullTx, Hash, Record};
@@ -21,12 +20,11 @@ pub fn is_proper(t: &FullTx) -> bool
     }
 }
 
-// Whether a transaction is proper and its compact form is this one.
-fn is_form(alloc: Global, t: &FullTx, k: &CompactTx) -> Result<bool, AllocError>
-    ensures { IfOk result (λ yes. IsTrue yes ↔ (IsProper t.now × (compact t.now ≡ k.now))) }
+// Whether a transaction is proper and its compact form, which is given, is this one.
+fn is_form(t: &FullTx, own: &CompactTx, k: &CompactTx) -> bool
+    ensures { IsTrue result ↔ (IsProper t.now × (own.now ≡ k.now)) }
 {
-    let own = compact(alloc, t)?;
-    Ok(is_proper(t) && is_compact(&own, k))
+    is_proper(t) && is_compact(own, k)
 }
 
 /// Whether a compact transaction is the form of a proper submission.
@@ -41,7 +39,8 @@ pub fn is_proper_compact(
     let Some((t, rest)) = submissions.split_first() else {
         return Ok(false);
     };
-    if is_form(alloc, t, k)? {
+    let own = compact(alloc, t)?;
+    if is_form(t, &own, k) {
         return Ok(true);
     }
     is_proper_compact(alloc, rest, k)

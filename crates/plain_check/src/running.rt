@@ -84,23 +84,6 @@ fn put_summary(page: &mut Page, s: &Summary) -> Result<(), WriteFault>
     write_summary(page, s)
 }
 
-// The lines of files and the summary. None where memory ran out, or a place is no number of 64 bits.
-fn text_of(
-    alloc: Global,
-    files: &[List<FullTx>],
-    all: &[List<Report>],
-    s: &Summary,
-) -> Option<Vec<u8>>
-    ensures { IfSome result (λ v. v.items ≡ files_lines 1 files.now all.now ++ summary_text
-        s.now.resumed s.now.batches s.now.confirmed s.now.rejected s.now.refused s.now.unspent) }
-{
-    let mut page = Page::new(alloc);
-    put_files(&mut page, 1, files, all).ok()?;
-    put_summary(&mut page, s).ok()?;
-    let Page { text, .. } = page;
-    Some(text)
-}
-
 /// What `run` prints of files, by the journals of all nodes at entry and at exit. None where memory ran out, a number is
 /// none of 64 bits, or the journals do not decide every sound submission.
 pub fn run_text<V: Verifier>(
@@ -117,5 +100,9 @@ pub fn run_text<V: Verifier>(
     let all = reports_of(alloc, shape, verifier, entry, exit, files)?;
     let unspent = unspent_count(alloc, shape, exit).ok()?;
     let summary = summary_of(shape, entry, exit, all.as_slice(), unspent)?;
-    text_of(alloc, files, all.as_slice(), &summary)
+    let mut page = Page::new(alloc);
+    put_files(&mut page, 1, files, all.as_slice()).ok()?;
+    put_summary(&mut page, &summary).ok()?;
+    let Page { text, .. } = page;
+    Some(text)
 }
