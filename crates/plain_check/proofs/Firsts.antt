@@ -58,10 +58,12 @@ pub steady_past : (K : Shape) (m : Minted) (P : Compact → Type 0) (rest first 
 steady_past K m P rest first past n f p steady h = ap (journal n) (p ∙ ap (λ l. rest ++ l) f) ∙ steady_none K m P rest n steady h
 
 pub steady_more : (K : Shape) (m : Minted) (P : Compact → Type 0) (later : List Row) (row : Row) (rest first past : List Row) (told : Bool) → later ≡ row ∷ rest → first ≡ first_rows K m
-    → past ≡ rest ++ first → After (header_of K m.id row.node) (journal row.node past) row.what × TxsPass P row.what → IsSteady K m P rest
-    → (IsTrue told ↔ IsCaused K (λ n. journal n past) row.node row.what) → IsTrue told ↔ IsSteady K m P later
-steady_more K m P later row rest first past told e f p may steady h =
+    → past ≡ rest ++ first → IsSteady K m P rest
+    → (IsTrue told ↔ ((After (header_of K m.id row.node) (journal row.node past) row.what × TxsPass P row.what) × IsCaused K (λ n. journal n past) row.node row.what))
+    → IsTrue told ↔ IsSteady K m P later
+steady_more K m P later row rest first past told e f p steady h =
     let same : past ≡ rest ++ first_rows K m = p ∙ ap (λ l. rest ++ l) f in
-    let comes : After (header_of K m.id row.node) (journal row.node (rest ++ first_rows K m)) row.what = subst (λ l. After (header_of K m.id row.node) (journal row.node l) row.what) same may.0 in
-    let caused : IsTrue told ↔ IsCaused K (λ n. journal n (rest ++ first_rows K m)) row.node row.what = subst (λ l. IsTrue told ↔ IsCaused K (λ n. journal n l) row.node row.what) same h in
-    subst (λ l. IsTrue told ↔ IsSteady K m P l) (sym e) (λ t. (comes, caused.0 t, may.1, steady), λ s. caused.1 s.1)
+    let here : IsTrue told ↔ ((After (header_of K m.id row.node) (journal row.node (rest ++ first_rows K m)) row.what × TxsPass P row.what)
+        × IsCaused K (λ n. journal n (rest ++ first_rows K m)) row.node row.what) =
+    subst (λ l. IsTrue told ↔ ((After (header_of K m.id row.node) (journal row.node l) row.what × TxsPass P row.what) × IsCaused K (λ n. journal n l) row.node row.what)) same h in
+    subst (λ l. IsTrue told ↔ IsSteady K m P l) (sym e) (λ t. ((here.0 t).0.0, (here.0 t).1, (here.0 t).0.1, steady), λ s. here.1 ((s.0, s.2), s.1))

@@ -1,7 +1,7 @@
 // What a shard writes where a call is made again.
 ghost use Rattle.std.specs.Prelude.{◌≡◌, ◌<◌, ◌^◌, ◌↔◌, IsTrue, IfOk, MatchOption};
 ghost use Rattle.cbdc_model.specs.Records.{last_stamp, Record as AnyRecord};
-ghost use Rattle.cbdc_model.specs.World.{record_for, journals, batch_of, Lock_call, Finish_call, Forget_call};
+ghost use Rattle.cbdc_model.specs.World.{record_for, journals, batch_of, Lock_call, Finish_call, Forget_call, IsConcerned, CauseStands};
 ghost use Rattle.plain_check.specs.Events.{call_in, cause_of, InClock, IsCallAnswered};
 
 use crate::event_causes::{has_cause, header_at, is_concerned_at};
@@ -116,6 +116,14 @@ fn is_in_clock(nodes: &[Node], node: NodeId, cause: Stamp) -> bool
     last_stamp(journal_in(nodes, node.0)).0 < 1 << 63 && cause.0 < 1 << 63
 }
 
+// Whether a call is one of the node's, and its cause stands.
+fn is_called(nodes: &[Node], shape: &Shape, node: NodeId, call: &ShardCall) -> bool
+    ensures { IsTrue result ↔ (IsConcerned shape.now (journals nodes.now) node (batch_of (call_in call.now))
+        × CauseStands shape.now (journals nodes.now) node (call_in call.now)) }
+{
+    is_concerned_at(nodes, shape, node, &batch_in(call)) && has_cause(nodes, shape, node, call)
+}
+
 /// What a node writes where a call is made again: nothing where the call isn't the node's, its cause doesn't stand, or the
 /// answer takes no record that may stand in a journal.
 pub fn written(
@@ -130,11 +138,7 @@ pub fn written(
         ((r : AnyRecord) → IsCallAnswered shape.now genesis.now nodes.now node (call_in call.now) r → ⊥)
         (λ r. IsCallAnswered shape.now genesis.now nodes.now node (call_in call.now) r)) }
 {
-    let batch = batch_in(call);
-    if !is_concerned_at(nodes, shape, node, &batch) {
-        return Ok(None);
-    }
-    if !has_cause(alloc, nodes, shape, node, call)? {
+    if !is_called(nodes, shape, node, call) {
         return Ok(None);
     }
     let cause = cause_in(call);

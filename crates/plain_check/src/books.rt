@@ -8,6 +8,7 @@ ghost use Rattle.cbdc_model.specs.Book.{key, take_out, take_all, put_all, spend,
 ghost use Rattle.cbdc_model.specs.Coins.{made_coins, tx_coins, genesis_tx};
 ghost use Rattle.plain_check.specs.Coins.{coin_entry, book_of};
 
+use crate::copying::{put, with_front};
 use cbdc_types::{FullTx, Hash, Input, List, OutPoint, Output};
 use same_records::{is_same_output, is_same_point};
 use sentinel::{genesis_tx, tx_id};
@@ -43,13 +44,15 @@ fn add_others(coins: &[Input], p: &OutPoint, out: &mut Vec<Input>) -> Result<(),
     ensures others { OnOk result (out.new.items ≡ out.old.items
         ++ filter (λ c. not (eq_by_cmp (slice_cmp nat_cmp) (key p.now) (key c.point))) coins.now) }
 {
-    let Some((c, rest)) = coins.split_first() else {
-        return Ok(());
-    };
-    if !is_same_point(p, &c.point) {
-        out.push(*c)?;
+    match coins.split_first() {
+        None => Ok(()),
+        Some((c, rest)) => {
+            if !is_same_point(p, &c.point) {
+                put(out, *c)?;
+            }
+            add_others(rest, p, out)
+        }
     }
-    add_others(rest, p, out)
 }
 
 // The coins at other outpoints.
@@ -60,16 +63,6 @@ fn without(alloc: Global, coins: &[Input], p: &OutPoint) -> Result<List<Input>, 
     let mut out = Vec::new(alloc);
     add_others(coins, p, &mut out)?;
     Ok(List::from_vec(out))
-}
-
-// A coin in front of others.
-fn with_first(alloc: Global, c: &Input, coins: &[Input]) -> Result<List<Input>, AllocError>
-    ensures { IfOk result (λ l. l ≡ c.now ∷ coins.now) }
-{
-    let mut all = Vec::with_capacity(alloc, 1)?;
-    all.push(*c)?;
-    all.extend_from_slice(coins)?;
-    Ok(List::from_vec(all))
 }
 
 /// The book without a coin, where it has the claimed output at the coin's outpoint.
@@ -107,14 +100,16 @@ pub fn take_all(
 }
 
 /// The book with coins put in one after another.
-pub fn put_all(alloc: Global, coins: List<Input>, cs: &[Input]) -> Result<List<Input>, AllocError>
+pub fn put_all(coins: List<Input>, cs: &[Input]) -> Result<List<Input>, AllocError>
     ensures { IfOk result (λ l. book_of l ≡ put_all (book_of coins) cs.now) }
 {
-    let Some((c, rest)) = cs.split_first() else {
-        return Ok(coins);
-    };
-    let more = with_first(alloc, c, coins.as_slice())?;
-    put_all(alloc, more, rest)
+    match cs.split_first() {
+        None => Ok(coins),
+        Some((c, rest)) => {
+            let more = with_front(*c, coins)?;
+            put_all(more, rest)
+        }
+    }
 }
 
 // Puts the coins that outputs make under an id, the first of which has this index, behind those so far.
@@ -127,23 +122,32 @@ fn add_coins(
     requires { index + length outputs.now < 2 ^ 64 }
     ensures { OnOk result (out.new.items ≡ out.old.items ++ made_coins id.now index outputs.now) }
 {
-    let Some((o, rest)) = outputs.split_first() else {
-        return Ok(());
-    };
-    out.push(Input {
-        point: OutPoint { tx: *id, index },
-        output: *o,
-    })?;
-    add_coins(id, index + 1, rest, out)
+    match outputs.split_first() {
+        None => Ok(()),
+        Some((o, rest)) => {
+            let coin = Input {
+                point: OutPoint { tx: *id, index },
+                output: *o,
+            };
+            put(out, coin)?;
+            add_coins(id, index + 1, rest, out)
+        }
+    }
+}
+
+/// Puts the coins that a transaction makes behind those so far.
+pub fn add_made(t: &FullTx, out: &mut Vec<Input>) -> Result<(), AllocError>
+    ensures { OnOk result (out.new.items ≡ out.old.items ++ tx_coins t.now) }
+{
+    add_coins(&tx_id(t), 0, t.outputs.as_slice(), out)
 }
 
 /// The coins that a transaction makes.
 pub fn coins_of(alloc: Global, t: &FullTx) -> Result<List<Input>, AllocError>
     ensures { IfOk result (λ l. l ≡ tx_coins t.now) }
 {
-    let id = tx_id(t);
     let mut out = Vec::new(alloc);
-    add_coins(&id, 0, t.outputs.as_slice(), &mut out)?;
+    add_made(t, &mut out)?;
     Ok(List::from_vec(out))
 }
 
@@ -160,7 +164,7 @@ pub fn spend(
         None => Ok(None),
         Some(left) => {
             let made = coins_of(alloc, t)?;
-            Ok(Some(put_all(alloc, left, made.as_slice())?))
+            Ok(Some(put_all(left, made.as_slice())?))
         }
     }
 }
@@ -223,5 +227,5 @@ pub fn genesis_book(alloc: Global, mint: &[Output]) -> Result<List<Input>, Alloc
     ensures { IfOk result (λ l. book_of l ≡ genesis_book mint.now) }
 {
     let made = minted_coins(alloc, mint)?;
-    put_all(alloc, List::new(alloc), made.as_slice())
+    put_all(List::new(alloc), made.as_slice())
 }

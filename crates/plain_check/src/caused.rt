@@ -1,21 +1,20 @@
 // Whether a record is caused by what stands in journals.
 ghost use Rattle.std.specs.Prelude.{◌≡◌, ◌↔◌, ℕ, IsTrue, IfOk};
-ghost use Rattle.cbdc_model.specs.Records.{txs_of, Lock, Finish, Commit, lock_kind};
+ghost use Rattle.cbdc_model.specs.Records.{txs_of, Lock, Finish, Commit, Forget, lock_kind};
 ghost use Rattle.cbdc_model.specs.Replies.{entries};
 ghost use Rattle.cbdc_model.specs.Ranges.{home_of, shard_node, part};
 ghost use Rattle.cbdc_model.specs.Records.{entries_in};
 ghost use Rattle.cbdc_model.specs.Outcomes.{outcomes};
-ghost use Rattle.cbdc_model.specs.Causes.{at_shards, IsCaused};
+ghost use Rattle.cbdc_model.specs.Causes.{at_shards, AllHave, IsStamped, last_of, IsCaused};
 ghost use Rattle.plain_check.specs.Journals.{journals_in};
 
 use crate::causes::{all_have, home_journal, is_stamped, last_of};
-use crate::copying::entries_in;
-use crate::outcomes::{decisions_of, journal_at, outcomes_by_locks};
+use crate::outcomes::{are_decided_by, journal_at, outcomes_by_locks};
 use crate::records::{lock_of, outcomes_of, record_of, stamp_of, txs_of};
 use cbdc_types::{
     Answered, BatchId, CompactTx, List, NodeId, Outcome, Record, RecordKind, Shape, Stamp,
 };
-use same_records::{are_decisions, are_outcomes, is_part_from};
+use same_records::{are_outcomes, is_part_from};
 use std::alloc::{AllocError, Global};
 
 // Whether the entries are the transactions' part at this node, where it is a shard.
@@ -79,15 +78,7 @@ fn is_commit_caused(
     ensures { IfOk result (λ yes. IsTrue yes
         ↔ IsCaused shape.now (journals_in journals.now) node (Commit stamp batch.now outcomes.now)) }
 {
-    if !all_have(journals, shape, RecordKind::Lock as u64, batch) {
-        return Ok(false);
-    }
-    let own = journal_at(journals, node.0);
-    if !is_stamped(
-        stamp,
-        own,
-        last_of(journals, shape, RecordKind::Lock as u64, batch),
-    ) {
+    if !is_behind_all(journals, shape, node, stamp, RecordKind::Lock as u64, batch) {
         return Ok(false);
     }
     are_by_locks(alloc, journals, shape, batch, outcomes)
@@ -95,28 +86,63 @@ fn is_commit_caused(
 
 // Whether a Finish is caused.
 fn is_finish_caused(
-    alloc: Global,
     journals: &[List<Record>],
     shape: &Shape,
     node: NodeId,
     stamp: Stamp,
     batch: &BatchId,
     decisions: &[bool],
-) -> Result<bool, AllocError>
-    ensures { IfOk result (λ yes. IsTrue yes
-        ↔ IsCaused shape.now (journals_in journals.now) node (Finish stamp batch.now decisions.now)) }
+) -> bool
+    ensures { IsTrue result
+        ↔ IsCaused shape.now (journals_in journals.now) node (Finish stamp batch.now decisions.now) }
 {
     let home = home_journal(journals, shape, batch);
     let Some(cause) = record_of(RecordKind::Commit as u64, home, batch) else {
-        return Ok(false);
+        return false;
     };
     let own = journal_at(journals, node.0);
-    if !is_stamped(stamp, own, stamp_of(cause)) {
-        return Ok(false);
+    is_stamped(stamp, own, stamp_of(cause))
+        && are_decided_by(outcomes_of(home, batch), lock_of(own, batch), decisions)
+}
+
+// Whether a Forget is caused.
+fn is_forget_caused(
+    journals: &[List<Record>],
+    shape: &Shape,
+    node: NodeId,
+    stamp: Stamp,
+    batch: &BatchId,
+) -> bool
+    ensures { IsTrue result
+        ↔ IsCaused shape.now (journals_in journals.now) node (Forget stamp batch.now) }
+{
+    let home = home_journal(journals, shape, batch);
+    match record_of(RecordKind::Discard as u64, home, batch) {
+        Some(cause) => is_stamped(stamp, journal_at(journals, node.0), stamp_of(cause)),
+        None => false,
     }
-    let part = entries_in(alloc, lock_of(own, batch))?;
-    let decided = decisions_of(alloc, outcomes_of(home, batch), part.as_slice())?;
-    Ok(are_decisions(decisions, decided.as_slice()))
+}
+
+// Whether each shard that the batch concerns has its record of the kind, and the stamp is one more than the greatest of theirs
+// and of the node's last.
+fn is_behind_all(
+    journals: &[List<Record>],
+    shape: &Shape,
+    node: NodeId,
+    stamp: Stamp,
+    kind: u64,
+    batch: &BatchId,
+) -> bool
+    ensures { IsTrue result ↔ (AllHave shape.now (journals_in journals.now) kind batch.now
+        × IsStamped stamp (journals_in journals.now node)
+        (last_of shape.now (journals_in journals.now) kind batch.now)) }
+{
+    all_have(journals, shape, kind, batch)
+        && is_stamped(
+            stamp,
+            journal_at(journals, node.0),
+            last_of(journals, shape, kind, batch),
+        )
 }
 
 /// Whether a record behind this node's journal is caused by what stands in these journals: its causes stand there, it
@@ -130,11 +156,12 @@ pub fn is_caused(
 ) -> Result<bool, AllocError>
     ensures { IfOk result (λ yes. IsTrue yes ↔ IsCaused shape.now (journals_in journals.now) node r.now) }
 {
-    let own = journal_at(journals, node.0);
     match r {
         Record::Genesis { .. } => Ok(true),
         Record::Start { .. } => Ok(true),
-        Record::Prepare { stamp, .. } => Ok(is_stamped(*stamp, own, Stamp(0))),
+        Record::Prepare { stamp, .. } => {
+            Ok(is_stamped(*stamp, journal_at(journals, node.0), Stamp(0)))
+        }
         Record::Lock {
             stamp,
             batch,
@@ -157,40 +184,17 @@ pub fn is_caused(
             stamp,
             batch,
             decisions,
-        } => is_finish_caused(
-            alloc,
-            journals,
-            shape,
-            node,
-            *stamp,
-            batch,
-            decisions.as_slice(),
-        ),
-        Record::Discard { stamp, batch } => Ok(
-            all_have(journals, shape, RecordKind::Finish as u64, batch)
-                && is_stamped(
-                    *stamp,
-                    own,
-                    last_of(journals, shape, RecordKind::Finish as u64, batch),
-                ),
-        ),
-        Record::Forget { stamp, batch } => {
-            match record_of(
-                RecordKind::Discard as u64,
-                home_journal(journals, shape, batch),
-                batch,
-            ) {
-                Some(cause) => Ok(is_stamped(*stamp, own, stamp_of(cause))),
-                None => Ok(false),
-            }
+        } => Ok(is_finish_caused(journals, shape, node, *stamp, batch, decisions.as_slice())),
+        Record::Discard { stamp, batch } => {
+            let kind = RecordKind::Finish as u64;
+            Ok(is_behind_all(journals, shape, node, *stamp, kind, batch))
         }
-        Record::Done { stamp, batch } => Ok(
-            all_have(journals, shape, RecordKind::Forget as u64, batch)
-                && is_stamped(
-                    *stamp,
-                    own,
-                    last_of(journals, shape, RecordKind::Forget as u64, batch),
-                ),
-        ),
+        Record::Forget { stamp, batch } => {
+            Ok(is_forget_caused(journals, shape, node, *stamp, batch))
+        }
+        Record::Done { stamp, batch } => {
+            let kind = RecordKind::Forget as u64;
+            Ok(is_behind_all(journals, shape, node, *stamp, kind, batch))
+        }
     }
 }

@@ -4,29 +4,26 @@ ghost use Rattle.plain_check.specs.Journals.{journals_in};
 ghost use Rattle.plain_check.specs.Choices.{ends_of, each_before, choices};
 
 use crate::adding::journal_of;
-use crate::copy_of_records;
+use crate::copying::{put, put_copy, with_front};
 use cbdc_types::{List, Record};
 use same_records::is_journal;
 use std::alloc::{AllocError, Global};
 
-// Puts a journal and what it was before each of its records behind those so far.
-fn add_ends(alloc: Global, past: &[Record], out: &mut Vec<List<Record>>) -> Result<(), AllocError>
-    ensures { OnOk result (out.new.items ≡ out.old.items ++ ends_of past.now) }
+// Puts copies of journals behind those so far.
+fn add_copies(
+    alloc: Global,
+    journals: &[List<Record>],
+    out: &mut Vec<List<Record>>,
+) -> Result<(), AllocError>
+    ensures { OnOk result (out.new.items ≡ out.old.items ++ journals.now) }
 {
-    out.push(copy_of_records(alloc, past)?)?;
-    match past.split_first() {
+    match journals.split_first() {
         None => Ok(()),
-        Some((_, rest)) => add_ends(alloc, rest, out),
+        Some((first, rest)) => {
+            put_copy(alloc, first.as_slice(), out)?;
+            add_copies(alloc, rest, out)
+        }
     }
-}
-
-/// A journal and what it was before each of its records.
-pub fn ends_of(alloc: Global, past: &[Record]) -> Result<List<List<Record>>, AllocError>
-    ensures { IfOk result (λ l. l ≡ ends_of past.now) }
-{
-    let mut out = Vec::new(alloc);
-    add_ends(alloc, past, &mut out)?;
-    Ok(List::from_vec(out))
 }
 
 // A journal in front of others, all copied.
@@ -38,24 +35,9 @@ fn with_journal(
     ensures { IfOk result (λ l. l ≡ first.now ∷ others.now) }
 {
     let mut all = Vec::new(alloc);
-    all.push(copy_of_records(alloc, first)?)?;
+    put_copy(alloc, first, &mut all)?;
     add_copies(alloc, others, &mut all)?;
     Ok(List::from_vec(all))
-}
-
-// Puts copies of journals behind those so far.
-fn add_copies(
-    alloc: Global,
-    journals: &[List<Record>],
-    out: &mut Vec<List<Record>>,
-) -> Result<(), AllocError>
-    ensures { OnOk result (out.new.items ≡ out.old.items ++ journals.now) }
-{
-    let Some((first, rest)) = journals.split_first() else {
-        return Ok(());
-    };
-    out.push(copy_of_records(alloc, first.as_slice())?)?;
-    add_copies(alloc, rest, out)
 }
 
 // Puts a journal in front of each of those, behind what there is.
@@ -67,27 +49,42 @@ fn add_before(
 ) -> Result<(), AllocError>
     ensures { OnOk result (out.new.items ≡ out.old.items ++ map (λ w. first.now ∷ w) others.now) }
 {
-    let Some((world, rest)) = others.split_first() else {
-        return Ok(());
-    };
-    out.push(with_journal(alloc, first, world.as_slice())?)?;
-    add_before(alloc, first, rest, out)
+    match others.split_first() {
+        None => Ok(()),
+        Some((world, rest)) => {
+            put(out, with_journal(alloc, first, world.as_slice())?)?;
+            add_before(alloc, first, rest, out)
+        }
+    }
 }
 
-// Puts each of these journals in front of each of those, behind what there is.
-fn add_each_before(
+// Puts a journal, and what it was before each of its records, in front of each of those, behind what there is.
+fn add_ends_before(
     alloc: Global,
-    firsts: &[List<Record>],
+    past: &[Record],
     others: &[List<List<Record>>],
     out: &mut Vec<List<List<Record>>>,
 ) -> Result<(), AllocError>
-    ensures { OnOk result (out.new.items ≡ out.old.items ++ each_before firsts.now others.now) }
+    ensures { OnOk result (out.new.items ≡ out.old.items ++ each_before (ends_of past.now) others.now) }
 {
-    let Some((first, rest)) = firsts.split_first() else {
-        return Ok(());
-    };
-    add_before(alloc, first.as_slice(), others, out)?;
-    add_each_before(alloc, rest, others, out)
+    add_before(alloc, past, others, out)?;
+    match past.split_first() {
+        None => Ok(()),
+        Some((_, rest)) => add_ends_before(alloc, rest, others, out),
+    }
+}
+
+// A journal, and what it was before each of its records, in front of each of those.
+fn ends_before(
+    alloc: Global,
+    past: &[Record],
+    others: &[List<List<Record>>],
+) -> Result<List<List<List<Record>>>, AllocError>
+    ensures { IfOk result (λ l. l ≡ each_before (ends_of past.now) others.now) }
+{
+    let mut out = Vec::new(alloc);
+    add_ends_before(alloc, past, others, &mut out)?;
+    Ok(List::from_vec(out))
 }
 
 /// All journals of these nodes that those given may have been once.
@@ -97,15 +94,13 @@ pub fn choices_of(
 ) -> Result<List<List<List<Record>>>, AllocError>
     ensures { IfOk result (λ l. l ≡ choices journals.now) }
 {
-    let mut out = Vec::new(alloc);
-    let Some((first, rest)) = journals.split_first() else {
-        out.push(List::new(alloc))?;
-        return Ok(List::from_vec(out));
-    };
-    let others = choices_of(alloc, rest)?;
-    let ends = ends_of(alloc, first.as_slice())?;
-    add_each_before(alloc, ends.as_slice(), others.as_slice(), &mut out)?;
-    Ok(List::from_vec(out))
+    match journals.split_first() {
+        None => with_front(List::new(alloc), List::new(alloc)),
+        Some((first, rest)) => {
+            let others = choices_of(alloc, rest)?;
+            ends_before(alloc, first.as_slice(), others.as_slice())
+        }
+    }
 }
 
 // Whether the nodes below n have the same journals.

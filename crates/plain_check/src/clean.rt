@@ -6,22 +6,25 @@ ghost use Rattle.cbdc_model.specs.Coins.{genesis_tx, tx_coins};
 ghost use Rattle.plain_check.specs.Agreeing.{Agree, coins_in};
 
 use crate::agreeing::{agrees_with, all_agree, all_coins_agree};
-use crate::{coins_of, minted_coins};
+use crate::books::add_made;
+use crate::copying::put_slice;
+use crate::minted_coins;
 use cbdc_types::{FullTx, Input, Output};
 use sentinel::genesis_tx;
 use std::alloc::{AllocError, Global};
 
 // Puts the coins that transactions spend and make behind those so far.
-fn add_coins(alloc: Global, ts: &[FullTx], out: &mut Vec<Input>) -> Result<(), AllocError>
+fn add_coins(ts: &[FullTx], out: &mut Vec<Input>) -> Result<(), AllocError>
     ensures { OnOk result (out.new.items ≡ out.old.items ++ coins_in ts.now) }
 {
-    let Some((t, rest)) = ts.split_first() else {
-        return Ok(());
-    };
-    let made = coins_of(alloc, t)?;
-    out.extend_from_slice(t.inputs.as_slice())?;
-    out.extend_from_slice(made.as_slice())?;
-    add_coins(alloc, rest, out)
+    match ts.split_first() {
+        None => Ok(()),
+        Some((t, rest)) => {
+            put_slice(out, t.inputs.as_slice())?;
+            add_made(t, out)?;
+            add_coins(rest, out)
+        }
+    }
 }
 
 // The coins that a mint and submissions spend and make.
@@ -33,7 +36,7 @@ fn named_coins(
     ensures { IfOk result (λ v. v.items ≡ tx_coins (genesis_tx mint.now) ++ coins_in submissions.now) }
 {
     let mut coins = minted_coins(alloc, mint)?.into_vec();
-    add_coins(alloc, submissions, &mut coins)?;
+    add_coins(submissions, &mut coins)?;
     Ok(coins)
 }
 

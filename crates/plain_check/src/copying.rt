@@ -1,5 +1,5 @@
 // Copies of what was given, and parts of it in lists of their own.
-ghost use Rattle.std.specs.Prelude.{◌≡◌, ◌∷◌, IfOk};
+ghost use Rattle.std.specs.Prelude.{◌≡◌, ◌∷◌, ◌++◌, [], IfOk, OnOk};
 ghost use Rattle.cbdc_model.specs.Replies.{entries, replies};
 
 use cbdc_types::{Answered, CompactTx, Entry, FullTx, List, Record, Reply};
@@ -46,9 +46,20 @@ pub fn copy_of_records(alloc: Global, xs: &[Record]) -> Result<List<Record>, All
 {
     let mut all = Vec::with_capacity(alloc, xs.len())?;
     for x in xs {
-        all.push(copy_of_record(x)?)?;
+        put(&mut all, copy_of_record(x)?)?;
     }
     Ok(List::from_vec(all))
+}
+
+/// Puts a copy of a journal behind those so far.
+pub fn put_copy(
+    alloc: Global,
+    journal: &[Record],
+    out: &mut Vec<List<Record>>,
+) -> Result<(), AllocError>
+    ensures { OnOk result (out.new.items ≡ out.old.items ++ journal.now ∷ []) }
+{
+    put(out, copy_of_records(alloc, journal)?)
 }
 
 /// The replies of answered entries.
@@ -57,7 +68,7 @@ pub fn replies_in(alloc: Global, es: &[Answered]) -> Result<List<Reply>, AllocEr
 {
     let mut all = Vec::with_capacity(alloc, es.len())?;
     for a in es {
-        all.push(a.reply)?;
+        put(&mut all, a.reply)?;
     }
     Ok(List::from_vec(all))
 }
@@ -68,9 +79,24 @@ pub fn entries_in(alloc: Global, es: &[Answered]) -> Result<List<Entry>, AllocEr
 {
     let mut all = Vec::with_capacity(alloc, es.len())?;
     for a in es {
-        all.push(copy_of_entry(&a.entry)?)?;
+        put(&mut all, copy_of_entry(&a.entry)?)?;
     }
     Ok(List::from_vec(all))
+}
+
+/// Puts an item behind those so far.
+pub fn put<T: Drop>(out: &mut Vec<T>, item: T) -> Result<(), AllocError>
+    ensures { OnOk result (out.new.items ≡ out.old.items ++ item ∷ []) }
+{
+    out.push(item)?;
+    Ok(())
+}
+
+/// Puts copies of items behind those so far.
+pub fn put_slice<T: Copy>(out: &mut Vec<T>, items: &[T]) -> Result<(), AllocError>
+    ensures { OnOk result (out.new.items ≡ out.old.items ++ items.now) }
+{
+    out.extend_from_slice(items)
 }
 
 /// An item in front of a list.

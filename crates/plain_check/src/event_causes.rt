@@ -7,17 +7,16 @@ ghost use Rattle.cbdc_model.specs.Causes.{IsCaused};
 ghost use Rattle.cbdc_model.specs.World.{journals, Lock_call, Finish_call, Forget_call, IsConcerned, CauseStands};
 ghost use Rattle.plain_check.specs.Events.{call_in};
 
+use crate::copying::put_copy;
 use crate::events::ShardCall;
+use crate::outcomes::are_decided_by;
 use crate::parts::is_own_part;
-use crate::{
-    Node, copy_of_records, decisions_of, entries_in, is_after, is_caused, journal_in, lock_of,
-    record_of, txs_of,
-};
+use crate::{Node, is_after, is_caused, journal_in, lock_of, record_of, txs_of};
 use cbdc_types::{
     BatchId, FinishCall, ForgetCall, Hash, Header, List, LockCall, NodeId, Record, RecordKind,
     Shape,
 };
-use same_records::{are_decisions, home_of, is_batch, is_concerned};
+use same_records::{home_of, is_batch, is_concerned};
 use std::alloc::{AllocError, Global};
 
 /// The header of a node's journal.
@@ -65,15 +64,8 @@ fn has_lock_cause(nodes: &[Node], shape: &Shape, node: NodeId, call: &LockCall) 
 }
 
 // Whether a Finish's cause stands, with the decisions that the call carries.
-fn has_finish_cause(
-    alloc: Global,
-    nodes: &[Node],
-    shape: &Shape,
-    node: NodeId,
-    call: &FinishCall,
-) -> Result<bool, AllocError>
-    ensures { IfOk result (λ yes. IsTrue yes
-        ↔ CauseStands shape.now (journals nodes.now) node (Finish_call call.now)) }
+fn has_finish_cause(nodes: &[Node], shape: &Shape, node: NodeId, call: &FinishCall) -> bool
+    ensures { IsTrue result ↔ CauseStands shape.now (journals nodes.now) node (Finish_call call.now) }
 {
     match record_of(
         RecordKind::Commit as u64,
@@ -87,14 +79,12 @@ fn has_finish_cause(
                 outcomes,
             },
         ) => {
-            if stamp.0 != call.cause.0 || !is_batch(batch, &call.batch) {
-                return Ok(false);
-            }
-            let part = entries_in(alloc, lock_of(journal_in(nodes, node.0), &call.batch))?;
-            let decided = decisions_of(alloc, outcomes.as_slice(), part.as_slice())?;
-            Ok(are_decisions(call.decisions.as_slice(), decided.as_slice()))
+            let locked = lock_of(journal_in(nodes, node.0), &call.batch);
+            stamp.0 == call.cause.0
+                && is_batch(batch, &call.batch)
+                && are_decided_by(outcomes.as_slice(), locked, call.decisions.as_slice())
         }
-        _ => Ok(false),
+        _ => false,
     }
 }
 
@@ -115,20 +105,13 @@ fn has_forget_cause(nodes: &[Node], shape: &Shape, node: NodeId, call: &ForgetCa
 }
 
 /// Whether the call's cause stands, with the stamp and the part or the decisions that the call carries.
-pub fn has_cause(
-    alloc: Global,
-    nodes: &[Node],
-    shape: &Shape,
-    node: NodeId,
-    call: &ShardCall,
-) -> Result<bool, AllocError>
-    ensures { IfOk result (λ yes. IsTrue yes
-        ↔ CauseStands shape.now (journals nodes.now) node (call_in call.now)) }
+pub fn has_cause(nodes: &[Node], shape: &Shape, node: NodeId, call: &ShardCall) -> bool
+    ensures { IsTrue result ↔ CauseStands shape.now (journals nodes.now) node (call_in call.now) }
 {
     match call {
-        ShardCall::Lock(c) => Ok(has_lock_cause(nodes, shape, node, c)),
-        ShardCall::Finish(c) => has_finish_cause(alloc, nodes, shape, node, c),
-        ShardCall::Forget(c) => Ok(has_forget_cause(nodes, shape, node, c)),
+        ShardCall::Lock(c) => has_lock_cause(nodes, shape, node, c),
+        ShardCall::Finish(c) => has_finish_cause(nodes, shape, node, c),
+        ShardCall::Forget(c) => has_forget_cause(nodes, shape, node, c),
     }
 }
 
@@ -138,7 +121,7 @@ fn journals_of(alloc: Global, nodes: &[Node]) -> Result<List<List<Record>>, Allo
 {
     let mut all = Vec::with_capacity(alloc, nodes.len())?;
     for own in nodes {
-        all.push(copy_of_records(alloc, own.journal.as_slice())?)?;
+        put_copy(alloc, own.journal.as_slice(), &mut all)?;
     }
     Ok(List::from_vec(all))
 }

@@ -1,9 +1,9 @@
 // Which record may come next at a node, by its journal alone.
 ghost use Rattle.std.specs.Prelude.{◌≡◌, ◌<◌, ◌↔◌, List as Items, [], IsTrue, IfOk};
-ghost use Rattle.cbdc_model.specs.Records.{Compact, Prepare, last_stamp};
+ghost use Rattle.cbdc_model.specs.Records.{Compact, Prepare, last_stamp, lock_of};
 ghost use Rattle.cbdc_model.specs.Ranges.{home_of};
 ghost use Rattle.cbdc_model.specs.Replies.{answered, entries};
-ghost use Rattle.cbdc_model.specs.Slots.{slot, Idle};
+ghost use Rattle.cbdc_model.specs.Slots.{slot, Idle, InLock};
 ghost use Rattle.cbdc_model.specs.After.{FitsReplies, Follows, After};
 ghost use Rattle.plain_check.specs.Slots.{phase_in};
 
@@ -80,11 +80,27 @@ fn is_next_prepare(h: &Header, past: &[Record], stamp: Stamp, batch: &BatchId) -
         && own.number == batch.number - 1
 }
 
-// Whether this lane is one of the header's node.
-fn is_own_lane(h: &Header, batch: &BatchId) -> bool
-    ensures { IsTrue result ↔ (h.now.node ≡ home_of h.now.shape batch.now.lane) }
+// Whether a record behind this batch's Prepare may come next, where the lane's last record is in this phase.
+fn is_next_own(h: &Header, past: &[Record], stamp: Stamp, batch: &BatchId, phase: Phase) -> bool
+    ensures { IsTrue result ↔ ((last_stamp past.now < stamp)
+        × (h.now.node ≡ home_of h.now.shape batch.now.lane)
+        × ((slot past.now batch.now.lane).phase ≡ phase_in phase)
+        × ((slot past.now batch.now.lane).number ≡ batch.now.number)) }
 {
-    h.node.0 == home_of(&h.shape, batch.lane).0
+    is_newer(past, stamp)
+        && h.node.0 == home_of(&h.shape, batch.lane).0
+        && is_in(past, batch, phase)
+}
+
+// Whether a Finish of this batch may come next.
+fn is_next_finish(past: &[Record], stamp: Stamp, batch: &BatchId, decisions: &[bool]) -> bool
+    ensures { IsTrue result ↔ ((last_stamp past.now < stamp) × ((slot past.now batch.now.lane).phase ≡ InLock)
+        × ((slot past.now batch.now.lane).number ≡ batch.now.number)
+        × FitsReplies (lock_of past.now batch.now) decisions.now) }
+{
+    is_newer(past, stamp)
+        && is_in(past, batch, Phase::InLock)
+        && fits_replies(lock_of(past, batch), decisions)
 }
 
 /// Whether a record follows the journal of the node with this header, by the phases of its lane.
@@ -108,11 +124,7 @@ pub fn follows(alloc: Global, h: &Header, past: &[Record], r: &Record) -> Result
             stamp,
             batch,
             decisions,
-        } => Ok(
-            is_newer(past, *stamp)
-                && is_in(past, batch, Phase::InLock)
-                && fits_replies(lock_of(past, batch), decisions.as_slice()),
-        ),
+        } => Ok(is_next_finish(past, *stamp, batch, decisions.as_slice())),
         Record::Forget { stamp, batch } => {
             Ok(is_newer(past, *stamp) && is_in(past, batch, Phase::InFinish))
         }
@@ -122,17 +134,15 @@ pub fn follows(alloc: Global, h: &Header, past: &[Record], r: &Record) -> Result
             batch,
             outcomes,
         } => Ok(
-            is_newer(past, *stamp)
-                && is_own_lane(h, batch)
-                && is_in(past, batch, Phase::InPrepare)
+            is_next_own(h, past, *stamp, batch, Phase::InPrepare)
                 && outcomes.len() == txs_of(past, batch).len(),
         ),
-        Record::Discard { stamp, batch } => Ok(
-            is_newer(past, *stamp) && is_own_lane(h, batch) && is_in(past, batch, Phase::InCommit),
-        ),
-        Record::Done { stamp, batch } => Ok(
-            is_newer(past, *stamp) && is_own_lane(h, batch) && is_in(past, batch, Phase::InDiscard),
-        ),
+        Record::Discard { stamp, batch } => {
+            Ok(is_next_own(h, past, *stamp, batch, Phase::InCommit))
+        }
+        Record::Done { stamp, batch } => {
+            Ok(is_next_own(h, past, *stamp, batch, Phase::InDiscard))
+        }
     }
 }
 

@@ -1,7 +1,7 @@
 // The committed transactions as they were handed in.
-ghost use Rattle.std.specs.Prelude.{◌≡◌, List as Items, None, Some, IfOk, MatchOption};
-ghost use Rattle.cbdc_model.specs.Coins.{FullTx as ModelTx};
-ghost use Rattle.cbdc_model.specs.History.{first_with, AreHandedIn, AreCommitted};
+ghost use Rattle.std.specs.Prelude.{◌≡◌, ◌∷◌, List as Items, None, Some, IfOk, MatchOption};
+ghost use Rattle.cbdc_model.specs.Coins.{FullTx as ModelTx, compact};
+ghost use Rattle.cbdc_model.specs.History.{first_with, same_compact, AreHandedIn, AreCommitted};
 
 use crate::copying::{copy_of_full, with_front};
 use crate::history::{Row, committed_compact};
@@ -9,6 +9,14 @@ use cbdc_types::{CompactTx, FullTx, List};
 use same_records::is_same_compact;
 use sentinel::compact;
 use std::alloc::{AllocError, Global};
+
+// Whether a transaction has a compact form.
+fn has_form(alloc: Global, t: &FullTx, k: &CompactTx) -> Result<bool, AllocError>
+    ensures { IfOk result (λ yes. yes ≡ same_compact (compact t.now) k.now) }
+{
+    let own = compact(alloc, t)?;
+    Ok(is_same_compact(&own, k))
+}
 
 /// The first submission with a compact form.
 pub fn first_with<'a>(
@@ -22,7 +30,7 @@ pub fn first_with<'a>(
     let Some((t, rest)) = submissions.split_first() else {
         return Ok(None);
     };
-    if is_same_compact(&compact(alloc, t)?, k) {
+    if has_form(alloc, t, k)? {
         return Ok(Some(t));
     }
     first_with(alloc, rest, k)
@@ -43,10 +51,17 @@ fn handed_in(
     let Some(t) = first_with(alloc, submissions, k)? else {
         return Ok(None);
     };
-    let Some(more) = handed_in(alloc, submissions, rest)? else {
-        return Ok(None);
-    };
-    Ok(Some(with_front(copy_of_full(t)?, more)?))
+    match handed_in(alloc, submissions, rest)? {
+        None => Ok(None),
+        Some(more) => Ok(Some(with_copy(t, more)?)),
+    }
+}
+
+// A copy of a transaction in front of others.
+fn with_copy(t: &FullTx, more: List<FullTx>) -> Result<List<FullTx>, AllocError>
+    ensures { IfOk result (λ l. l ≡ t.now ∷ more) }
+{
+    with_front(copy_of_full(t)?, more)
 }
 
 /// The committed transactions of a history, in the order of their Commits, each the first submission with its compact

@@ -2,9 +2,9 @@
 ghost use Rattle.std.specs.Prelude.{◌≡◌, ◌↔◌, ◌++◌, IsTrue, IfOk, OnOk};
 ghost use Rattle.cbdc_model.specs.Records.{journal};
 ghost use Rattle.cbdc_model.specs.Outcomes.{won_txs};
-ghost use Rattle.cbdc_model.specs.History.{goes_above, IsOrdered, committed};
+ghost use Rattle.cbdc_model.specs.History.{goes_above, IsOrdered, newly_won, committed};
 
-use crate::copying::{copy_of_compact, copy_of_record};
+use crate::copying::{copy_of_compact, copy_of_record, put};
 use crate::records::{stamp_of, txs_of};
 use cbdc_types::{CompactTx, List, NodeId, Outcome, Record};
 use same_records::is_won;
@@ -52,13 +52,15 @@ pub fn is_ordered(rows: &[Row]) -> bool
 fn add_journal(node: usize, rows: &[Row], out: &mut Vec<Record>) -> Result<(), AllocError>
     ensures { OnOk result (out.new.items ≡ out.old.items ++ journal node rows.now) }
 {
-    let Some((row, past)) = rows.split_first() else {
-        return Ok(());
-    };
-    if row.node.0 as usize == node {
-        out.push(copy_of_record(&row.what)?)?;
+    match rows.split_first() {
+        None => Ok(()),
+        Some((row, past)) => {
+            if row.node.0 as usize == node {
+                put(out, copy_of_record(&row.what)?)?;
+            }
+            add_journal(node, past, out)
+        }
     }
-    add_journal(node, past, out)
 }
 
 /// The journal, newest first, of the node with a number, of a history.
@@ -89,33 +91,51 @@ fn add_won(
 ) -> Result<(), AllocError>
     ensures { OnOk result (out.new.items ≡ out.old.items ++ won_txs txs.now outcomes.now) }
 {
-    let (Some((t, others)), Some((o, rest))) = (txs.split_first(), outcomes.split_first()) else {
-        return Ok(());
-    };
-    if is_won(o) {
-        out.push(copy_of_compact(t)?)?;
+    match (txs.split_first(), outcomes.split_first()) {
+        (Some((t, others)), Some((o, rest))) => {
+            if is_won(o) {
+                put(out, copy_of_compact(t)?)?;
+            }
+            add_won(others, rest, out)
+        }
+        _ => Ok(()),
     }
-    add_won(others, rest, out)
 }
 
 // Puts the committed transactions of a history behind those so far.
 fn add_committed(alloc: Global, rows: &[Row], out: &mut Vec<CompactTx>) -> Result<(), AllocError>
     ensures { OnOk result (out.new.items ≡ out.old.items ++ committed rows.now) }
 {
-    let Some((row, past)) = rows.split_first() else {
-        return Ok(());
-    };
-    add_committed(alloc, past, out)?;
-    let Record::Commit {
-        batch,
-        outcomes,
-        ..
-    } = &row.what
-    else {
-        return Ok(());
-    };
-    let own = journal_of(alloc, row.node, past)?;
-    add_won(txs_of(own.as_slice(), batch), outcomes.as_slice(), out)
+    match rows.split_first() {
+        None => Ok(()),
+        Some((row, past)) => {
+            add_committed(alloc, past, out)?;
+            add_won_by(alloc, row, past, out)
+        }
+    }
+}
+
+// Puts the transactions that a row commits, on top of older ones, behind those so far.
+fn add_won_by(
+    alloc: Global,
+    row: &Row,
+    past: &[Row],
+    out: &mut Vec<CompactTx>,
+) -> Result<(), AllocError>
+    ensures { OnOk result (out.new.items
+        ≡ out.old.items ++ newly_won row.now.what (journal row.now.node past.now)) }
+{
+    match &row.what {
+        Record::Commit {
+            batch,
+            outcomes,
+            ..
+        } => {
+            let own = journal_of(alloc, row.node, past)?;
+            add_won(txs_of(own.as_slice(), batch), outcomes.as_slice(), out)
+        }
+        _ => Ok(()),
+    }
 }
 
 /// The committed compact transactions of a history, in the order of their Commits, the oldest first.

@@ -1,21 +1,24 @@
 // Whether a history is kept: each row follows its node's journal and is caused by the rows before it.
-ghost use Rattle.std.specs.Prelude.{◌≡◌, ◌↔◌, ◌++◌, ◌≤◌, IsTrue, IfOk, OnOk};
+ghost use Rattle.std.specs.Prelude.{◌≡◌, ◌↔◌, ◌+◌, ◌++◌, ◌∷◌, [], ◌≤◌, ℕ, IsTrue, IfOk, OnOk};
 ghost use Rattle.cbdc_model.specs.Records.{journal};
 ghost use Rattle.cbdc_model.specs.After.{After};
+ghost use Rattle.cbdc_model.specs.Causes.{IsCaused};
 ghost use Rattle.cbdc_model.specs.History.{starts, geneses, first_rows, header_of, IsSteady, TxsPass, IsKept};
 ghost use Rattle.cbdc_model.specs.Clean.{IsProperCompact};
 ghost use Rattle.cbdc_model.specs.Coins.{compact, genesis_tx};
 ghost use Rattle.plain_check.specs.Minting.{compact_mint};
 
+use crate::copying::put;
+use crate::event_causes::header_at;
 use crate::proper::passes;
 use crate::{Row, copy_of_record, is_after, is_caused_at, journal_of};
-use cbdc_types::{CompactTx, FullTx, Hash, Header, List, NodeId, Output, Record, Shape};
+use cbdc_types::{CompactTx, FullTx, Hash, List, NodeId, Output, Record, Shape};
 use same_records::hashes_on;
 use sentinel::{compact, genesis_tx};
 use std::alloc::{AllocError, Global};
 
-/// A copy of a row.
-pub fn copy_of_row(row: &Row) -> Result<Row, AllocError>
+// A copy of a row.
+fn copy_of_row(row: &Row) -> Result<Row, AllocError>
     ensures { IfOk result (λ t. t ≡ row.now) }
 {
     Ok(Row {
@@ -24,15 +27,24 @@ pub fn copy_of_row(row: &Row) -> Result<Row, AllocError>
     })
 }
 
+/// Puts a copy of a row behind those so far.
+pub fn add_row(row: &Row, out: &mut Vec<Row>) -> Result<(), AllocError>
+    ensures { OnOk result (out.new.items ≡ out.old.items ++ row.now ∷ []) }
+{
+    put(out, copy_of_row(row)?)
+}
+
 /// Puts copies of rows behind those so far.
 pub fn add_rows(rows: &[Row], out: &mut Vec<Row>) -> Result<(), AllocError>
     ensures { OnOk result (out.new.items ≡ out.old.items ++ rows.now) }
 {
-    let Some((row, rest)) = rows.split_first() else {
-        return Ok(());
-    };
-    out.push(copy_of_row(row)?)?;
-    add_rows(rest, out)
+    match rows.split_first() {
+        None => Ok(()),
+        Some((row, rest)) => {
+            add_row(row, out)?;
+            add_rows(rest, out)
+        }
+    }
 }
 
 /// Rows with older ones below them.
@@ -53,17 +65,6 @@ pub fn minted_of(alloc: Global, mint: &[Output]) -> Result<CompactTx, AllocError
     compact(alloc, &whole)
 }
 
-// The header of a node's journal.
-fn header_of(shape: &Shape, genesis: &Hash, node: NodeId) -> Header
-    ensures { result ≡ header_of shape.now genesis.now node }
-{
-    Header {
-        node,
-        shape: *shape,
-        genesis: *genesis,
-    }
-}
-
 // Puts the first rows of the coordinators below n behind those so far.
 fn add_starts(shape: &Shape, mint: &CompactTx, n: u32, out: &mut Vec<Row>) -> Result<(), AllocError>
     ensures { OnOk result (out.new.items ≡ out.old.items ++ starts shape.now (compact_mint mint.now) n) }
@@ -72,11 +73,14 @@ fn add_starts(shape: &Shape, mint: &CompactTx, n: u32, out: &mut Vec<Row>) -> Re
         return Ok(());
     }
     let node = NodeId(n - 1);
-    let header = header_of(shape, &mint.id, node);
-    out.push(Row {
-        node,
-        what: Record::Start { header },
-    })?;
+    let header = header_at(shape, &mint.id, node);
+    put(
+        out,
+        Row {
+            node,
+            what: Record::Start { header },
+        },
+    )?;
     add_starts(shape, mint, n - 1, out)
 }
 
@@ -95,12 +99,15 @@ fn add_geneses(
         return Ok(());
     }
     let node = NodeId(shape.coordinators() + (n - 1));
-    let header = header_of(shape, &mint.id, node);
+    let header = header_at(shape, &mint.id, node);
     let hashes = hashes_on(alloc, shape.shards(), n - 1, mint.outputs.as_slice())?;
-    out.push(Row {
-        node,
-        what: Record::Genesis { header, hashes },
-    })?;
+    put(
+        out,
+        Row {
+            node,
+            what: Record::Genesis { header, hashes },
+        },
+    )?;
     add_geneses(alloc, shape, mint, n - 1, out)
 }
 
@@ -140,12 +147,33 @@ fn may_come(
         ↔ (After (header_of shape.now genesis.now row.now.node) (journal row.now.node past.now) row.now.what
         × TxsPass (IsProperCompact submissions.now) row.now.what)) }
 {
-    let header = header_of(shape, genesis, row.node);
+    let header = header_at(shape, genesis, row.node);
     let own = journal_of(alloc, row.node, past)?;
     if !is_after(alloc, &header, own.as_slice(), &row.what)? {
         return Ok(false);
     }
     passes(alloc, submissions, &row.what)
+}
+
+// Whether a row stands on top of a history: it may come, and is caused.
+fn may_stand(
+    alloc: Global,
+    shape: &Shape,
+    genesis: &Hash,
+    submissions: &[FullTx],
+    past: &[Row],
+    row: &Row,
+) -> Result<bool, AllocError>
+    requires { (n : ℕ) → shape.now.coordinators + shape.now.shards ≤ n → journal n past.now ≡ [] }
+    ensures { IfOk result (λ yes. IsTrue yes
+        ↔ ((After (header_of shape.now genesis.now row.now.node) (journal row.now.node past.now) row.now.what
+        × TxsPass (IsProperCompact submissions.now) row.now.what)
+        × IsCaused shape.now (λ n. journal n past.now) row.now.node row.now.what)) }
+{
+    if !may_come(alloc, shape, genesis, submissions, past, row)? {
+        return Ok(false);
+    }
+    is_caused_at(alloc, shape, past, row)
 }
 
 // Whether rows on top of the first ones are steady.
@@ -168,11 +196,7 @@ fn is_steady(
         return Ok(false);
     }
     let rows = rows_on(alloc, rest, first)?;
-    let past = rows.as_slice();
-    if !may_come(alloc, shape, &mint.id, submissions, past, row)? {
-        return Ok(false);
-    }
-    is_caused_at(alloc, shape, past, row)
+    may_stand(alloc, shape, &mint.id, submissions, rows.as_slice(), row)
 }
 
 /// Whether the rows on top of a ledger's first ones are kept: each follows its node's journal and is caused by the rows

@@ -1,5 +1,5 @@
 // Whether journals have a kept history.
-ghost use Rattle.std.specs.Prelude.{◌≡◌, ◌↔◌, ◌++◌, ◌<◌, ◌≤◌, ℕ, List as Items, [], length, Some, IsTrue, IfOk, IfSome, OnOk};
+ghost use Rattle.std.specs.Prelude.{◌≡◌, ◌↔◌, ◌+◌, ◌++◌, ◌<◌, ◌≤◌, ℕ, List as Items, [], length, Some, IsTrue, IfOk, IfSome, OnOk};
 ghost use Rattle.cbdc_model.specs.Records.{Row as ModelRow, journal};
 ghost use Rattle.cbdc_model.specs.History.{minted, first_rows, history_of};
 ghost use Rattle.cbdc_model.specs.World.{IsHistory, KeptJournals};
@@ -9,7 +9,7 @@ ghost use Rattle.plain_check.specs.Merging.{put_row, put_records, behind_first, 
 ghost use Rattle.plain_check.specs.Minting.{compact_mint};
 
 use crate::history::journal_at_number;
-use crate::kept::{add_rows, copy_of_row, is_kept, minted_of, on_first};
+use crate::kept::{add_row, add_rows, is_kept, minted_of, on_first};
 use crate::{Row, copy_of_record, goes_above, is_ordered, journal_at};
 use cbdc_types::{CompactTx, FullTx, List, NodeId, Output, Record, Shape};
 use same_records::is_journal;
@@ -65,6 +65,17 @@ fn are_journals_below(
     are_journals_below(alloc, rows, journals, n - 1)
 }
 
+// Whether these are the journals of all nodes in the rows.
+fn are_journals(alloc: Global, rows: &[Row], journals: &[List<Record>]) -> Result<bool, AllocError>
+    ensures { IfOk result (λ yes. IsTrue yes
+        ↔ ((n : ℕ) → journal n rows.now ≡ journals_in journals.now n)) }
+{
+    if !are_below(rows, journals.len()) {
+        return Ok(false);
+    }
+    are_journals_below(alloc, rows, journals, journals.len())
+}
+
 /// Whether rows on top of a ledger's first ones are the history of these journals: all their records by stamp and node.
 /// The mint is given as a compact transaction.
 pub fn is_history(
@@ -81,26 +92,34 @@ pub fn is_history(
         return Ok(false);
     }
     let rows = on_first(alloc, shape, mint, later)?;
-    if !are_below(rows.as_slice(), journals.len()) {
-        return Ok(false);
-    }
-    are_journals_below(alloc, rows.as_slice(), journals, journals.len())
+    are_journals(alloc, rows.as_slice(), journals)
 }
 
 // Puts rows with one more in its place behind those so far.
 fn add_with(row: &Row, rows: &[Row], out: &mut Vec<Row>) -> Result<(), AllocError>
     ensures { OnOk result (out.new.items ≡ out.old.items ++ put_row row.now rows.now) }
 {
-    let Some((head, later)) = rows.split_first() else {
-        out.push(copy_of_row(row)?)?;
-        return Ok(());
-    };
-    if goes_above(row, head) {
-        out.push(copy_of_row(row)?)?;
-        return add_rows(rows, out);
+    match rows.split_first() {
+        None => add_row(row, out),
+        Some((head, later)) => {
+            if goes_above(row, head) {
+                add_row(row, out)?;
+                add_rows(rows, out)
+            } else {
+                add_row(head, out)?;
+                add_with(row, later, out)
+            }
+        }
     }
-    out.push(copy_of_row(head)?)?;
-    add_with(row, later, out)
+}
+
+// Rows with one more in its place.
+fn with_row(alloc: Global, row: &Row, rows: &[Row]) -> Result<List<Row>, AllocError>
+    ensures { IfOk result (λ l. l ≡ put_row row.now rows.now) }
+{
+    let mut out = Vec::new(alloc);
+    add_with(row, rows, &mut out)?;
+    Ok(List::from_vec(out))
 }
 
 // Rows with a node's record among them.
@@ -116,9 +135,7 @@ fn with_record(
         node,
         what: copy_of_record(r)?,
     };
-    let mut out = Vec::new(alloc);
-    add_with(&row, rows, &mut out)?;
-    Ok(List::from_vec(out))
+    with_row(alloc, &row, rows)
 }
 
 // Rows with a node's records among them.
@@ -219,9 +236,29 @@ fn is_history_of(
     is_history(alloc, shape, &own, journals, later)
 }
 
+// Whether journals have a kept history, by the records behind their oldest ones in the order of a history.
+#[tactic(auto, using(crate::proofs::Keeping::kept_history, crate::proofs::Keeping::kept_rows, crate::proofs::Keeping::kept_by_history))]
+fn is_kept_by(
+    alloc: Global,
+    shape: &Shape,
+    mint: &[Output],
+    submissions: &[FullTx],
+    journals: &[List<Record>],
+    later: &[Row],
+) -> Result<bool, AllocError>
+    requires { later.now ≡ later_below (journals_in journals.now)
+        (shape.now.coordinators + shape.now.shards) }
+    ensures { IfOk result (λ yes. IsTrue yes
+        ↔ KeptJournals shape.now mint.now submissions.now (journals_in journals.now)) }
+{
+    if !is_history_of(alloc, shape, mint, journals, later)? {
+        return Ok(false);
+    }
+    is_kept(alloc, shape, mint, submissions, later)
+}
+
 /// Whether journals, of which the newest record is the first, have a kept history: their records by stamp and node, each
 /// behind those of its journal and caused by those before it, and Prepares with forms of proper submissions alone.
-#[tactic(auto, using(crate::proofs::Keeping::kept_history, crate::proofs::Keeping::kept_rows, crate::proofs::Keeping::kept_by_history))]
 pub fn is_kept_ledger(
     alloc: Global,
     shape: &Shape,
@@ -233,8 +270,5 @@ pub fn is_kept_ledger(
         ↔ KeptJournals shape.now mint.now submissions.now (journals_in journals.now)) }
 {
     let later = later_below(alloc, journals, shape.node_count())?;
-    if !is_history_of(alloc, shape, mint, journals, later.as_slice())? {
-        return Ok(false);
-    }
-    is_kept(alloc, shape, mint, submissions, later.as_slice())
+    is_kept_by(alloc, shape, mint, submissions, journals, later.as_slice())
 }

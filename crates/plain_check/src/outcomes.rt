@@ -1,14 +1,14 @@
 // The outcome of a transaction over its shards.
-ghost use Rattle.std.specs.Prelude.{◌≡◌, ◌+◌, ◌<◌, ◌≤◌, ◌^◌, ◌++◌, IfOk, OnOk, length};
+ghost use Rattle.std.specs.Prelude.{◌≡◌, ◌↔◌, ◌+◌, ◌<◌, ◌≤◌, ◌^◌, ◌++◌, IsTrue, IfOk, OnOk, length};
 ghost use Rattle.cbdc_model.specs.Records.{entries_in, lock_kind};
 ghost use Rattle.cbdc_model.specs.Outcomes.{reply_at, outcome_by, outcome, outcomes, won_at, decisions};
 ghost use Rattle.cbdc_model.specs.Causes.{at_shards};
+ghost use Rattle.cbdc_model.specs.Replies.{entries};
 ghost use Rattle.plain_check.specs.Journals.{journals_in};
 
+use crate::copying::put;
 use crate::records::lock_of;
-use cbdc_types::{
-    Answered, BatchId, CompactTx, Decisions, Entry, List, Outcome, Outcomes, Record, Reply, Shape,
-};
+use cbdc_types::{Answered, BatchId, CompactTx, List, Outcome, Outcomes, Record, Reply, Shape};
 use same_records::is_won;
 use std::alloc::{AllocError, Global};
 
@@ -111,11 +111,13 @@ fn add_outcomes(
     ensures { OnOk result (out.new.items ≡ out.old.items ++ outcomes (λ s. entries_in (at_shards shape.now
         (journals_in journals.now) lock_kind batch.now s)) shape.now.shards place txs.now) }
 {
-    let Some((_, rest)) = txs.split_first() else {
-        return Ok(());
-    };
-    out.push(outcome_of(journals, shape, batch, place))?;
-    add_outcomes(journals, shape, batch, place + 1, rest, out)
+    match txs.split_first() {
+        None => Ok(()),
+        Some((_, rest)) => {
+            put(out, outcome_of(journals, shape, batch, place))?;
+            add_outcomes(journals, shape, batch, place + 1, rest, out)
+        }
+    }
 }
 
 /// The outcomes of a batch's transactions by the Locks in these journals of all nodes.
@@ -134,17 +136,15 @@ pub fn outcomes_by_locks(
     Ok(List::from_vec(out))
 }
 
-/// For each entry of a part, whether its transaction is committed.
-pub fn decisions_of(
-    alloc: Global,
-    outcomes: &[Outcome],
-    part: &[Entry],
-) -> Result<Decisions, AllocError>
-    ensures { IfOk result (λ l. l ≡ decisions outcomes.now part.now) }
+/// Whether decisions are, for each entry of a Lock, whether its transaction is committed by these outcomes.
+pub fn are_decided_by(outcomes: &[Outcome], locked: &[Answered], given: &[bool]) -> bool
+    ensures { IsTrue result ↔ (given.now ≡ decisions outcomes.now (entries locked.now)) }
 {
-    let mut all = Vec::with_capacity(alloc, part.len())?;
-    for e in part {
-        all.push(won_at(outcomes, e.place))?;
+    match (locked.split_first(), given.split_first()) {
+        (None, None) => true,
+        (Some((a, others)), Some((d, rest))) => {
+            *d == won_at(outcomes, a.entry.place) && are_decided_by(outcomes, others, rest)
+        }
+        _ => false,
     }
-    Ok(List::from_vec(all))
 }

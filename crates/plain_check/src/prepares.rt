@@ -3,7 +3,7 @@ ghost use Rattle.std.specs.Prelude.{◌≡◌, ◌↔◌, ◌++◌, ◌<◌, IsT
 ghost use Rattle.cbdc_model.specs.Waves.{IsCut, prepared};
 ghost use Rattle.plain_check.specs.Adding.{PreparesInPieces, AddsPieces};
 
-use crate::copy_of_txs;
+use crate::copying::{copy_of_txs, put};
 use cbdc_types::{CompactTx, LaneId, List, Record, Shape};
 use same_records::are_compacts;
 use std::alloc::{AllocError, Global};
@@ -17,15 +17,17 @@ fn add_prepared(
 ) -> Result<(), AllocError>
     ensures { OnOk result (out.new.items ≡ out.old.items ++ prepared lane past.now) }
 {
-    let Some((r, rest)) = past.split_first() else {
-        return Ok(());
-    };
-    if let Record::Prepare { batch, txs, .. } = r {
-        if batch.lane.0 == lane.0 {
-            out.push(copy_of_txs(alloc, txs.as_slice())?)?;
+    match past.split_first() {
+        None => Ok(()),
+        Some((r, rest)) => {
+            if let Record::Prepare { batch, txs, .. } = r {
+                if batch.lane.0 == lane.0 {
+                    put(out, copy_of_txs(alloc, txs.as_slice())?)?;
+                }
+            }
+            add_prepared(alloc, lane, rest, out)
         }
     }
-    add_prepared(alloc, lane, rest, out)
 }
 
 /// The transactions of a lane's Prepares in a journal, the newest first.
@@ -56,7 +58,7 @@ fn add_pieces(
         return Ok(());
     }
     let (piece, rest) = txs.split_at(n.min(txs.len()));
-    out.push(copy_of_txs(alloc, piece)?)?;
+    put(out, copy_of_txs(alloc, piece)?)?;
     add_pieces(alloc, n, rest, out)
 }
 

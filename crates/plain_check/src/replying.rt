@@ -2,7 +2,7 @@
 ghost use Rattle.std.specs.Prelude.{◌≡◌, ◌++◌, [], IfOk, OnOk};
 ghost use Rattle.cbdc_model.specs.Replies.{refusal, reply_to, answered};
 
-use crate::copying::copy_of_entry;
+use crate::copying::{copy_of_entry, put};
 use crate::records::has;
 use crate::status::status_of;
 use cbdc_types::{Answered, BatchId, Entry, Hash, List, Record, Reply, Status};
@@ -65,10 +65,8 @@ fn answer(
         return Ok(());
     };
     let reply = reply_to(past, batch, claimed, e.inputs.as_slice());
-    out.push(Answered {
-        entry: copy_of_entry(e)?,
-        reply,
-    })?;
+    let entry = copy_of_entry(e)?;
+    put(out, Answered { entry, reply })?;
     if is_held(&reply) {
         let more = joined(alloc, e.inputs.as_slice(), claimed)?;
         answer(alloc, past, batch, more.as_slice(), rest, out)

@@ -5,6 +5,7 @@ ghost use Rattle.cbdc_model.specs.Causes.{IsCaused};
 ghost use Rattle.plain_check.specs.Journals.{journals_from};
 
 use crate::caused::is_caused;
+use crate::copying::put;
 use crate::history::{Row, journal_of};
 use cbdc_types::{List, NodeId, Record, Shape};
 use std::alloc::{AllocError, Global};
@@ -23,7 +24,7 @@ fn add_journals(
     if n == 0 {
         return Ok(());
     }
-    out.push(journal_of(alloc, NodeId(node), rows)?)?;
+    put(out, journal_of(alloc, NodeId(node), rows)?)?;
     add_journals(alloc, rows, node + 1, n - 1, out)
 }
 

@@ -7,6 +7,7 @@ ghost use Rattle.cbdc_model.specs.World.{IsUnspent};
 ghost use Rattle.plain_check.specs.Journals.{journals_in};
 ghost use Rattle.plain_check.specs.Named.{entry_hashes, named_hashes, named_below, is_unspent_at, unspent_among};
 
+use crate::copying::{put, put_slice};
 use crate::outcomes::journal_at;
 use crate::records::{has, lock_of};
 use crate::status::status_of;
@@ -30,12 +31,14 @@ fn is_unspent_here(journals: &[List<Record>], shape: &Shape, x: &Hash) -> bool
 fn add_entries(es: &[Answered], out: &mut Vec<Hash>) -> Result<(), AllocError>
     ensures { OnOk result (out.new.items ≡ out.old.items ++ entry_hashes es.now) }
 {
-    let Some((a, rest)) = es.split_first() else {
-        return Ok(());
-    };
-    out.extend_from_slice(a.entry.inputs.as_slice())?;
-    out.extend_from_slice(a.entry.outputs.as_slice())?;
-    add_entries(rest, out)
+    match es.split_first() {
+        None => Ok(()),
+        Some((a, rest)) => {
+            put_slice(out, a.entry.inputs.as_slice())?;
+            put_slice(out, a.entry.outputs.as_slice())?;
+            add_entries(rest, out)
+        }
+    }
 }
 
 // Puts the hashes that a journal's Genesis and Finishes name behind those so far.
@@ -46,7 +49,7 @@ fn add_named(past: &[Record], out: &mut Vec<Hash>) -> Result<(), AllocError>
         return Ok(());
     };
     match r {
-        Record::Genesis { hashes, .. } => out.extend_from_slice(hashes.as_slice())?,
+        Record::Genesis { hashes, .. } => put_slice(out, hashes.as_slice())?,
         Record::Finish { batch, .. } => add_entries(lock_of(rest, batch), out)?,
         _ => {}
     }
@@ -85,7 +88,7 @@ fn add_unspent(
         return Ok(());
     };
     if is_unspent_here(journals, shape, x) && !has(rest, x) {
-        out.push(*x)?;
+        put(out, *x)?;
     }
     add_unspent(journals, shape, rest, out)
 }

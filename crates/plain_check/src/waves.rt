@@ -7,6 +7,7 @@ ghost use Rattle.submissions.specs.Checks.{TellsSound};
 ghost use Rattle.plain_check.specs.Stages.{IsFileStage, AddsStages};
 
 use crate::choices::choices_of;
+use crate::copying::put;
 use crate::stages::{Stage, are_stages};
 use cbdc_types::{FullTx, List, Record, Shape};
 use sentinel::Verifier;
@@ -42,7 +43,7 @@ fn add_stages<V: Verifier>(
     let Some((file, rest)) = files.split_first() else {
         return Ok(());
     };
-    out.push(stage_of(alloc, shape, verifier, file.as_slice())?)?;
+    put(out, stage_of(alloc, shape, verifier, file.as_slice())?)?;
     add_stages(alloc, shape, verifier, rest, out)
 }
 
@@ -65,7 +66,7 @@ pub fn are_waves<V: Verifier>(
         → IsTrue yes ↔ Waves shape.now sound files.now (journals_in entry.now) (journals_in exit.now)) }
 {
     let mut stages = Vec::new(alloc);
-    stages.push(Stage::Resume)?;
+    put(&mut stages, Stage::Resume)?;
     add_stages(alloc, shape, verifier, files, &mut stages)?;
     let worlds = choices_of(alloc, exit)?;
     are_stages(

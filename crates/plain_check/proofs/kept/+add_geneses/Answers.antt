@@ -9,6 +9,6 @@ pub returns : goal.returns
 returns t c =
     let some : 0 < c.args.n = omega arith in
     let step = geneses_step c.args.shape.now (compact_mint c.args.mint.now) c.args.n some in
-    let e : c.push.new.self.items ++ geneses c.args.shape.now (compact_mint c.args.mint.now) (c.args.n - 1)
+    let e : c.put.new.out.items ++ geneses c.args.shape.now (compact_mint c.args.mint.now) (c.args.n - 1)
     ≡ c.args.out.now.items ++ geneses c.args.shape.now (compact_mint c.args.mint.now) c.args.n = grind (arith, common_steps, step) in
     rw (← e) c.add_geneses.ensures

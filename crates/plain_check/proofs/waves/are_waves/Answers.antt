@@ -15,7 +15,7 @@ returns g c =
     let added = c.in_ok-add_stages.ensures in
     let E = journals_in c.args.entry.now in
     let X = journals_in c.args.exit.now in
-    let first : c.push.new.self.items ≡ Resume ∷ [] = c.in_ok-push.ensures.items ∙ ap (λ l. l ++ Resume ∷ []) c.new-stages.ensures.items in
+    let first : c.put.new.out.items ≡ Resume ∷ [] = c.in_ok-put.ensures ∙ ap (λ l. l ++ Resume ∷ []) c.new-stages.ensures.items in
     let all : c.as_slice.result.now ≡ Resume ∷ added.0 = c.as_slice.ensures.value ∙ added.1 ∙ ap (λ l. l ++ added.0) first in
     IfOk-weaker c.are_stages.result (λ told. IsTrue told ↔ RunsBy c.args.shape.now c.as_slice.result.now E X)
     (λ told. (sound : FullTx → Bool) → TellsSound (g.V.Verifier.verdict_of c.args.verifier.now) sound → IsTrue told ↔ Waves c.args.shape.now sound c.args.files.now E X)
