@@ -14,7 +14,7 @@ pub struct Book {
 }
 
 /// What is to be written down: a number, in a lane.
-#[derive(Clone, Copy, Debug)]
+#[derive(Clone, Copy)]
 pub struct Line {
     pub lane: LaneId,
     pub number: u64,

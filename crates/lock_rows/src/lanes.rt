@@ -19,7 +19,33 @@ pub fn point_of(lane: LaneId, when: When) -> Point {
     }
 }
 
-/// Writes the numbers from `first` on, `count` of them, and tells how many were written.
+/// Writes the numbers from `first` on, `count` of them, by a seat that is lent, and tells how many were written.
+pub fn write_lent<R: Wait>(
+    rt: &R,
+    guarded: &Guarded<Book>,
+    seat: &mut Seat<Book>,
+    first: u64,
+    count: u32,
+    gate: &RowGate,
+) -> u32
+    requires seat { IsSeatOf guarded.now seat.old }
+    ensures seat { IsSeatOf guarded.now seat.new }
+{
+    let lane = seat.lane();
+    let at = point_of(lane, When::Before);
+    let mut written = 0u32;
+    for i in 0..count {
+        let mut line = Line {
+            lane,
+            number: first.saturating_add(u64::from(i)),
+        };
+        let done = guarded.call(rt, seat, &mut line, gate, &at);
+        written = written.saturating_add(u32::from(done));
+    }
+    written
+}
+
+/// The same by a seat that is handed over, as to a thread, and given back.
 pub fn write_all<R: Wait>(
     rt: &R,
     guarded: &Guarded<Book>,
@@ -31,17 +57,7 @@ pub fn write_all<R: Wait>(
     requires seat { IsSeatOf guarded.now seat }
     ensures seat { IsSeatOf guarded.now result.0 }
 {
-    let lane = seat.lane();
-    let at = point_of(lane, When::Before);
-    let mut written = 0u32;
-    for i in 0..count {
-        let mut line = Line {
-            lane,
-            number: first.saturating_add(u64::from(i)),
-        };
-        let done = guarded.call(rt, &mut seat, &mut line, gate, &at);
-        written = written.saturating_add(u32::from(done));
-    }
+    let written = write_lent(rt, guarded, &mut seat, first, count, gate);
     (seat, written)
 }
 
