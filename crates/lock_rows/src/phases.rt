@@ -161,6 +161,20 @@ fn are_told(answers: &[Result<Replied, NodeFault>]) -> bool {
     is_held(first) && is_full(second) && is_missing(third, ABSENT)
 }
 
+// Whether three shards answer as they should.
+fn is_answered<R: Threads + Wait + Sync>(
+    rt: &R,
+    alloc: Global,
+    one: &mut ShardNode<PlainDisk>,
+    two: &mut ShardNode<PlainDisk>,
+    three: &mut ShardNode<PlainDisk>,
+) -> bool {
+    match ask_about(rt, alloc, one, two, three) {
+        Some(answers) => are_told(answers.as_slice()),
+        None => false,
+    }
+}
+
 // The row below, with its first two shards given.
 fn third_is_missing<R: Threads + Wait + Sync>(
     rt: &R,
@@ -171,10 +185,7 @@ fn third_is_missing<R: Threads + Wait + Sync>(
     let Some(mut three) = shard_of(alloc, 3, COINS[2], ROOMY) else {
         return false;
     };
-    match ask_about(rt, alloc, one, two, &mut three) {
-        Some(answers) => are_told(answers.as_slice()) && has(&three, 2),
-        None => false,
-    }
+    is_answered(rt, alloc, one, two, &mut three) && has(&three, 2)
 }
 
 // The row below, with its first shard given.

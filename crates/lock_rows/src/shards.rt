@@ -37,7 +37,7 @@ struct Calls {
 }
 
 // Whether a batch's Lock and Finish were done, and what is told of the coin that it makes: before the Finish, behind it, and to another lane at last.
-#[derive(Clone, Copy, Debug, PartialEq, Eq)]
+#[derive(Clone, Copy, PartialEq)]
 struct Told {
     locked: bool,
     finished: bool,
