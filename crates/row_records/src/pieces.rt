@@ -13,6 +13,13 @@ fn put_times(out: &mut Vec<u8>, digits: &str, times: u64, told: &mut Told) {
     }
 }
 
+// Appends `DIGITS*N`, digits so many times, or `DIGITS`.
+fn put_digits(out: &mut Vec<u8>, piece: &str, told: &mut Told) {
+    let (digits, times) = piece.split_once('*').unwrap_or((piece, "1"));
+    let times = told.number_of(times);
+    put_times(out, digits, times, told);
+}
+
 /// Appends a piece: `'TEXT'`, `#N` a number in eight bytes, `DIGITS*N` digits so many times, `DIGITS`.
 pub fn put_piece(out: &mut Vec<u8>, piece: &str, told: &mut Told) {
     if let Some(text) = piece.strip_prefix('\'') {
@@ -21,9 +28,7 @@ pub fn put_piece(out: &mut Vec<u8>, piece: &str, told: &mut Told) {
         let n = told.number_of(digits);
         told.made(put_number(out, n));
     } else {
-        let (digits, times) = piece.split_once('*').unwrap_or((piece, "1"));
-        let times = told.number_of(times);
-        put_times(out, digits, times, told);
+        put_digits(out, piece, told);
     }
 }
 

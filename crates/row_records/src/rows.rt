@@ -36,8 +36,10 @@ fn wrong_of<S: Subject, F: Fn(&mut S, &str, &Block)>(
 ) -> Option<Wrong>
     requires able { (s t b : _) → F.pre step.now s t b }
 {
-    match step_at(alloc, lines, subject.hashes(), case) {
-        Ok(own) => {
+    let mut told = Told::new(alloc);
+    let own = step_at(lines, subject.hashes(), case, &mut told);
+    match told.end() {
+        Ok(()) => {
             step(subject, own.text.as_str(), &own.block);
             subject.take_wrong()
         }
@@ -238,6 +240,26 @@ fn tell_not(report: &mut Told, name: &str, case: &[String]) {
     }
 }
 
+// Does a row in these cases, up to the first in which it does not come to what it says; whether there is none.
+fn cases_hold<S: Subject, F: Fn(&mut S, &str, &Block)>(
+    step: &F,
+    subject: &mut S,
+    part: &Part,
+    cases: &[Vec<String>],
+    report: &mut Told,
+) -> bool
+    requires able { (s t b : _) → F.pre step.now s t b }
+{
+    for case in cases {
+        subject.begin();
+        if !steps(step, subject, part, case, report) {
+            tell_not(report, part.name, case);
+            return false;
+        }
+    }
+    true
+}
+
 // Does a row in each of its cases.
 fn all_cases<S: Subject, F: Fn(&mut S, &str, &Block)>(
     step: &F,
@@ -247,12 +269,9 @@ fn all_cases<S: Subject, F: Fn(&mut S, &str, &Block)>(
 ) -> Came
     requires able { (s t b : _) → F.pre step.now s t b }
 {
-    for case in &cases_of(part.lines, report) {
-        subject.begin();
-        if !steps(step, subject, part, case, report) {
-            tell_not(report, part.name, case);
-            return Came::Failed;
-        }
+    let cases = cases_of(part.lines, report);
+    if !cases_hold(step, subject, part, &cases, report) {
+        return Came::Failed;
     }
     report.put_all(&["ok ", part.name, "\n"]);
     if should_differ(part) {
@@ -390,6 +409,19 @@ fn file<W: Print, S: Subject + Drop, F: Fn(&mut S, &str, &Block)>(
     }
 }
 
+// Does the rows of a text, with a new subject.
+fn of_text<W: Print, S: Subject + Drop, F: Fn(&mut S, &str, &Block)>(
+    rt: &W,
+    step: &F,
+    alloc: Global,
+    text: &str,
+) -> io::Result<Counts>
+    requires able { (s t b : _) → F.pre step.now s t b }
+{
+    let lines = text.lines().collect::<Vec<&str>>(alloc)?;
+    file::<W, S, F>(rt, step, alloc, &lines)
+}
+
 // Does the rows of the file of a name, with a new subject.
 fn named<R: AllocGlobal + Files + Print, S: Subject + Drop, F: Fn(&mut S, &str, &Block)>(
     rt: &R,
@@ -398,11 +430,25 @@ fn named<R: AllocGlobal + Files + Print, S: Subject + Drop, F: Fn(&mut S, &str, 
 ) -> io::Result<Counts>
     requires able { (s t b : _) → F.pre step.now s t b }
 {
-    let alloc = rt.alloc();
     println!(rt; "== {name}")?;
     let text = fs::read_to_string(rt, name)?;
-    let lines = text.lines().collect::<Vec<&str>>(alloc)?;
-    file::<R, S, F>(rt, step, alloc, &lines)
+    of_text::<R, S, F>(rt, step, rt.alloc(), text.as_str())
+}
+
+// Puts those of the program's words that are meant behind others, in order.
+fn put_words<R: AllocGlobal + Env, P: Fn(&str) -> bool>(
+    rt: &R,
+    is_meant: &P,
+    words: &mut Vec<String>,
+) -> io::Result<()>
+    requires able { (s : _) → P.pre is_meant.now s }
+{
+    for word in env::args(rt)?.skip(1) {
+        if is_meant(word.as_str()) {
+            words.push(word)?;
+        }
+    }
+    Ok(())
 }
 
 /// Those of the program's words that are meant, in order.
@@ -413,12 +459,19 @@ pub fn words_where<R: AllocGlobal + Env, P: Fn(&str) -> bool>(
     requires able { (s : _) → P.pre is_meant.now s }
 {
     let mut words = Vec::new(rt.alloc());
-    for word in env::args(rt)?.skip(1) {
-        if is_meant(word.as_str()) {
-            words.push(word)?;
-        }
-    }
+    put_words(rt, is_meant, &mut words)?;
     Ok(words)
+}
+
+// Prints how many rows held, differed and did neither; whether there is none of the last.
+fn print_counts(rt: &impl Print, counts: Counts) -> io::Result<bool> {
+    let Counts {
+        held,
+        differed,
+        failed,
+    } = counts;
+    println!(rt; "{held} rows held, {differed} differed as they should, {failed} did neither")?;
+    Ok(failed == 0)
 }
 
 /// Does the rows of these files, each file with a new subject, and tells the result of each, how many held, how many differed as they should, and
@@ -437,11 +490,5 @@ pub fn run_files<R: AllocGlobal + Files + Print, S: Subject + Drop, F: Fn(&mut S
     for name in names {
         counts.add_all(named::<R, S, F>(rt, step, name.as_str())?);
     }
-    let Counts {
-        held,
-        differed,
-        failed,
-    } = counts;
-    println!(rt; "{held} rows held, {differed} differed as they should, {failed} did neither")?;
-    Ok(failed == 0)
+    print_counts(rt, counts)
 }

@@ -68,6 +68,13 @@ impl Told {
         self.made(done);
     }
 
+    /// Puts a thing behind others, where there is one.
+    pub fn push_some<T: Drop>(&mut self, all: &mut Vec<T>, one: Option<T>) {
+        if let Some(own) = one {
+            self.push(all, own);
+        }
+    }
+
     /// A word, behind a blank where the line goes on.
     pub fn word(&mut self, word: &str) {
         let done = put_word(&mut self.text, word);
@@ -217,13 +224,14 @@ impl Told {
 
     /// The refusal of a transaction.
     pub fn refusal(&mut self, why: &Refusal) {
-        let (word, first, second) = word_of_refusal(why);
-        self.word(word);
-        if let Some(n) = first {
-            self.number(n);
-        }
-        if let Some(n) = second {
-            self.number(n);
+        self.word(word_of_refusal(why));
+        match why {
+            Refusal::RepeatedInput(i) | Refusal::ZeroInput(i) | Refusal::ZeroOutput(i) => {
+                self.number(*i);
+            }
+            Refusal::BadWitness(i) | Refusal::Unverified(i) => self.number(*i),
+            Refusal::Unbalanced { ins, outs } => self.numbers(&[*ins, *outs]),
+            _ => {}
         }
     }
 
@@ -253,25 +261,34 @@ impl Told {
         self.check_is("yes", is_so);
     }
 
-    /// Nothing where another answer to the same is this one; else both are told.
-    pub fn check_twice(&mut self, other: Told) {
-        let Some(came) = self.given(other.text()) else {
-            return;
-        };
-        if self.text.as_str() != came.as_str() {
-            let wrong = differ(self.alloc, self.text.as_str(), came.as_str());
+    // Nothing where this answer is that text; else both are told.
+    fn check_answer(&mut self, came: &str) {
+        if self.text.as_str() != came {
+            let wrong = differ(self.alloc, self.text.as_str(), came);
             self.fail(wrong);
         }
+    }
+
+    /// Nothing where another answer to the same is this one; else both are told.
+    pub fn check_twice(&mut self, other: Told) {
+        let came = self.take_text(other);
+        self.check_answer(came.as_str());
+    }
+
+    // Other bytes came than those of these digits.
+    fn tell_bytes(&mut self, wanted: &str, came: &[u8]) {
+        let mut own = Told::new(self.alloc);
+        own.digits(came);
+        let wrong = differ(self.alloc, wanted, own.as_str());
+        self.fail(wrong);
     }
 
     /// Nothing where bytes are the same; else both are told by their digits.
     pub fn check_bytes(&mut self, wanted: &[u8], came: &[u8]) {
         if wanted != came {
-            let (mut told, mut own) = (Told::new(self.alloc), Told::new(self.alloc));
-            told.digits(wanted);
-            own.digits(came);
-            let wrong = differ(self.alloc, told.as_str(), own.as_str());
-            self.fail(wrong);
+            let mut own = Told::new(self.alloc);
+            own.digits(wanted);
+            self.tell_bytes(own.as_str(), came);
         }
     }
 
@@ -285,6 +302,17 @@ impl Told {
         match wrong {
             Some(wrong) => Err(wrong),
             None => Ok(text),
+        }
+    }
+
+    /// The whole text of another answer; where something went wrong on the way to it, that is kept, and the text is empty.
+    pub fn take_text(&mut self, other: Told) -> String {
+        match other.text() {
+            Ok(own) => own,
+            Err(wrong) => {
+                self.fail(wrong);
+                String::new(self.alloc)
+            }
         }
     }
 
