@@ -1,3 +1,4 @@
+use Rattle.std.proofs.lemmas.Grind.{common_steps}
 use Rattle.std.proofs.Common.{◌≡◌, true, ◌≤◌, ◌<◌, ◌∷◌, [], Err, ℕ, List, suc, refl, ap, sym, ◌∙◌, subst, arith, length, reverse, None, Some, false}
 use Rattle.std.specs.Prelude.{All}
 use Rattle.gate_journal.specs.Shown.{broken_of}
@@ -187,3 +188,24 @@ returns-in-Err-clause-own g c =
 
 pub returns-clause-own : goal.returns-clause-own
 returns-clause-own g c = kept_own c.args.lane c.args.self.now.flight c.write.new.flight ((c.in-Ok.ensures.told c.self.inside.opened).flight ∙ ap (λ x. x.flight) c.self.view_is)
+
+pub tell-requires : goal.tell-requires
+tell-requires g c = grind (arith, common_steps)
+
+pub returns-in-Err-clause-holds : goal.returns-in-Err-clause-holds
+returns-in-Err-clause-holds g c =
+    let P : NodeOf g.row.D.Denot → Type 0 = λ x. HoldsJournal g.D.Disk x
+    → HoldsJournal g.D.Disk (shown c.write.new.log c.self.inside.opened c.write.new.flight) in
+    subst P c.self.view_is (c.write.ensures.holds c.self.inside.opened)
+
+pub returns-in-Err-clause-limit : goal.returns-in-Err-clause-limit
+returns-in-Err-clause-limit g c = c.write.ensures.limit ∙ ap (λ x. x.capacity) c.self.view_is
+
+pub returns-clause-holds : goal.returns-clause-holds
+returns-clause-holds g c =
+    let P : NodeOf g.row.D.Denot → Type 0 = λ x. HoldsJournal g.D.Disk x
+    → HoldsJournal g.D.Disk (shown c.write.new.log c.self.inside.opened c.write.new.flight) in
+    subst P c.self.view_is (c.write.ensures.holds c.self.inside.opened)
+
+pub returns-clause-limit : goal.returns-clause-limit
+returns-clause-limit g c = c.write.ensures.limit ∙ ap (λ x. x.capacity) c.self.view_is

@@ -1,4 +1,4 @@
-use Rattle.std.proofs.Common.{◌≡◌, ◌≤◌, ℕ, suc, max, sym, ◌∙◌, subst, arith, None, false}
+use Rattle.std.proofs.Common.{◌≡◌, ◌≤◌, ℕ, suc, max, ap, sym, ◌∙◌, subst, arith, None, false}
 use Rattle.gate_journal.specs.Shown.{broken_of}
 use Rattle.cbdc_model.specs.Due.{last_late, discard_due}
 use Rattle.cbdc_model.specs.Slots.{InCommit}
@@ -70,3 +70,21 @@ returns-clause-leaves g c =
     let P : NodeOf g.row.D.Denot → Type 0 = λ x. HoldsJournal g.D.Disk x
     → LeavesBetween g.D.Disk x (shown c.write.new.log c.self.inside.opened c.write.new.flight) in
     subst P c.self.view_is (c.write.ensures.leaves c.self.inside.opened)
+
+pub returns-in-Err-clause-holds : goal.returns-in-Err-clause-holds
+returns-in-Err-clause-holds g c =
+    let P : NodeOf g.row.D.Denot → Type 0 = λ x. HoldsJournal g.D.Disk x
+    → HoldsJournal g.D.Disk (shown c.write.new.log c.self.inside.opened c.write.new.flight) in
+    subst P c.self.view_is (c.write.ensures.holds c.self.inside.opened)
+
+pub returns-in-Err-clause-limit : goal.returns-in-Err-clause-limit
+returns-in-Err-clause-limit g c = c.write.ensures.limit ∙ ap (λ x. x.capacity) c.self.view_is
+
+pub returns-clause-holds : goal.returns-clause-holds
+returns-clause-holds g c =
+    let P : NodeOf g.row.D.Denot → Type 0 = λ x. HoldsJournal g.D.Disk x
+    → HoldsJournal g.D.Disk (shown c.write.new.log c.self.inside.opened c.write.new.flight) in
+    subst P c.self.view_is (c.write.ensures.holds c.self.inside.opened)
+
+pub returns-clause-limit : goal.returns-clause-limit
+returns-clause-limit g c = c.write.ensures.limit ∙ ap (λ x. x.capacity) c.self.view_is

@@ -192,3 +192,31 @@ returns-clause-leaves g c =
     let P : NodeOf g.row.D.Denot → Type 0 = λ x. HoldsJournal g.D.Disk x
     → LeavesBetween g.D.Disk x (shown c.write.new.log c.self.inside.opened c.write.new.flight) in
     subst P now (c.write.ensures.leaves c.self.inside.opened)
+
+pub returns-in-Err-write-clause-holds : goal.returns-in-Err-write-clause-holds
+returns-in-Err-write-clause-holds g c =
+    let now : shown c.make_room.new.log c.self.inside.opened c.self.inside.flight ≡ c.args.self.now =
+    shown_same c.self.inside.log c.make_room.new.log c.self.inside.opened c.self.inside.flight c.make_room.ensures.untouched c.make_room.ensures.records c.make_room.ensures.header ∙ c.self.view_is in
+    let P : NodeOf g.row.D.Denot → Type 0 = λ x. HoldsJournal g.D.Disk x
+    → HoldsJournal g.D.Disk (shown c.write.new.log c.self.inside.opened c.write.new.flight) in
+    subst P now (c.write.ensures.holds c.self.inside.opened)
+
+pub returns-in-Err-write-clause-limit : goal.returns-in-Err-write-clause-limit
+returns-in-Err-write-clause-limit g c =
+    let now : shown c.make_room.new.log c.self.inside.opened c.self.inside.flight ≡ c.args.self.now =
+    shown_same c.self.inside.log c.make_room.new.log c.self.inside.opened c.self.inside.flight c.make_room.ensures.untouched c.make_room.ensures.records c.make_room.ensures.header ∙ c.self.view_is in
+    c.write.ensures.limit ∙ ap (λ x. x.capacity) now
+
+pub returns-clause-holds : goal.returns-clause-holds
+returns-clause-holds g c =
+    let now : shown c.make_room.new.log c.self.inside.opened c.self.inside.flight ≡ c.args.self.now =
+    shown_same c.self.inside.log c.make_room.new.log c.self.inside.opened c.self.inside.flight c.make_room.ensures.untouched c.make_room.ensures.records c.make_room.ensures.header ∙ c.self.view_is in
+    let P : NodeOf g.row.D.Denot → Type 0 = λ x. HoldsJournal g.D.Disk x
+    → HoldsJournal g.D.Disk (shown c.write.new.log c.self.inside.opened c.write.new.flight) in
+    subst P now (c.write.ensures.holds c.self.inside.opened)
+
+pub returns-clause-limit : goal.returns-clause-limit
+returns-clause-limit g c =
+    let now : shown c.make_room.new.log c.self.inside.opened c.self.inside.flight ≡ c.args.self.now =
+    shown_same c.self.inside.log c.make_room.new.log c.self.inside.opened c.self.inside.flight c.make_room.ensures.untouched c.make_room.ensures.records c.make_room.ensures.header ∙ c.self.view_is in
+    c.write.ensures.limit ∙ ap (λ x. x.capacity) now
