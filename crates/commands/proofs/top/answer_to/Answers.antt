@@ -1,11 +1,15 @@
 use Rattle.std.proofs.Common.{inl, inr, ⊎_elim, refl, sym, subst}
-use Rattle.requests.specs.declared.Request.TheVariants.{Audit, Gen}
+use Rattle.requests.specs.declared.Request.TheVariants.{Init, Run, Recover, Status, Audit, Gen}
 use Rattle.audit_command.specs.Audits.{DidAudit, WhyNoAudit}
 use Rattle.command_answers.specs.Causes.{HasToldCause}
 use Rattle.command_answers.specs.Scene.{scene}
 use Rattle.gen_command.specs.Generated.{WhyNoWorkload}
 use Rattle.commands.specs.Left.{RequestLeaves}
-use Rattle.run_command.specs.Outcomes.{RunLeaves}
+use Rattle.init_command.specs.Outcomes.{WhyNoInit}
+use Rattle.rack_runs.specs.Runs.{open_turns}
+use Rattle.rack_runs.specs.Stops.{WhyNoTurns}
+use Rattle.run_command.specs.Outcomes.{DidRun, RunLeaves, WhyNoRun}
+use Rattle.status_command.specs.Outcomes.{WhyNoStatus}
 use Rattle.commands.specs.Outcomes.{Did, OutputTook, Why}
 use Rattle.command_answers.proofs.Answers.{well_told, told_by}
 use Rattle.commands.proofs.top.answer_to.Goals as goal
@@ -71,3 +75,62 @@ returns-in-Run-clause-left g c not_well =
     ⊎_elim (λ same. inl same)
     (λ left. inr (subst (λ r. RequestLeaves g.R.Disk.Disk before after r c.run.result) (sym c.in-Run.is)
     (subst (λ files. RunLeaves g.R.Disk.Disk before after c.in-Run.verdicts files c.run.result) c.deref.ensures.value left))) (c.run.ensures.left not_well)
+
+pub returns-in-Run-clause-why : goal.returns-in-Run-clause-why
+returns-in-Run-clause-why g c =
+    let at = scene g.I.Inbox g.R.Rack g.O.Sink in
+    let before = at c.args.inbox.now c.args.rack.now c.args.out.now in
+    let after = at c.run.new.inbox c.run.new.rack c.run.new.out in
+    let Here = Why g.R.Disk.Disk before after in
+    let There = WhyNoRun g.R.Disk.Disk before after c.in-Run.verdicts in
+    subst (λ r. HasToldCause (Here r) c.run.result) (sym c.in-Run.is)
+    (told_by (There c.in-Run.clients.items) (Here (Run c.in-Run.verdicts c.in-Run.clients c.in-Run.options)) c.run.result (λ b why. why) (subst (λ files. HasToldCause (There files) c.run.result) c.deref.ensures.value c.run.ensures.why))
+
+pub returns-in-Run-clause-did : goal.returns-in-Run-clause-did
+returns-in-Run-clause-did g c well =
+    let at = scene g.I.Inbox g.R.Rack g.O.Sink in
+    let before = at c.args.inbox.now c.args.rack.now c.args.out.now in
+    let after = at c.run.new.inbox c.run.new.rack c.run.new.out in
+    let Done = DidRun g.R.Disk.Disk before.file before.disks after.disks (OutputTook before after c.run.result) c.in-Run.verdicts in
+    subst (λ r. Did g.R.Disk.Disk before after r c.run.result) (sym c.in-Run.is) (subst (λ files. Done files) c.deref.ensures.value (c.run.ensures.did well))
+
+pub returns-in-Init-clause-why : goal.returns-in-Init-clause-why
+returns-in-Init-clause-why g c =
+    let at = scene g.I.Inbox g.R.Rack g.O.Sink in
+    let before = at c.args.inbox.now c.args.rack.now c.args.out.now in
+    let after = at c.init.new.inbox c.init.new.rack c.init.new.out in
+    let Here = Why g.R.Disk.Disk before after in
+    let There = WhyNoInit g.R.Disk.Disk before after c.in-Init.shape c.in-Init.mint in
+    subst (λ r. HasToldCause (Here r) c.init.result) (sym c.in-Init.is) (told_by There (Here (Init c.in-Init.shape c.in-Init.mint)) c.init.result (λ b why. why) c.init.ensures.why)
+
+pub returns-in-Init-clause-left : goal.returns-in-Init-clause-left
+returns-in-Init-clause-left g c not_well =
+    let at = scene g.I.Inbox g.R.Rack g.O.Sink in
+    let before = at c.args.inbox.now c.args.rack.now c.args.out.now in
+    let after = at c.init.new.inbox c.init.new.rack c.init.new.out in
+    ⊎_elim (λ same. inl same) (λ left. inr (subst (λ r. RequestLeaves g.R.Disk.Disk before after r c.init.result) (sym c.in-Init.is) left)) (c.init.ensures.left not_well)
+
+pub returns-in-Init-clause-did : goal.returns-in-Init-clause-did
+returns-in-Init-clause-did g c well =
+    let at = scene g.I.Inbox g.R.Rack g.O.Sink in
+    let before = at c.args.inbox.now c.args.rack.now c.args.out.now in
+    let after = at c.init.new.inbox c.init.new.rack c.init.new.out in
+    subst (λ r. Did g.R.Disk.Disk before after r c.init.result) (sym c.in-Init.is) (c.init.ensures.did well)
+
+pub returns-in-Status-clause-why : goal.returns-in-Status-clause-why
+returns-in-Status-clause-why g c =
+    let at = scene g.I.Inbox g.R.Rack g.O.Sink in
+    let before = at c.args.inbox.now c.args.rack.now c.args.out.now in
+    let after = at c.args.inbox.now c.status.new.rack c.status.new.out in
+    let Here = Why g.R.Disk.Disk before after in
+    subst (λ r. HasToldCause (Here r) c.status.result) (sym c.in-Status.is)
+    (told_by (WhyNoStatus g.R.Disk.Disk before.disks after.disks) (Here (Status c.in-Status.hashes)) c.status.result (λ b why. why) c.status.ensures.why)
+
+pub returns-in-Recover-clause-why : goal.returns-in-Recover-clause-why
+returns-in-Recover-clause-why g c =
+    let at = scene g.I.Inbox g.R.Rack g.O.Sink in
+    let before = at c.args.inbox.now c.args.rack.now c.args.out.now in
+    let after = at c.args.inbox.now c.recover.new.rack c.recover.new.out in
+    let Here = Why g.R.Disk.Disk before after in
+    subst (λ r. HasToldCause (Here r) c.recover.result) (sym c.in-Recover.is)
+    (told_by (WhyNoTurns g.R.Disk.Disk before.disks after.disks open_turns) (Here Recover) c.recover.result (λ b why. why) c.recover.ensures.why)
