@@ -1,14 +1,17 @@
-use Rattle.std.proofs.Common.{inl, inr, ⊎_elim, refl, sym, subst}
+use Rattle.std.proofs.Common.{◌≡◌, inl, inr, ⊎_elim, refl, sym, subst}
 use Rattle.requests.specs.declared.Request.TheVariants.{Init, Run, Recover, Status, Audit, Gen}
-use Rattle.audit_command.specs.Audits.{DidAudit, WhyNoAudit}
-use Rattle.command_answers.specs.Causes.{HasToldCause}
+use Rattle.audit_command.specs.Audits.{AuditPlace, AuditRose, DidAudit, WhyNoAudit}
+use Rattle.outside.specs.Counts.{Rose}
+use Rattle.command_answers.specs.Causes.{FileRose, HasToldCause, IsAnswerToRequest}
 use Rattle.command_answers.specs.Scene.{scene}
 use Rattle.gen_command.specs.Generated.{WhyNoWorkload}
+use Rattle.commands.proofs.Placed.{answer_by}
+use Rattle.commands.specs.Causes.{RequestPlace, RequestRose}
 use Rattle.commands.specs.Left.{RequestLeaves}
 use Rattle.init_command.specs.Outcomes.{WhyNoInit}
 use Rattle.rack_runs.specs.Runs.{open_turns}
 use Rattle.rack_runs.specs.Stops.{WhyNoTurns}
-use Rattle.run_command.specs.Outcomes.{DidRun, RunLeaves, WhyNoRun}
+use Rattle.run_command.specs.Outcomes.{DidRun, RunLeaves, RunPlace, RunRose, WhyNoRun}
 use Rattle.status_command.specs.Outcomes.{WhyNoStatus}
 use Rattle.commands.specs.Outcomes.{Did, OutputTook, Why}
 use Rattle.command_answers.proofs.Answers.{well_told, told_by}
@@ -134,3 +137,49 @@ returns-in-Recover-clause-why g c =
     let Here = Why g.R.Disk.Disk before after in
     subst (λ r. HasToldCause (Here r) c.recover.result) (sym c.in-Recover.is)
     (told_by (WhyNoTurns g.R.Disk.Disk before.disks after.disks open_turns) (Here Recover) c.recover.result (λ b why. why) c.recover.ensures.why)
+
+pub returns-in-Run-clause-cause : goal.returns-in-Run-clause-cause
+returns-in-Run-clause-cause g c =
+    let before = g.I.Inbox.count c.args.inbox.now in
+    let after = g.I.Inbox.count c.run.new.inbox in
+    let Written = Rose (g.O.Sink.count c.args.out.now) (g.O.Sink.count c.run.new.out) in
+    let request = Run c.in-Run.verdicts c.in-Run.clients c.in-Run.options in
+    subst (λ r. IsAnswerToRequest (RequestPlace r) (RequestRose r before after) Written c.run.result) (sym c.in-Run.is)
+    (answer_by (RunPlace c.in-Run.verdicts c.in-Run.clients.items) (RequestPlace request) (RunRose before after c.in-Run.verdicts c.in-Run.clients.items) (RequestRose request before after) Written c.run.result (λ n is. is) (λ n is. is)
+    (subst (λ files. IsAnswerToRequest (RunPlace c.in-Run.verdicts files) (RunRose before after c.in-Run.verdicts files) Written c.run.result) c.deref.ensures.value c.run.ensures.cause))
+
+pub returns-in-Audit-clause-cause : goal.returns-in-Audit-clause-cause
+returns-in-Audit-clause-cause g c =
+    let before = g.I.Inbox.count c.args.inbox.now in
+    let after = g.I.Inbox.count c.audit.new.inbox in
+    let Written = Rose (g.O.Sink.count c.args.out.now) (g.O.Sink.count c.audit.new.out) in
+    let request = Audit c.in-Audit.mint c.in-Audit.clients in
+    subst (λ r. IsAnswerToRequest (RequestPlace r) (RequestRose r before after) Written c.audit.result) (sym c.in-Audit.is)
+    (answer_by (AuditPlace c.in-Audit.mint c.in-Audit.clients.items) (RequestPlace request) (AuditRose before after c.in-Audit.mint c.in-Audit.clients.items) (RequestRose request before after) Written c.audit.result (λ n is. is) (λ n is. is)
+    (subst (λ files. IsAnswerToRequest (AuditPlace c.in-Audit.mint files) (AuditRose before after c.in-Audit.mint files) Written c.audit.result) c.deref-in-Audit.ensures.value c.audit.ensures.cause))
+
+pub returns-in-Init-clause-cause : goal.returns-in-Init-clause-cause
+returns-in-Init-clause-cause g c =
+    let before = g.I.Inbox.count c.args.inbox.now in
+    let after = g.I.Inbox.count c.init.new.inbox in
+    let Written = Rose (g.O.Sink.count c.args.out.now) (g.O.Sink.count c.init.new.out) in
+    let request = Init c.in-Init.shape c.in-Init.mint in
+    subst (λ r. IsAnswerToRequest (RequestPlace r) (RequestRose r before after) Written c.init.result) (sym c.in-Init.is)
+    (answer_by (λ place. place ≡ c.in-Init.mint.place) (RequestPlace request) (FileRose before after c.in-Init.mint) (RequestRose request before after) Written c.init.result (λ n is. is) (λ n is. is)
+    c.init.ensures.cause)
+
+pub returns-in-Gen-clause-cause : goal.returns-in-Gen-clause-cause
+returns-in-Gen-clause-cause g c =
+    let now = g.I.Inbox.count c.args.inbox.now in
+    let Written = Rose (g.O.Sink.count c.args.out.now) (g.O.Sink.count c.generated.new.out) in
+    let request = Gen c.in-Gen.shape c.in-Gen.seed c.in-Gen.count in
+    subst (λ r. IsAnswerToRequest (RequestPlace r) (RequestRose r now now) Written c.generated.result) (sym c.in-Gen.is)
+    (answer_by (λ file. ⊥) (RequestPlace request) (λ file. ⊥) (RequestRose request now now) Written c.generated.result (λ n is. is) (λ n is. is) c.generated.ensures.cause)
+
+pub returns-in-Status-clause-cause : goal.returns-in-Status-clause-cause
+returns-in-Status-clause-cause g c =
+    let now = g.I.Inbox.count c.args.inbox.now in
+    let Written = Rose (g.O.Sink.count c.args.out.now) (g.O.Sink.count c.status.new.out) in
+    let request = Status c.in-Status.hashes in
+    subst (λ r. IsAnswerToRequest (RequestPlace r) (RequestRose r now now) Written c.status.result) (sym c.in-Status.is)
+    (answer_by (λ file. ⊥) (RequestPlace request) (λ file. ⊥) (RequestRose request now now) Written c.status.result (λ n is. is) (λ n is. is) c.status.ensures.cause)
