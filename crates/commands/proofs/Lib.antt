@@ -1,6 +1,6 @@
 pub mod Named
 pub mod Naming
-pub mod Placed
+mod Placed
 pub mod Did
 pub mod Faults
 pub mod Complete

@@ -1,4 +1,4 @@
-use Rattle.std.proofs.Common.{◌≡◌, inl, inr, ⊎_elim, refl, sym, subst}
+use Rattle.std.proofs.Common.{◌≡◌, ◌⊎◌, inl, inr, ⊎_elim, refl, sym, subst}
 use Rattle.requests.specs.declared.Request.TheVariants.{Init, Run, Recover, Status, Audit, Gen}
 use Rattle.audit_command.specs.Audits.{AuditPlace, AuditRose, DidAudit, WhyNoAudit}
 use Rattle.outside.specs.Counts.{Rose}
@@ -75,7 +75,7 @@ returns-in-Run-clause-left g c not_well =
     let at = scene g.I.Inbox g.R.Rack g.O.Sink in
     let before = at c.args.inbox.now c.args.rack.now c.args.out.now in
     let after = at c.run.new.inbox c.run.new.rack c.run.new.out in
-    ⊎_elim (λ same. inl same)
+    ⊎_elim {C = (c.run.new.rack ≡ c.args.rack.now) ⊎ RequestLeaves g.R.Disk.Disk before after c.args.request.now c.run.result} (λ same. inl same)
     (λ left. inr (subst (λ r. RequestLeaves g.R.Disk.Disk before after r c.run.result) (sym c.in-Run.is)
     (subst (λ files. RunLeaves g.R.Disk.Disk before after c.in-Run.verdicts files c.run.result) c.deref.ensures.value left))) (c.run.ensures.left not_well)
 
@@ -111,7 +111,7 @@ returns-in-Init-clause-left g c not_well =
     let at = scene g.I.Inbox g.R.Rack g.O.Sink in
     let before = at c.args.inbox.now c.args.rack.now c.args.out.now in
     let after = at c.init.new.inbox c.init.new.rack c.init.new.out in
-    ⊎_elim (λ same. inl same) (λ left. inr (subst (λ r. RequestLeaves g.R.Disk.Disk before after r c.init.result) (sym c.in-Init.is) left)) (c.init.ensures.left not_well)
+    ⊎_elim {C = (c.init.new.rack ≡ c.args.rack.now) ⊎ RequestLeaves g.R.Disk.Disk before after c.args.request.now c.init.result} (λ same. inl same) (λ left. inr (subst (λ r. RequestLeaves g.R.Disk.Disk before after r c.init.result) (sym c.in-Init.is) left)) (c.init.ensures.left not_well)
 
 pub returns-in-Init-clause-did : goal.returns-in-Init-clause-did
 returns-in-Init-clause-did g c well =
