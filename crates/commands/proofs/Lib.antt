@@ -1,5 +1,6 @@
 pub mod Named
 pub mod Naming
+mod Placed
 pub mod Did
 pub mod Faults
 pub mod Complete
