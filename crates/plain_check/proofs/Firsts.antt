@@ -64,6 +64,6 @@ pub steady_more : (K : Shape) (m : Minted) (P : Compact → Type 0) (later : Lis
 steady_more K m P later row rest first past told e f p steady h =
     let same : past ≡ rest ++ first_rows K m = p ∙ ap (λ l. rest ++ l) f in
     let here : IsTrue told ↔ ((After (header_of K m.id row.node) (journal row.node (rest ++ first_rows K m)) row.what × TxsPass P row.what)
-        × IsCaused K (λ n. journal n (rest ++ first_rows K m)) row.node row.what) =
+    × IsCaused K (λ n. journal n (rest ++ first_rows K m)) row.node row.what) =
     subst (λ l. IsTrue told ↔ ((After (header_of K m.id row.node) (journal row.node l) row.what × TxsPass P row.what) × IsCaused K (λ n. journal n l) row.node row.what)) same h in
     subst (λ l. IsTrue told ↔ IsSteady K m P l) (sym e) (λ t. ((here.0 t).0.0, (here.0 t).1, (here.0 t).0.1, steady), λ s. here.1 ((s.0, s.2), s.1))
