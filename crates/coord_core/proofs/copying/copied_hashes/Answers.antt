@@ -1,5 +1,6 @@
-use Rattle.std.proofs.Common.{arith, ◌∙◌}
+use Rattle.std.proofs.Common.{arith, sym, ap, ◌∙◌, take, ◌++◌, ◌∷◌, []}
 use Rattle.std.proofs.lemmas.Grind.{common_steps}
+use Rattle.std.proofs.lemmas.List.{take_more}
 use Rattle.coord_core.proofs.copying.copied_hashes.Goals as goal
 
 pub returns-clause-same : goal.returns-clause-same
@@ -7,7 +8,9 @@ returns-clause-same c = grind (arith, common_steps)
 
 pub loop-x-preserved : goal.loop-x-preserved
 loop-x-preserved c = record {
-  copied = grind (arith, common_steps);
+  copied = c.push_reserved.ensures.items ∙ ap (λ xs. xs ++ c.copied_hash.result ∷ []) c.loop-x.invariant.copied
+      ∙ ap (λ x. take c.loop-x.x-index c.args.hashes.now ++ x ∷ []) (c.copied_hash.ensures.same ∙ c.x-item.is)
+      ∙ sym (take_more c.args.hashes.now c.loop-x.x-index c.x-item.result c.loop-x-test.true);
   sizes = grind (arith, common_steps);
   count = omega arith;
   room = c.push_reserved.ensures.capacity ∙ c.loop-x.invariant.room;

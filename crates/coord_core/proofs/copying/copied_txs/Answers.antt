@@ -1,5 +1,6 @@
-use Rattle.std.proofs.Common.{arith, ◌∙◌}
+use Rattle.std.proofs.Common.{arith, sym, ap, ◌∙◌, take, ◌++◌, ◌∷◌, []}
 use Rattle.std.proofs.lemmas.Grind.{common_steps}
+use Rattle.std.proofs.lemmas.List.{take_more}
 use Rattle.coord_core.proofs.copying.copied_txs.Goals as goal
 
 pub returns-clause-sizes : goal.returns-clause-sizes
@@ -10,7 +11,9 @@ returns-clause-same c = grind (arith, common_steps)
 
 pub loop-tx-preserved : goal.loop-tx-preserved
 loop-tx-preserved c = record {
-  copied = grind (arith, common_steps);
+  copied = c.push_reserved.ensures.items ∙ ap (λ ts. ts ++ c.in_ok-copied_tx.field-0 ∷ []) c.loop-tx.invariant.copied
+      ∙ ap (λ t. take c.loop-tx.tx-index c.args.txs.now ++ t ∷ []) (c.in_ok-copied_tx.ensures.same ∙ c.tx-item.is)
+      ∙ sym (take_more c.args.txs.now c.loop-tx.tx-index c.tx-item.result c.loop-tx-test.true);
   sizes = grind (arith, common_steps);
   count = omega arith;
   room = c.push_reserved.ensures.capacity ∙ c.loop-tx.invariant.room;
