@@ -12,7 +12,7 @@ use Rattle.init_command.specs.Outcomes.{WhyNoInit}
 use Rattle.rack_runs.specs.Runs.{open_turns}
 use Rattle.rack_runs.specs.Stops.{WhyNoTurns}
 use Rattle.run_command.specs.Outcomes.{DidRun, RunLeaves, RunPlace, RunRose, WhyNoRun}
-use Rattle.status_command.specs.Outcomes.{WhyNoStatus}
+use Rattle.status_command.specs.Outcomes.{DidStatus, WhyNoStatus}
 use Rattle.commands.specs.Outcomes.{Did, OutputTook, Why}
 use Rattle.command_answers.proofs.Answers.{well_told, told_by}
 use Rattle.commands.proofs.top.answer_to.Goals as goal
@@ -183,3 +183,18 @@ returns-in-Status-clause-cause g c =
     let request = Status c.in-Status.hashes in
     subst (λ r. IsAnswerToRequest (RequestPlace r) (RequestRose r now now) Written c.status.result) (sym c.in-Status.is)
     (answer_by (λ file. ⊥) (RequestPlace request) (λ file. ⊥) (RequestRose request now now) Written c.status.result (λ n is. is) (λ n is. is) c.status.ensures.cause)
+
+pub returns-in-Status-clause-did : goal.returns-in-Status-clause-did
+returns-in-Status-clause-did g c well =
+    let at = scene g.I.Inbox g.R.Rack g.O.Sink in
+    let before = at c.args.inbox.now c.args.rack.now c.args.out.now in
+    let after = at c.args.inbox.now c.status.new.rack c.status.new.out in
+    let Done = DidStatus g.R.Disk.Disk before.disks after.disks (OutputTook before after c.status.result) in
+    subst (λ r. Did g.R.Disk.Disk before after r c.status.result) (sym c.in-Status.is) (subst (λ hashes. Done hashes) c.deref-in-Status.ensures.value (c.status.ensures.did well))
+
+pub returns-in-Recover-clause-cause : goal.returns-in-Recover-clause-cause
+returns-in-Recover-clause-cause g c =
+    let now = g.I.Inbox.count c.args.inbox.now in
+    let Written = Rose (g.O.Sink.count c.args.out.now) (g.O.Sink.count c.recover.new.out) in
+    subst (λ r. IsAnswerToRequest (RequestPlace r) (RequestRose r now now) Written c.recover.result) (sym c.in-Recover.is)
+    (answer_by (λ file. ⊥) (RequestPlace Recover) (λ file. ⊥) (RequestRose Recover now now) Written c.recover.result (λ n is. is) (λ n is. is) c.recover.ensures.cause)
