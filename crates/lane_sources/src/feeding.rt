@@ -1,6 +1,6 @@
 // A sentinel ahead of a lane: it checks the lane's submissions in a thread of its own, and sends what it makes of each.
 ghost use Rattle.cbdc_model.specs.Ranges.{home_of};
-ghost use Rattle.std.specs.Prelude.{◌≡◌};
+ghost use Rattle.std.specs.Prelude.{◌≡◌, ◌<◌, length};
 
 use crate::{Deals, FileOf, RuledAt, rule_at};
 use cbdc_types::{LaneId, NodeId, Shape};
@@ -45,6 +45,23 @@ fn point_of(shape: &Shape, lane: LaneId) -> Point
     }
 }
 
+// Sends what a sentinel makes of the submission at a place, with the place. The answer is whether that came about: memory can run out, and
+// the receiver be gone.
+fn send_ruled<W: Wait, V: Verifier, F: Deals>(
+    rt: &W,
+    alloc: Global,
+    file: &FileOf<'_, V, F>,
+    sender: &Sender<RuledAt<F>>,
+    place: usize,
+) -> bool
+    requires { place < length F.file }
+{
+    match rule_at(alloc, file, place) {
+        Ok(message) => sender.send(rt, message).is_ok(),
+        Err(_) => false,
+    }
+}
+
 /// Checks the submissions of a lane, one after another, and sends what a sentinel makes of each, with its place. Behind each message it
 /// passes the gate. It ends where nobody receives any more, or memory runs out.
 pub fn feed<W: Wait, V: Verifier, F: Deals, G: Gate>(
@@ -61,11 +78,8 @@ pub fn feed<W: Wait, V: Verifier, F: Deals, G: Gate>(
     let count = file.txs().len();
     let mut place = lane.0 as usize;
     'submissions: while place < count {
-        let Ok(message) = rule_at(alloc, file, place) else {
-            return;
-        };
-        if sender.send(rt, message).is_err() {
-            return;
+        if !send_ruled(rt, alloc, file, &sender, place) {
+            break;
         }
         gate.pass(rt, &point);
         place += lanes;

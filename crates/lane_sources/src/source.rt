@@ -182,11 +182,11 @@ impl<'a, W: Wait, V: Verifier, F: Deals> LaneSource<'a, W, V, F> {
         ensures end { length F.file ≤ self.new.at }
     {
         let file = self.file;
-        let count = file.txs().len();
+        let end = file.txs().len();
         if self.lane != lane {
             self.start(lane);
         }
-        'submissions: while self.at < count {
+        'submissions: while self.at < end {
             self.judge_next();
         }
     }

@@ -5,4 +5,4 @@ abbrev pub invariant-submissions : goal.invariant-submissions
 invariant-submissions g l = l.self.lane ≡ l.lane
 
 abbrev pub decreases-submissions : goal.decreases-submissions
-decreases-submissions g l = l.count - l.self.at
+decreases-submissions g l = l.end - l.self.at

@@ -1,8 +1,12 @@
-use Rattle.std.proofs.Common.{◌<◌, length, sym, subst}
+use Rattle.std.proofs.Common.{◌<◌, length, sym, subst, arith}
 use Rattle.std.specs.Prelude.{IfOk, IfErr}
+use Rattle.std.proofs.lemmas.Grind.{common_steps}
 use Rattle.lane_sources.specs.Sources.{left_at, LeavesBehind}
 use Rattle.lane_sources.proofs.Noting.{ruled_left, sound_some}
 use Rattle.lane_sources.proofs.source.LaneSource.rule_next.Goals as goal
+
+pub returns-clause-ruled : goal.returns-clause-ruled
+returns-clause-ruled g c = grind (arith, common_steps)
 
 pub returns-clause-left : goal.returns-clause-left
 returns-clause-left g c =
