@@ -51,15 +51,23 @@ fn journal_of(alloc: Global, records: u32) -> io::Result<PlainDisk> {
     Ok(journal.into_disk())
 }
 
-fn taken(rt: &HostRuntime, alloc: Global, node: u32) -> io::Result<FileDisk> {
+// The nodes whose files are measured: no ledger has so many nodes, so no journal of a ledger is written over.
+const OPENED: NodeId = NodeId(988);
+
+const APPENDED: NodeId = NodeId(989);
+
+// The files of these nodes, and the one that the bare loop writes.
+const FILES: [&str; 3] = ["rack/node-988", "rack/node-989", "rack/loop"];
+
+fn taken(rt: &HostRuntime, alloc: Global, node: NodeId) -> io::Result<FileDisk> {
     let mut rack = FileRack::new(rt, alloc);
-    rack.take(NodeId(node)).map_err(|_| failed())
+    rack.take(node).map_err(|_| failed())
 }
 
-// Writes the journal of node 1.
+// Writes the journal that is to be opened.
 fn write_journal(rt: &HostRuntime, bytes: &[u8]) -> io::Result<()> {
     fs::create_dir_all(rt, "rack")?;
-    fs::write(rt, "rack/node-001", bytes)
+    fs::write(rt, FILES[0], bytes)
 }
 
 // How many records the journal on a disk has, if it opens, and how long that took: what was opened is let go of behind the clock.
@@ -78,22 +86,25 @@ fn count_records(
     }
 }
 
-// Opens the journal of node 1.
-fn time_opening(rt: &HostRuntime, alloc: Global, bytes: usize) -> io::Result<()> {
-    let disk = taken(rt, alloc, 1)?;
+// Opens that journal, which has so many records.
+fn time_opening(rt: &HostRuntime, alloc: Global, records: u32, bytes: usize) -> io::Result<()> {
+    let disk = taken(rt, alloc, OPENED)?;
     let start = Instant::now(rt)?;
     let Some((count, time)) = count_records(rt, alloc, disk, &start) else {
         return Err(failed());
     };
     let seconds = time?.as_secs_f64();
+    if count != records as usize {
+        return Err(failed());
+    }
     eprintln!(rt; "opened {count} records, {bytes} bytes: {seconds} s")
 }
 
-// Opens a journal of so many records, which lies in the file of node 1.
+// Opens a journal of so many records on a real file.
 fn measure_opening(rt: &HostRuntime, alloc: Global, records: u32) -> io::Result<()> {
     let made = journal_of(alloc, records)?;
     write_journal(rt, made.bytes())?;
-    time_opening(rt, alloc, made.bytes().len())
+    time_opening(rt, alloc, records, made.bytes().len())
 }
 
 // Appends so many records to a journal.
@@ -104,9 +115,9 @@ fn time_appends<D: Disk>(rt: &HostRuntime, journal: &mut Journal<D>, count: u32)
     eprintln!(rt; "appended {count} records: {seconds} s")
 }
 
-// Appends so many records to the file of node 2.
+// Appends so many records to a journal on another one.
 fn measure_appends(rt: &HostRuntime, alloc: Global, count: u32) -> io::Result<()> {
-    let mut journal = formatted(alloc, taken(rt, alloc, 2)?)?;
+    let mut journal = formatted(alloc, taken(rt, alloc, APPENDED)?)?;
     time_appends(rt, &mut journal, count)
 }
 
@@ -132,14 +143,24 @@ fn time_loop(rt: &HostRuntime, file: &File, count: u32) -> io::Result<()> {
 
 // Makes them to a file of their own.
 fn measure_loop(rt: &HostRuntime, count: u32) -> io::Result<()> {
-    let file = fs::create(rt, "rack/loop")?;
+    let file = fs::create(rt, FILES[2])?;
     time_loop(rt, &file, count)
 }
 
-/// Opens a journal of so many records, and appends so many to another one and in a bare loop, all in files of the folder `rack`.
+/// Opens a journal of so many records, and appends so many to another one and in a bare loop, all in files of the folder `rack` that no ledger has.
+/// They are left there.
 pub fn measure(rt: &HostRuntime, records: u32, appends: u32) -> io::Result<()> {
     let alloc = rt.alloc();
     measure_opening(rt, alloc, records)?;
     measure_appends(rt, alloc, appends)?;
     measure_loop(rt, appends)
+}
+
+/// Removes the files that measuring has left, and the folder, where nothing else is in it.
+pub fn remove_files(rt: &HostRuntime) -> io::Result<()> {
+    for file in &FILES {
+        fs::remove_file(rt, *file)?;
+    }
+    let _ = fs::remove_dir(rt, "rack");
+    Ok(())
 }

@@ -1,11 +1,12 @@
-//! Rows in code of the real devices, and measures of parts of the program. The program `ledger_rows` runs both.
+//! Rows on the real devices, which stand in code, and measures of parts of the program. The program `ledger_rows` runs both.
 //!
 //! - Rows: a disk, a rack and an inbox over real files; and what the gate that measures calls finds slow, by a clock that stands in. Each line is
 //!   written to the real output.
 //! - Measures (`measure`), which say on standard error how long they took. The first word says which: `codec` reads the client files `one` and
 //!   `eight` and writes their transactions again; `journal` opens a journal of 100,000 records on a real file, and appends 2,000 to another one;
 //!   `table N ..` puts so many hashes (100,000 where no number is given) into a shard's table and into std's hash map, finds them there and takes
-//!   them out. A row does a little of each, and holds where what was read, found and taken out is what was put there.
+//!   them out. A row does a little of each, over files that no ledger has and that it removes: it holds where the transactions are written as they
+//!   were read, the journal opens with as many records as were written, and the table gives back what was put into it.
 #![tactic(auto)]
 
 mod calls;
@@ -23,6 +24,7 @@ use std::sync::Wait;
 fn measure_little(rt: &HostRuntime) -> io::Result<()> {
     codec::measure_files(rt)?;
     journal::measure(rt, 100, 10)?;
+    journal::remove_files(rt)?;
     table::measure(rt, 100_000)
 }
 
@@ -39,7 +41,8 @@ pub fn measure(rt: &HostRuntime, words: &[String]) -> io::Result<()> {
     }
 }
 
-/// Writes a line for each row, with what it came to, and one that counts them. The answer is whether all came to what they should.
+/// Writes a line for each row, with what it came to, and one that counts them. The answer is whether all came to what they should. (`wait` is the
+/// leave to wait, which only `main` can lend.)
 pub fn tell_rows<W: Wait>(rt: &HostRuntime, wait: &W) -> io::Result<bool> {
     let mut lines = Lines::new(rt);
     lines.tell(

@@ -71,7 +71,7 @@ fn take_all_mapped(map: &mut HashMap<Hash, ()>, hashes: &[Hash]) {
     }
 }
 
-// An answer that is not what it must be ends the program.
+// An answer that is not what it must be ends the measure.
 fn check(holds: bool) -> io::Result<()> {
     if holds {
         Ok(())

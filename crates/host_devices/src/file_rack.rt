@@ -12,8 +12,8 @@ use std::{fs, io};
 /// Node n is the file `rack/node-NNN`, and one program's at a time: taking a node locks its file (`flock`, which the file system has to know)
 /// until its disk is put back or the program ends, and a file that another program holds can't be taken. There is one count of faults for all.
 ///
-/// `take` takes a node's file under a lock, so that a file which another program has is a counted fault. Tested: in the test of real files, and by
-/// two programs at once over one rack (`tools/two-at-once`).
+/// `take` takes a node's file under a lock, so that a file which another program has is a counted fault. Tested: in the rows of `device_rows`, and
+/// by two programs at once over one rack (`tools/two-at-once`).
 #[derive(Drop)]
 pub struct FileRack<R: Files<File = File> + Drop> {
     rt: R,

@@ -13,7 +13,8 @@ NextDone K alone lane rest more repeats (Some r) old new =
     (0 < length rest) × (more ≡ drop K.batch rest) × IsBatchDone K alone lane (take K.batch rest) repeats old new r
     × (r.batch.lane ≡ lane) × (length r.outcomes ≡ length (take K.batch rest))
 
--- or something was left, and its batch stopped, or was not begun because the driver ran out of memory
+-- what became of the next piece: the above; or an end, where something was left, and its batch stopped, or was not begun because the driver
+-- ran out of memory
 abbrev pub NextResult : Shape → Bool → ℕ → List Compact → List Compact → ℕ → Result (Option BatchReport) LaneFault → LaneSights → LaneSights → Type 0
 NextResult K alone lane rest more repeats (Ok next) old new = NextDone K alone lane rest more repeats next old new
 NextResult K alone lane rest more repeats (Err e) old new = (0 < length rest) × IsBatchEnd K alone lane (take K.batch rest) repeats old new e

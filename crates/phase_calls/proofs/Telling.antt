@@ -1,4 +1,4 @@
--- What a phase made at once tells is what its calls tell one after another.
+-- What a phase tells, at either pace, is what its calls tell one after another.
 use Rattle.std.proofs.Common.{inl, inr, ◌≡◌, ◌⊎◌, ◌<◌, ℕ, zero, suc, false, ◌==◌, Option, Some, None, List, [], ◌∷◌, length, get_or, refl, sym, ap, ◌∙◌, subst, arith}
 use Rattle.std.specs.List.{All, AllZip, slice_get}
 use Rattle.std.specs.Global.{Vec}

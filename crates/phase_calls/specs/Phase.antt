@@ -151,7 +151,7 @@ module _ {F P C A : Type 0} (g : Shared F (Bor (List (ℕ × C)) × (MutBor (Vec
     pub takes : (f : F) (cs : List (ℕ × C)) (os : Vec A) (ps : List P) → asks cs os ps → TakesPhase f cs os ps
     pub tells : (f : F) (cs : List (ℕ × C)) (os : Vec A) (ps : List P) (os' : Vec A) (ps' : List P) → PhaseCalled f cs os ps os' ps' → IsToldAtOnce makes cs os ps os' ps'
 
--- what makes lock, finish and forget calls at once
+-- what makes the lock, finish and forget calls of a phase, at either pace
 pub record MakesAll {FL FN FT P : Type 0} (gl : Shared FL (Bor (List (ℕ × LockCall)) × (MutBor (Vec (Result Replied NodeFault)) × (MutBor (List P) × Unit {0}))) (Unit {0} × (MutBor (Vec (Result Replied NodeFault)) × (MutBor (List P) × Unit {0}))))
     (gn : Shared FN (Bor (List (ℕ × FinishCall)) × (MutBor (Vec (Result ℕ NodeFault)) × (MutBor (List P) × Unit {0}))) (Unit {0} × (MutBor (Vec (Result ℕ NodeFault)) × (MutBor (List P) × Unit {0}))))
     (gt : Shared FT (Bor (List (ℕ × ForgetCall)) × (MutBor (Vec (Result ℕ NodeFault)) × (MutBor (List P) × Unit {0}))) (Unit {0} × (MutBor (Vec (Result ℕ NodeFault)) × (MutBor (List P) × Unit {0}))))

@@ -231,7 +231,11 @@ impl Told {
             }
             Refusal::BadWitness(i) | Refusal::Unverified(i) => self.number(*i),
             Refusal::Unbalanced { ins, outs } => self.numbers(&[*ins, *outs]),
-            _ => {}
+            Refusal::NoInputs
+            | Refusal::NoOutputs
+            | Refusal::WitnessCount
+            | Refusal::InputOverflow
+            | Refusal::OutputOverflow => {}
         }
     }
 
