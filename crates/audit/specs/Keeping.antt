@@ -12,7 +12,6 @@ use Rattle.audit.specs.Rows.{rows_at, newest_first}
 use Rattle.audit.specs.declared.book.Book.{Book as Kept}
 use Rattle.audit.specs.declared.handed.ById.{ById}
 use Rattle.audit.specs.declared.folding.Fold.{Fold}
-use Rattle.audit.specs.declared.known.Known.{Known}
 use Rattle.audit.specs.declared.auditing.Walked.{Walked}
 use Rattle.audit.specs.declared.auditing.Walked.TheVariants.{Whole, Stopped}
 use Rattle.audit.specs.Knowing.{Knows}
@@ -66,7 +65,7 @@ pub record HasSpent (mint : List Output) (handed : List FullTx) (forms : List Co
   pub count : fold.committed ≡ length forms
 
 -- what a walk says: all is known, caused and spent, or something is wrong at a place
-abbrev pub IsWalked : Shape → List Output → List FullTx → List (List Record) → List Place → Known → Fold → Walked → Type 0
-IsWalked K mint handed all h known fold Whole =
+abbrev pub IsWalked : Shape → List Output → List FullTx → List (List Record) → List Place → Fold → Walked → Type 0
+IsWalked K mint handed all h fold (Whole known) =
     Knows all known (λ n. journal n (newest_first all h)) × AllCaused K (newest_first all h) × HasSpent mint handed (committed (newest_first all h)) fold
-IsWalked K mint handed all h known fold (Stopped place kind) = IsFirstUnsound K mint handed (rows_at all h) place kind
+IsWalked K mint handed all h fold (Stopped place kind) = IsFirstUnsound K mint handed (rows_at all h) place kind

@@ -2,7 +2,7 @@
 ghost use Rattle.std.specs.Prelude.{◌≡◌, ◌↔◌, ◌++◌, [], ℕ, All, List as Items, IfOk, IsTrue, MatchOption};
 ghost use Rattle.std.specs.List.{AllZip};
 ghost use Rattle.cbdc_model.specs.Records.{Compact, Record as ModelRecord};
-ghost use Rattle.cbdc_model.specs.Coins.{FullTx as ModelFullTx, Output as ModelOutput};
+ghost use Rattle.cbdc_model.specs.Coins.{Output as ModelOutput};
 ghost use Rattle.cbdc_model.specs.Clean.{value_out};
 ghost use Rattle.cbdc_model.specs.History.{newly_won};
 ghost use Rattle.audit.specs.Rows.{read, rows_at, IsRecordPlace};
@@ -23,10 +23,10 @@ use cbdc_types::{CompactTx, FullTx, Output, Record, RecordKind, Shape, UnsoundKi
 use std::alloc::{AllocError, Global};
 use std::thread::Threads;
 
-// What a walk has come to: all places, or the first place at which something is wrong.
+// What a walk has come to: all places, with what is known then, or the first place at which something is wrong.
 #[derive(Drop)]
 enum Walked {
-    Whole,
+    Whole(Known),
     Stopped { place: u64, kind: UnsoundKind },
 }
 
@@ -62,7 +62,7 @@ fn commit(
     }
 }
 
-// Walks over a history, of which nothing is known yet, and spends what it commits.
+// Walks over a history, and spends what it commits.
 fn walk(
     alloc: Global,
     shape: &Shape,
@@ -71,26 +71,25 @@ fn walk(
     ids: &ById,
     handed: &[FullTx],
     compacts: &[CompactTx],
-    known: &mut Known,
     fold: &mut Fold,
 ) -> Result<Walked, AllocError>
     requires places { All (IsRecordPlace (read journals.now)) history.now }
     requires index { IsIndex handed.now ids.now }
     requires compacts { AllZip IsFormOf handed.now compacts.now }
-    requires nothing { Knows (read journals.now) known.old (λ n. []) }
     ensures { (mint : Items ModelOutput) → IsIndex handed.now ids.now → HasSpent mint handed.now [] fold.old
-        → IfOk result (IsWalked shape.now mint handed.now (read journals.now) history.now known.new fold.new) }
+        → IfOk result (IsWalked shape.now mint handed.now (read journals.now) history.now fold.new) }
 {
+    let mut known = Known::new(alloc);
     'places: for at in 0..history.len() {
         let place = history[at];
         let r = record_at(journals, place);
-        if !is_caused(alloc, known, journals, shape, place.node, r)? {
+        if !is_caused(alloc, &known, journals, shape, place.node, r)? {
             return Ok(Walked::Stopped {
                 place: at as u64,
                 kind: UnsoundKind::Cause,
             });
         }
-        if let Some(kind) = commit(known, journals, place.node, r, ids, handed, compacts, fold)? {
+        if let Some(kind) = commit(&known, journals, place.node, r, ids, handed, compacts, fold)? {
             return Ok(Walked::Stopped {
                 place: at as u64,
                 kind,
@@ -98,7 +97,7 @@ fn walk(
         }
         known.note(place.node, place.index, r)?;
     }
-    Ok(Walked::Whole)
+    Ok(Walked::Whole(known))
 }
 
 // Whether a record's batch is done, where it is a Prepare.
@@ -152,62 +151,6 @@ fn minted(mint: &[Output]) -> u128
     minted
 }
 
-// What a walk comes to at the end of a history: the first Prepare whose batch is not done, if there is one, or else the totals.
-fn verdict_at_end(
-    shape: &Shape,
-    journals: &[&[Record]],
-    history: &[Place],
-    mint: &[Output],
-    known: &Known,
-    fold: &Fold,
-) -> Verdict
-    requires { All (IsRecordPlace (read journals.now)) history.now }
-    ensures { (handed : Items ModelFullTx)
-        → IsWalked shape.now mint.now handed (read journals.now) history.now known.now fold.now Walked.Whole
-        → IsVerdict shape.now mint.now handed (rows_at (read journals.now) history.now) result }
-{
-    match first_open(known, journals, shape, history) {
-        Some(place) => Verdict::Unsound {
-            place,
-            kind: UnsoundKind::Unfinished,
-        },
-        None => Verdict::Sound(Totals {
-            coins: fold.book.len(),
-            value: fold.book.value(),
-            minted: minted(mint),
-            committed: fold.committed,
-        }),
-    }
-}
-
-// The verdict of a walk from the mint on.
-fn verdict_of_walk(
-    alloc: Global,
-    shape: &Shape,
-    journals: &[&[Record]],
-    history: &[Place],
-    mint: &[Output],
-    ids: &ById,
-    handed: &[FullTx],
-    compacts: &[CompactTx],
-    fold: &mut Fold,
-) -> Result<Verdict, AllocError>
-    requires places { All (IsRecordPlace (read journals.now)) history.now }
-    requires index { IsIndex handed.now ids.now }
-    requires compacts { AllZip IsFormOf handed.now compacts.now }
-    requires mint { HasSpent mint.now handed.now [] fold.old }
-    ensures { IfOk result
-        (IsVerdict shape.now mint.now handed.now (rows_at (read journals.now) history.now)) }
-{
-    let mut known = Known::new(alloc);
-    match walk(
-        alloc, shape, journals, history, ids, handed, compacts, &mut known, fold,
-    )? {
-        Walked::Stopped { place, kind } => Ok(Verdict::Unsound { place, kind }),
-        Walked::Whole => Ok(verdict_at_end(shape, journals, history, mint, &known, fold)),
-    }
-}
-
 /// Walks over a history from its oldest place on. At each record it tries whether the record is caused by those before it, and at a
 /// Commit, for each committed transaction in the order of the batch, whether a transaction with its compact form was handed in, and
 /// whether the first such one can be spent from the book, which begins as the mint. The first failure is the answer. Then the first
@@ -231,7 +174,21 @@ pub fn audit<W: Threads + Sync>(
     let compacts = forms_of(rt, alloc, handed)?;
     let ids = ById::of(alloc, handed, &compacts)?;
     let mut fold = Fold::of_mint(alloc, mint, handed)?;
-    verdict_of_walk(
-        alloc, shape, journals, history, mint, &ids, handed, &compacts, &mut fold,
-    )
+    match walk(
+        alloc, shape, journals, history, &ids, handed, &compacts, &mut fold,
+    )? {
+        Walked::Stopped { place, kind } => Ok(Verdict::Unsound { place, kind }),
+        Walked::Whole(known) => match first_open(&known, journals, shape, history) {
+            Some(place) => Ok(Verdict::Unsound {
+                place,
+                kind: UnsoundKind::Unfinished,
+            }),
+            None => Ok(Verdict::Sound(Totals {
+                coins: fold.book.len(),
+                value: fold.book.value(),
+                minted: minted(mint),
+                committed: fold.committed,
+            })),
+        },
+    }
 }

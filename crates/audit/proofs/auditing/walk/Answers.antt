@@ -21,7 +21,7 @@ never : (b : Bool) → b ≡ false → b ≡ true → ⊥
 never b e f = cc
 
 pub places-init : goal.places-init
-places-init c = (c.requires.nothing, tt, λ mint index spent. spent)
+places-init c = (c.new-known.ensures (read c.args.journals.now), tt, λ mint index spent. spent)
 
 pub returns-then-not-branch : goal.returns-then-not-branch
 unfolding no_place

@@ -1,18 +1,16 @@
-use Rattle.std.proofs.Common.{◌≡◌, ◌≤◌, le_trans, ◌<◌, ◌+◌, ℕ, List, length, ◌∙◌, None, sym, subst, ap, arith, inl, inr, ⊎_elim}
+use Rattle.std.proofs.Common.{◌≡◌, ◌≤◌, le_trans, ◌<◌, ◌+◌, ℕ, List, length, ◌∙◌, sym, subst, ap, arith, inr, ⊎_elim}
 use Rattle.std.proofs.lemmas.Bool.{cases_lt}
 use Rattle.std.specs.Option.{option_copied}
-use Rattle.cbdc_types.specs.declared.answer.Answer.{Answer}
 use Rattle.cbdc_model.specs.Records.{Header}
 use Rattle.node_journal.specs.Nodes.{NodeOf}
 use Rattle.coord_log.specs.Opening.{IsCoord}
 use Rattle.rack_ledgers.specs.Places.{EachFrom}
 use Rattle.rack_ledgers.specs.Racked.{OfTold, IsDiskBack}
 use Rattle.rack_ledgers.specs.Ledgers.{IsNodeAt, IsMintOf}
-use Rattle.rack_ledgers.specs.Refused.{IsNodeRefusal}
 use Rattle.rack_ledgers.proofs.Others.{outside_one}
 use Rattle.rack_ledgers.proofs.Opened.{led_whole, logs_since, node_back}
 use Rattle.rack_ledgers.proofs.LedgerBacks.{taken_one, back_one, back_parts}
-use Rattle.rack_ledgers.proofs.Lacks.{lacks_log, memory_refused}
+use Rattle.rack_ledgers.proofs.Lacks.{lacks_log}
 use Rattle.rack_ledgers.proofs.opening.open_logs.Goals as goal
 
 pub open_at_once-requires-clause-waiting : goal.open_at_once-requires-clause-waiting
@@ -124,23 +122,3 @@ returns-in-Err-open_at_once-clause-back g c =
           others.takes n (inr above) (alone.takes n (inr some) (lead.takes n (inr some) (c.requires n))))
           (cases_lt n (0 + c.coordinators-count.result));
     }
-
-pub lead_alone-requires : goal.lead_alone-requires
-lead_alone-requires g c = c.in-Ok.ensures.out
-
-pub returns-in-Err-clause-refusal : goal.returns-in-Err-clause-refusal
-returns-in-Err-clause-refusal g c = c.in-Err.ensures.refusal
-
-pub returns-in-Err-clause-kind : goal.returns-in-Err-clause-kind
-returns-in-Err-clause-kind g c = c.in-Err.ensures.kind
-
-pub returns-in-Err-lead_alone-clause-kind : goal.returns-in-Err-lead_alone-clause-kind
-returns-in-Err-lead_alone-clause-kind g c = subst (λ (a : Answer). IsNodeRefusal a) (sym c.in-Err-lead_alone.ensures.memory) tt
-
-pub returns-in-Err-open_at_once-clause-kind : goal.returns-in-Err-open_at_once-clause-kind
-returns-in-Err-open_at_once-clause-kind g c = c.in-Err-open_at_once.ensures.refusal.fails.0.0
-
-pub returns-in-Err-lead_alone-clause-refusal : goal.returns-in-Err-lead_alone-clause-refusal
-returns-in-Err-lead_alone-clause-refusal g c =
-    inl (memory_refused g.R.Disk.Disk (g.R.Rack.held c.args.rack.now) (g.R.Rack.count c.args.rack.now) (g.R.Rack.count c.lead_alone.new.rack) IsCoord None 0
-    c.in-Err-lead_alone.fault c.in-Err-lead_alone.ensures.memory)

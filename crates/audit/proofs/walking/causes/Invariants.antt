@@ -3,7 +3,7 @@ use Rattle.cbdc_model.specs.Records.{journal}
 use Rattle.audit.specs.Rows.{read, newest_first}
 use Rattle.audit.specs.Knowing.{Knows}
 use Rattle.audit.specs.Walks.{AllCaused}
-use Rattle.audit.proofs.walking.first_without_cause.Given as goal
+use Rattle.audit.proofs.walking.causes.Given as goal
 
 abbrev pub invariant-places : goal.invariant-places
 invariant-places l =
