@@ -5,7 +5,6 @@ ghost use Rattle.coord_core.specs.Hashes.{NamesBatch, AllNameBatches};
 ghost use Rattle.coord_core.specs.Lanes.{IsOwnLane};
 ghost use Rattle.coord_log.specs.Logs.{HasShortLists};
 
-use crate::state::Node;
 use cbdc_types::{
     CompactTx, FinishCall, ForgetCall, Hash, Header, LaneId, List, LockCall, NodeFault, Outcome,
     Replies, Reply, Shape, ShardReplies, Stamp,
@@ -64,8 +63,14 @@ fn forget(shard: &mut ShardNode<FaultDisk>, call: &ForgetCall, told: &mut Told) 
     }
 }
 
-// `lock LANE NUMBER cause STAMP NAME@PLACE..`, `finish LANE NUMBER cause STAMP +..`, `forget LANE NUMBER cause STAMP`
-fn call_shard(known: &Known, shard: &mut ShardNode<FaultDisk>, words: &[&str], told: &mut Told) {
+/// `call NODE CALL`, and what a shard answers: `lock LANE NUMBER cause STAMP NAME@PLACE..`, `finish LANE NUMBER cause STAMP +..`,
+/// `forget LANE NUMBER cause STAMP`
+pub fn call_shard(
+    known: &Known,
+    shard: &mut ShardNode<FaultDisk>,
+    words: &[&str],
+    told: &mut Told,
+) {
     let own = rest(words, 1);
     match told.word_at(words, 0) {
         "lock" => {
@@ -214,20 +219,30 @@ fn size_of(log: &CoordLog<FaultDisk>, lane: LaneId) -> usize {
     }
 }
 
+// Asks for a decision by all replies, and tells it with its outcomes.
+fn decide_by(
+    log: &mut CoordLog<FaultDisk>,
+    lane: LaneId,
+    replies: &Replies,
+    out: &mut Vec<Outcome>,
+    told: &mut Told,
+) {
+    match ask_decide(log, lane, replies, out) {
+        Some(answer) => tell_stamp(told, &answer),
+        None => told.refuse(NO_CALL),
+    }
+    for outcome in out.iter() {
+        told.outcome(outcome);
+    }
+}
+
 // `decide LANE STAMP REPLY..` by what the only shard replied; where outcomes are told, one that stands there before is gone
 fn decide(log: &mut CoordLog<FaultDisk>, lane: LaneId, words: &[&str], told: &mut Told) {
     let replies = replies_told(words, told);
     let room = Vec::with_capacity(told.alloc, size_of(log, lane));
-    let Some(mut out) = told.made(room) else {
-        return;
-    };
-    told.push(&mut out, Outcome::Missing(0, Hash([7; 32])));
-    match ask_decide(log, lane, &replies, &mut out) {
-        Some(answer) => tell_stamp(told, &answer),
-        None => told.refuse(NO_CALL),
-    }
-    for outcome in &out {
-        told.outcome(outcome);
+    if let Some(mut out) = told.made(room) {
+        told.push(&mut out, Outcome::Missing(0, Hash([7; 32])));
+        decide_by(log, lane, &replies, &mut out, told);
     }
 }
 
@@ -238,8 +253,8 @@ pub fn cause_of(words: &[&str], told: &mut Told) -> Stamp {
     Stamp(told.number_at(words, 1))
 }
 
-// `prepare LANE TX..`, and the calls above
-fn call_log(known: &Known, log: &mut CoordLog<FaultDisk>, words: &[&str], told: &mut Told) {
+/// `call NODE CALL`, and what a coordinator answers: `prepare LANE TX..`, and the calls above
+pub fn call_log(known: &Known, log: &mut CoordLog<FaultDisk>, words: &[&str], told: &mut Told) {
     let lane = told.lane_at(words, 1);
     let own = rest(words, 2);
     match told.word_at(words, 0) {
@@ -251,14 +266,5 @@ fn call_log(known: &Known, log: &mut CoordLog<FaultDisk>, words: &[&str], told: 
         "discard" => end(log, lane, false, own, told),
         "done" => end(log, lane, true, own, told),
         _ => told.refuse(NO_CALL),
-    }
-}
-
-/// `call NODE CALL`, and what the node answers
-pub fn call(known: &Known, node: &mut Node, words: &[&str], told: &mut Told) {
-    match node {
-        Node::Shard(shard) => call_shard(known, shard, words, told),
-        Node::Log(log) => call_log(known, log, words, told),
-        _ => told.refuse("no open node"),
     }
 }

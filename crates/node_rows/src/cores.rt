@@ -120,14 +120,8 @@ fn take_told(known: &Known, core: &mut CoordCore, next: &Record, text: &str, tol
     }
 }
 
-const NO_LANES: &str = "no lanes in memory";
-
 /// `next NODE CALL`, and the record that the lanes make, which is taken in.
-pub fn next(known: &Known, node: &mut Node, words: &[&str], text: &str, told: &mut Told) {
-    let Node::Lanes(core) = node else {
-        told.refuse(NO_LANES);
-        return;
-    };
+pub fn next(known: &Known, core: &mut CoordCore, words: &[&str], text: &str, told: &mut Told) {
     match next_by(known, core, words, told) {
         Some(next) => take_told(known, core, &next, text, told),
         None => told.refuse(NO_CALL),
@@ -136,11 +130,7 @@ pub fn next(known: &Known, node: &mut Node, words: &[&str], text: &str, told: &m
 
 /// `core NODE LANE after CAUSE`, and where the lane stands, whether it is the coordinator's own, how many bytes are kept for later records and
 /// how many of these there are, and the stamp of a record with that cause
-pub fn core_stands(node: &Node, words: &[&str], told: &mut Told) {
-    let Node::Lanes(core) = node else {
-        told.refuse(NO_LANES);
-        return;
-    };
+pub fn core_stands(core: &CoordCore, words: &[&str], told: &mut Told) {
     let lane = told.lane_at(words, 0);
     told.expect(words, 1, "after");
     let cause = Stamp(told.number_at(words, 2));
@@ -156,11 +146,7 @@ pub fn core_stands(node: &Node, words: &[&str], told: &mut Told) {
 }
 
 /// `admits NODE RECORD`, and `yes` or `no`: whether the lanes let it come next. They stay as they are.
-pub fn admits(known: &Known, node: &mut Node, words: &[&str], told: &mut Told) {
-    let Node::Lanes(core) = node else {
-        told.refuse(NO_LANES);
-        return;
-    };
+pub fn admits(known: &Known, core: &mut CoordCore, words: &[&str], told: &mut Told) {
     let Some(next) = record(known, core.header().node.0, words, told) else {
         return;
     };

@@ -78,6 +78,19 @@ pub fn rack(words: &[&str], told: &mut Told) {
     }
 }
 
+// Gives a sink one piece after another, and tells what each call takes.
+fn fill(sink: &mut MemSink, pieces: &[&str], told: &mut Told) {
+    for piece in pieces {
+        let bytes = bytes_of(&[*piece], told);
+        tell_count(told, "took", &sink.write(&bytes));
+    }
+}
+
+fn check_taken(sink: &MemSink, held: &[&str], told: &mut Told) {
+    let wanted = bytes_of(held, told);
+    told.check_bytes(&wanted, sink.taken());
+}
+
 /// `sink CAPACITY fails CALL.. takes PIECE.. has PIECE..`, and what each call takes, or `fails`; behind them it has those bytes.
 pub fn sink(words: &[&str], told: &mut Told) {
     let (words, held) = words_around(words, "has");
@@ -86,14 +99,10 @@ pub fn sink(words: &[&str], told: &mut Told) {
     told.at_most(words, 1);
     let capacity = told.small_at(words, 0) as usize;
     let fails = numbers(fails, told);
-    let wanted = bytes_of(held, told);
     let made = MemSink::new(told.alloc, capacity, fails);
     if let Some(mut sink) = told.made(made) {
-        for piece in pieces {
-            let bytes = bytes_of(&[*piece], told);
-            tell_count(told, "took", &sink.write(&bytes));
-        }
-        told.check_bytes(&wanted, sink.taken());
+        fill(&mut sink, pieces, told);
+        check_taken(&sink, held, told);
     }
 }
 
@@ -153,6 +162,13 @@ fn tell_came(told: &mut Told, gate: &TestGate) {
     told.word(if awaited { "awaited" } else { "-" });
 }
 
+// Passes an open gate and one of two points, and tells which of these came.
+fn pass<W: Wait>(rt: &W, gate: &TestGate, own: &Point, told: &mut Told) {
+    OpenGate.pass(rt, own);
+    gate.pass(rt, own);
+    tell_came(told, gate);
+}
+
 /// `gate HELD AWAITED passes LANE..`, of points by their lanes, and which of the two came, at first and behind each that passes. An open gate lets
 /// them by, too.
 pub fn gate<W: Wait>(rt: &W, words: &[&str], told: &mut Told) {
@@ -163,8 +179,6 @@ pub fn gate<W: Wait>(rt: &W, words: &[&str], told: &mut Told) {
     tell_came(told, &gate);
     for at in 3..words.len() {
         let own = point(words, at, told);
-        OpenGate.pass(rt, &own);
-        gate.pass(rt, &own);
-        tell_came(told, &gate);
+        pass(rt, &gate, &own, told);
     }
 }

@@ -136,19 +136,15 @@ pub fn on_disk<D: Disk>(disk: &mut D, verb: Verb, words: &[&str], told: &mut Tol
         Verb::Write => write(disk, words, told),
         Verb::Read => read(disk, words, told),
         Verb::Sync => tell_done(told, disk.sync().is_ok()),
-        _ => told.numbers(&[disk.len(), disk.capacity(), disk.faults()]),
+        Verb::Device => told.numbers(&[disk.len(), disk.capacity(), disk.faults()]),
+        _ => told.refuse("no step of a disk"),
     }
 }
 
 /// `bytes NODE PIECE..`: what the disk holds.
-pub fn bytes(node: &Node, pieces: &[&str], told: &mut Told) {
+pub fn bytes(held: &[u8], pieces: &[&str], told: &mut Told) {
     let wanted = bytes_of(pieces, told);
-    match node {
-        Node::Plain(disk) => told.check_bytes(&wanted, disk.bytes()),
-        Node::Disk(disk) => told.check_bytes(&wanted, disk.bytes()),
-        Node::Bodies(journal) => told.check_bytes(&wanted, journal.disk().bytes()),
-        _ => told.refuse("no disk"),
-    }
+    told.check_bytes(&wanted, held);
 }
 
 /// The disk of a node, which is closed.
@@ -171,6 +167,17 @@ pub fn close(nodes: &mut Vec<Node>, place: u32, told: &mut Told) {
     }
 }
 
+// What a crash leaves of a node's disk by a choice.
+fn crash_with(nodes: &mut Vec<Node>, place: u32, choice: &Choice, told: &mut Told) {
+    let Some(disk) = disk_in(take_node(nodes, place)) else {
+        told.refuse(NO_FAULTS);
+        return;
+    };
+    if let Some(left) = told.made(disk.crash(choice)) {
+        put_node(nodes, place, Node::Disk(left));
+    }
+}
+
 /// `crash NODE LENGTH PIECE..`: the disk becomes what a crash leaves, which is so long where it may, and has these bytes in the places that
 /// it may change.
 pub fn crash(nodes: &mut Vec<Node>, place: u32, words: &[&str], told: &mut Told) {
@@ -178,11 +185,5 @@ pub fn crash(nodes: &mut Vec<Node>, place: u32, words: &[&str], told: &mut Told)
         len: told.small_at(words, 0) as usize,
         bytes: bytes_of(rest(words, 1), told),
     };
-    let Some(disk) = disk_in(take_node(nodes, place)) else {
-        told.refuse(NO_FAULTS);
-        return;
-    };
-    if let Some(left) = told.made(disk.crash(&choice)) {
-        put_node(nodes, place, Node::Disk(left));
-    }
+    crash_with(nodes, place, &choice, told);
 }

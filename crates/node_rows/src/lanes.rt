@@ -1,7 +1,8 @@
 // Lanes over the nodes, and what they asked of them.
 use crate::ledgers::{Apart, Plan, run_over};
-use crate::state::{Node, Seen, State};
-use row_records::{Told, count, rest, txs};
+use crate::state::{Node, Seen};
+use cbdc_types::Shape;
+use row_records::{Known, Told, count, rest, txs};
 use std::mem;
 use std::sync::Wait;
 
@@ -40,25 +41,44 @@ fn together(all: Apart, told: &mut Told) -> Vec<Node> {
     nodes
 }
 
-/// `lane LANE TX.. [repeats N]`, and a line for each batch, its lane, number and outcomes, or where the lane stopped, and why; `batch`: the same of one batch.
-pub fn lane<W: Wait>(rt: &W, state: &mut State, words: &[&str], is_whole: bool, told: &mut Told) {
+// Runs a lane over the nodes in their places.
+fn run_at<W: Wait>(
+    rt: &W,
+    shape: &Shape,
+    plan: &Plan,
+    nodes: &mut Vec<Node>,
+    seen: &mut Vec<Seen>,
+    told: &mut Told,
+) {
     let alloc = told.alloc;
+    let all = apart(mem::replace(nodes, Vec::new(alloc)), told);
+    let left = run_over(rt, alloc, shape, plan, all, seen, told);
+    *nodes = together(left, told);
+}
+
+/// `lane LANE TX.. [repeats N]`, and a line for each batch, its lane, number and outcomes, or where the lane stopped, and why; `batch`: the same of one batch.
+pub fn lane<W: Wait>(
+    rt: &W,
+    known: &Known,
+    nodes: &mut Vec<Node>,
+    seen: &mut Vec<Seen>,
+    words: &[&str],
+    is_whole: bool,
+    told: &mut Told,
+) {
     let (own, repeats) = told.small_behind(words, "repeats", 0);
     let lane = told.lane_at(own, 0);
-    let Some(shape) = told.given(state.known.shape()) else {
+    let Some(shape) = told.given(known.shape()) else {
         return;
     };
-    let batch = txs(&state.known, rest(own, 1), told);
+    let batch = txs(known, rest(own, 1), told);
     let plan = Plan {
         lane,
         txs: batch.as_slice(),
         is_whole,
         repeats,
     };
-    let nodes = mem::replace(&mut state.nodes, Vec::new(alloc));
-    let all = apart(nodes, told);
-    let left = run_over(rt, alloc, &shape, &plan, all, &mut state.seen, told);
-    state.nodes = together(left, told);
+    run_at(rt, &shape, &plan, nodes, seen, told);
 }
 
 /// The word of a record's kind.

@@ -1,6 +1,7 @@
 //! Runs rows on nodes, told in text files: devices and disks in memory, journals on them, coordinators and shards, lanes over these, and the tables of a shard.
 #![tactic(auto)]
 
+mod asking;
 mod bodies;
 mod calls;
 mod cores;

@@ -2,8 +2,11 @@
 use crate::state::Node;
 use cbdc_types::{OpenLane, Phase, Record};
 use coord_core::LanePhase;
+use coord_log::CoordLog;
+use mem_devices::FaultDisk;
 use row_records::{Known, Names, Told, Wrong, differ, records_in, words_around};
 use shard_core::Remembered;
+use shard_node::ShardNode;
 use std::alloc::Global;
 
 fn records_differ(alloc: Global, text: &str, came: &[Record]) -> Wrong {
@@ -14,25 +17,11 @@ fn records_differ(alloc: Global, text: &str, came: &[Record]) -> Wrong {
     differ(alloc, text, own.as_str())
 }
 
-/// Lines spell these records of a node.
+/// `journal NODE`, and a line for each of its records: lines spell these records of a node.
 pub fn check_records(known: &Known, node: u32, came: &[Record], text: &str, told: &mut Told) {
     let wanted = records_in(known, node, text, told);
     if wanted.as_slice() != came {
         told.fail(records_differ(told.alloc, text, came));
-    }
-}
-
-/// `journal NODE`, and a line for each of its records.
-pub fn journal(known: &Known, node: &Node, text: &str, told: &mut Told) {
-    match node {
-        Node::Records(log) => {
-            check_records(known, log.header.node.0, log.records.as_slice(), text, told);
-        }
-        Node::Log(log) => check_records(known, log.header().node.0, log.records(), text, told),
-        Node::Shard(shard) => {
-            check_records(known, shard.header().node.0, shard.records(), text, told);
-        }
-        _ => told.refuse("no open node with records"),
     }
 }
 
@@ -46,11 +35,7 @@ fn remembered_word(own: Option<Remembered>) -> &'static str {
 }
 
 /// `knows NODE HASH.. tx ID..`, and what the shard knows of the hashes and remembers of the transactions, and how many hashes are unspent
-pub fn knows(node: &Node, words: &[&str], told: &mut Told) {
-    let Node::Shard(shard) = node else {
-        told.refuse("no open shard");
-        return;
-    };
+pub fn knows(shard: &ShardNode<FaultDisk>, words: &[&str], told: &mut Told) {
     let (hashes, ids) = words_around(words, "tx");
     for at in 0..hashes.len() {
         let x = told.hash_at(hashes, at);
@@ -91,12 +76,8 @@ fn tell_open(told: &mut Told, own: &OpenLane) {
 }
 
 /// `stands NODE LANE`, and `idle NUMBER`, or the phase, number and stamp of the lane's open batch, and how many transactions and outcomes it has
-pub fn stands(node: &Node, words: &[&str], told: &mut Told) {
+pub fn stands(log: &CoordLog<FaultDisk>, words: &[&str], told: &mut Told) {
     let lane = told.lane_at(words, 0);
-    let Node::Log(log) = node else {
-        told.refuse("no open coordinator");
-        return;
-    };
     match log.open_lane(lane) {
         Ok(Some(own)) => tell_open(told, &own),
         Ok(None) => tell_phase(told, &log.phase(lane)),

@@ -144,6 +144,7 @@ fn bytes_in(known: &Known, node: u32, rows: &[(u32, Record)], told: &mut Told) -
 // Lays the disk of a node of a ledger, and opens it.
 fn lay(nodes: &mut Vec<Node>, node: u32, bytes: &[u8], capacity: u32, kind: &str, told: &mut Told) {
     let mut own = Told::new(told.alloc);
+    make_place(nodes, node, told);
     put_disk(
         nodes,
         node,
@@ -159,7 +160,42 @@ fn lay(nodes: &mut Vec<Node>, node: u32, bytes: &[u8], capacity: u32, kind: &str
     }
 }
 
-// Lays each node of a ledger.
+// The capacity of a node's disk, by the words of its step.
+fn capacity_of(capacities: &[&str], node: u32, told: &mut Told) -> u32 {
+    let at = node as usize;
+    if at < capacities.len() {
+        told.small_at(capacities, at)
+    } else {
+        CAPACITY
+    }
+}
+
+// As what a node of a ledger is opened.
+fn kind_of(shape: &Shape, node: u32) -> &'static str {
+    if node < shape.coordinators() {
+        "coordinator"
+    } else {
+        "shard"
+    }
+}
+
+// Lays a node of a ledger.
+fn lay_one(
+    known: &Known,
+    nodes: &mut Vec<Node>,
+    shape: &Shape,
+    node: u32,
+    capacities: &[&str],
+    rows: &[(u32, Record)],
+    told: &mut Told,
+) {
+    let kind = kind_of(shape, node);
+    let capacity = capacity_of(capacities, node, told);
+    let bytes = bytes_in(known, node, rows, told);
+    lay(nodes, node, &bytes, capacity, kind, told);
+}
+
+// Lays each node of a ledger, of which no row may be another's.
 fn lay_all(
     known: &Known,
     nodes: &mut Vec<Node>,
@@ -168,24 +204,12 @@ fn lay_all(
     rows: &[(u32, Record)],
     told: &mut Told,
 ) {
-    for node in 0..shape.node_count() {
-        make_place(nodes, node, told);
-        let at = node as usize;
-        let bytes = bytes_in(known, node, rows, told);
-        let capacity = if at < capacities.len() {
-            told.small_at(capacities, at)
-        } else {
-            CAPACITY
-        };
-        let is_log = node < shape.coordinators();
-        lay(
-            nodes,
-            node,
-            &bytes,
-            capacity,
-            if is_log { "coordinator" } else { "shard" },
-            told,
-        );
+    let many = shape.node_count();
+    if rows.iter().any(|row| row.0 >= many) {
+        told.refuse("no such node");
+    }
+    for node in 0..many {
+        lay_one(known, nodes, shape, node, capacities, rows, told);
     }
 }
 
@@ -194,11 +218,7 @@ pub fn ledger(known: &Known, nodes: &mut Vec<Node>, words: &[&str], text: &str, 
     let Some(shape) = told.given(known.shape()) else {
         return;
     };
+    told.at_most(words, shape.node_count() as usize);
     let rows = rows_in(known, text, told);
-    let many = shape.node_count();
-    told.at_most(words, many as usize);
-    if rows.iter().any(|row| row.0 >= many) {
-        told.refuse("no such node");
-    }
     lay_all(known, nodes, &shape, words, &rows, told);
 }

@@ -136,6 +136,11 @@ fn take_call(
     }
 }
 
+fn take_line(known: &Known, shape: &Shape, calls: &mut BatchCalls, line: &str, told: &mut Told) {
+    let words = told.words_of(line);
+    take_call(known, shape, calls, &words, told);
+}
+
 // The calls that lines tell.
 fn calls_told(known: &Known, shape: &Shape, text: &str, told: &mut Told) -> BatchCalls {
     let alloc = told.alloc;
@@ -145,8 +150,7 @@ fn calls_told(known: &Known, shape: &Shape, text: &str, told: &mut Told) -> Batc
         forgets: Vec::new(alloc),
     };
     for line in text.lines() {
-        let words = told.words_of(line);
-        take_call(known, shape, &mut calls, &words, told);
+        take_line(known, shape, &mut calls, line, told);
     }
     calls
 }
@@ -160,6 +164,21 @@ fn check_calls(wanted: &BatchCalls, came: &BatchCalls, told: &mut Told) {
     );
 }
 
+// Looks whether lines tell the calls of a batch of these transactions that has this Commit.
+fn check_by(
+    known: &Known,
+    shape: &Shape,
+    txs: &[CompactTx],
+    commit: &Record,
+    text: &str,
+    told: &mut Told,
+) {
+    if let Some(came) = calls_by(shape, txs, commit, told) {
+        let wanted = calls_told(known, shape, text, told);
+        check_calls(&wanted, &came, told);
+    }
+}
+
 /// `calls TX.. / COMMIT`, and a line for each call at a shard of the batch of these transactions that has this Commit, whose Prepare has the stamp 1
 /// and whose Discard has 5: `SHARD lock ..`, `SHARD finish ..`, `SHARD forget ..`, those of a kind in their order.
 pub fn calls(known: &Known, words: &[&str], text: &str, told: &mut Told) {
@@ -169,10 +188,7 @@ pub fn calls(known: &Known, words: &[&str], text: &str, told: &mut Told) {
     };
     let batch = txs(known, names, told);
     if let Some(commit) = record(known, 0, commit, told) {
-        if let Some(came) = calls_by(&shape, batch.as_slice(), &commit, told) {
-            let wanted = calls_told(known, &shape, text, told);
-            check_calls(&wanted, &came, told);
-        }
+        check_by(known, &shape, batch.as_slice(), &commit, text, told);
     }
 }
 
@@ -250,6 +266,26 @@ fn empty_call(alloc: Global) -> LockCall {
     }
 }
 
+// A call to lock nothing at each shard that answers.
+fn empty_calls(own: &[(u32, Answer)], told: &mut Told) -> Vec<(u32, LockCall)> {
+    let alloc = told.alloc;
+    let mut calls = Vec::new(alloc);
+    for (shard, _) in own {
+        told.push(&mut calls, (*shard, empty_call(alloc)));
+    }
+    calls
+}
+
+// What each shard answers to it.
+fn all_replied(own: &[(u32, Answer)], told: &mut Told) -> Vec<Result<Replied, NodeFault>> {
+    let mut answers = Vec::new(told.alloc);
+    for (_, answer) in own {
+        let one = replied(answer, told);
+        told.push(&mut answers, one);
+    }
+    answers
+}
+
 // Tells the shards and the stamps of all replies, or the first fault.
 fn tell_gathered(told: &mut Told, came: &Result<Replies, ShardFault>) {
     match came {
@@ -280,16 +316,22 @@ fn gather_all(
 
 /// `gather SHARD ANSWER / SHARD ANSWER ..`, each answer a stamp, with the reply that 04 is missing, or a fault; and the shards and stamps of all replies, or the first fault
 pub fn gathers(words: &[&str], told: &mut Told) {
-    let alloc = told.alloc;
     let own = answers_of(words, told);
-    let mut calls = Vec::new(alloc);
-    let mut answers = Vec::new(alloc);
-    for (shard, answer) in &own {
-        told.push(&mut calls, (*shard, empty_call(alloc)));
-        let one = replied(answer, told);
-        told.push(&mut answers, one);
-    }
+    let calls = empty_calls(&own, told);
+    let answers = all_replied(&own, told);
     gather_all(&calls, answers, told);
+}
+
+// Tells the greatest stamp, or the first fault.
+fn tell_latest(own: &[(u32, Answer)], stamps: &[Stamped], told: &mut Told) {
+    if stamps.len() != own.len() {
+        told.refuse("an answer is missing");
+        return;
+    }
+    match latest(own, stamps) {
+        Ok(stamp) => told.number(stamp.0),
+        Err(first) => told.shown(&first),
+    }
 }
 
 /// `latest SHARD ANSWER / SHARD ANSWER ..`, each answer a stamp or a fault, and the greatest stamp, or the first fault
@@ -299,12 +341,5 @@ pub fn latest_of(words: &[&str], told: &mut Told) {
     for (_, answer) in &own {
         told.push(&mut stamps, stamped(answer));
     }
-    if stamps.len() != own.len() {
-        told.refuse("an answer is missing");
-        return;
-    }
-    match latest(&own, &stamps) {
-        Ok(stamp) => told.number(stamp.0),
-        Err(first) => told.shown(&first),
-    }
+    tell_latest(&own, &stamps, told);
 }

@@ -75,62 +75,103 @@ fn tell_same(told: &mut Told, is_same: bool) {
     }
 }
 
-// Puts a slot in a lane, or looks at what stands there, or takes it out.
-fn at_slot(slots: &mut Slots, action: &str, lane: LaneId, own: LaneSlot, told: &mut Told) {
+const NO_LANE: &str = "no such lane";
+
+// Puts a slot in a lane.
+fn put_slot(slots: &mut Slots, lane: LaneId, own: LaneSlot, told: &mut Told) {
+    if (lane.0 as usize) < slots.len() {
+        slots.put(lane, own);
+    } else {
+        told.refuse(NO_LANE);
+    }
+}
+
+// Looks at what stands in a lane, or takes it out.
+fn compare_slot(slots: &mut Slots, action: &str, lane: LaneId, own: &LaneSlot, told: &mut Told) {
     if lane.0 as usize >= slots.len() {
-        told.refuse("no such lane");
+        told.refuse(NO_LANE);
         return;
     }
     match action {
-        "put" => slots.put(lane, own),
-        "at" => tell_same(told, *slots.slot(lane) == own),
-        "take" => tell_same(told, slots.take(lane) == own),
+        "at" => tell_same(told, *slots.slot(lane) == *own),
+        "take" => tell_same(told, slots.take(lane) == *own),
         _ => told.refuse("no such step"),
+    }
+}
+
+// Tells how many slots there are.
+fn count_slots(slots: &Slots, words: &[&str], told: &mut Told) {
+    told.at_most(words, 1);
+    told.number(slots.len() as u64);
+    if slots.is_empty() {
+        told.refuse("no slot");
+    }
+}
+
+// Does a step of slots by its word.
+fn on_slots(known: &Known, slots: &mut Slots, words: &[&str], told: &mut Told) {
+    let action = told.word_at(words, 0);
+    if action == "count" {
+        count_slots(slots, words, told);
+        return;
+    }
+    let lane = told.lane_at(words, 1);
+    let own = slot(known, rest(words, 2), told);
+    if action == "put" {
+        put_slot(slots, lane, own, told);
+    } else {
+        compare_slot(slots, action, lane, &own, told);
     }
 }
 
 /// `slot count`, and how many there are; `slot put LANE SLOT`, `slot at LANE SLOT`, `slot take LANE SLOT`: one is put in a lane, stands there, or stands
 /// there and is taken out.
 pub fn slot_step(known: &Known, tables: &mut Tables, words: &[&str], told: &mut Told) {
-    let Some(slots) = &mut tables.slots else {
-        told.refuse("no slots were made");
-        return;
-    };
-    let action = told.word_at(words, 0);
-    if action == "count" {
-        told.at_most(words, 1);
-        told.number(slots.len() as u64);
-        if slots.is_empty() {
-            told.refuse("no slot");
-        }
-        return;
+    match &mut tables.slots {
+        Some(slots) => on_slots(known, slots, words, told),
+        None => told.refuse("no slots were made"),
     }
-    let lane = told.lane_at(words, 1);
-    let own = slot(known, rest(words, 2), told);
-    at_slot(slots, action, lane, own, told);
 }
 
-// Tells how many entries there are, where they are those of a Lock with their replies.
-fn tell_answered(entries: &[Answered], told: &mut Told) {
-    let alloc = told.alloc;
-    let mut part = Vec::new(alloc);
-    let mut replies = Vec::new(alloc);
+// The part of a Lock with these entries.
+fn part_of(entries: &[Answered], told: &mut Told) -> Vec<Entry> {
+    let mut part = Vec::new(told.alloc);
     for one in entries {
         if let Some(entry) = told.made(one.entry.clone()) {
             told.push(&mut part, entry);
         }
+    }
+    part
+}
+
+// The replies of a Lock with these entries.
+fn replies_of(entries: &[Answered], told: &mut Told) -> Vec<Reply> {
+    let mut replies = Vec::new(told.alloc);
+    for one in entries {
         told.push(&mut replies, one.reply);
     }
+    replies
+}
+
+// Tells how many entries a part and its replies come to, where they are these.
+fn check_answered(entries: &[Answered], part: &[Entry], replies: &[Reply], told: &mut Told) {
     if part.len() != replies.len() {
         told.refuse("a reply is missing");
         return;
     }
-    if let Some(came) = told.made(answered(alloc, &part, &replies)) {
+    if let Some(came) = told.made(answered(told.alloc, part, replies)) {
         told.number(came.len() as u64);
         if came.as_slice() != entries {
             told.word("other entries");
         }
     }
+}
+
+// Tells how many entries there are, where they are those of a Lock with their replies.
+fn tell_answered(entries: &[Answered], told: &mut Told) {
+    let part = part_of(entries, told);
+    let replies = replies_of(entries, told);
+    check_answered(entries, &part, &replies, told);
 }
 
 /// `answered LOCK`, and how many entries it has: the entries of the Lock's part, each with its reply, are those of the Lock.

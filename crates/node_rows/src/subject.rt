@@ -1,21 +1,31 @@
 // What the steps of these rows do.
-use crate::bodies::{add, append, memory, used};
-use crate::calls::call;
-use crate::cores::{admits, core_stands, make_lanes, next};
+use crate::asking::ask;
+use crate::cores::make_lanes;
 use crate::devices::{gate, inbox, rack, sink};
-use crate::disks::{bytes, close, crash, disk, on_disk, plain_disk};
+use crate::disks::{close, crash, disk, plain_disk};
 use crate::lanes::{asked, asks, lane};
-use crate::looking::{journal, keep, knows, same, stands};
+use crate::looking::{keep, same};
 use crate::opening::{ledger, open};
 use crate::parts::{calls, gathers, latest_of};
 use crate::slots::{entries, make_slots, slot_step};
-use crate::state::{Node, State, make_place};
+use crate::state::{State, make_place};
 use crate::stores::{find, len, make_store, put, put_all, reserve, room, spare, take_out};
 use crate::verbs::{Verb, takes_text, verb_of};
 use lane_driver::no_memory;
-use row_records::{Block, Known, Names, Subject, Told, Wrong, name_form, rest, shape};
+use row_records::{Block, Names, Subject, Told, Wrong, name_form, rest, shape};
 use std::alloc::Global;
 use std::sync::Wait;
+
+// Runs a lane, or one batch of it.
+fn run<W: Wait>(rt: &W, state: &mut State, words: &[&str], is_whole: bool, told: &mut Told) {
+    let State {
+        known,
+        nodes,
+        seen,
+        ..
+    } = state;
+    lane(rt, known, nodes, seen, words, is_whole, told);
+}
 
 // Does a step, and tells what comes of it.
 fn tell<W: Wait>(
@@ -27,8 +37,8 @@ fn tell<W: Wait>(
     told: &mut Told,
 ) {
     match verb {
-        Verb::Lane => lane(rt, state, words, true, told),
-        Verb::Batch => lane(rt, state, words, false, told),
+        Verb::Lane => run(rt, state, words, true, told),
+        Verb::Batch => run(rt, state, words, false, told),
         Verb::Gate => gate(rt, words, told),
         Verb::Asked => asked(&state.seen, text, told),
         Verb::Asks => asks(&state.seen, told),
@@ -107,44 +117,9 @@ fn turn(state: &mut State, verb: Verb, words: &[&str], text: &str, told: &mut To
         }
         other => {
             if let Some(node) = state.nodes.get_mut(place as usize) {
-                act(&state.known, node, other, own, text, told);
+                ask(&state.known, node, other, own, text, told);
             }
         }
-    }
-}
-
-// Asks a node.
-fn act(known: &Known, node: &mut Node, verb: Verb, words: &[&str], text: &str, told: &mut Told) {
-    match verb {
-        Verb::Memory => memory(node, words, told),
-        Verb::Append => append(node, words, told),
-        Verb::Add => add(known, node, words, told),
-        Verb::Call => call(known, node, words, told),
-        Verb::Next => next(known, node, words, text, told),
-        Verb::Admits => admits(known, node, words, told),
-        other => look(known, node, other, words, text, told),
-    }
-}
-
-// Looks at a node.
-fn look(known: &Known, node: &mut Node, verb: Verb, words: &[&str], text: &str, told: &mut Told) {
-    match verb {
-        Verb::Journal => journal(known, node, text, told),
-        Verb::Bytes => bytes(node, words, told),
-        Verb::Used => used(node, told),
-        Verb::Knows => knows(node, words, told),
-        Verb::Stands => stands(node, words, told),
-        Verb::Core => core_stands(node, words, told),
-        other => at_disk(node, other, words, told),
-    }
-}
-
-// Does a step of a disk.
-fn at_disk(node: &mut Node, verb: Verb, words: &[&str], told: &mut Told) {
-    match node {
-        Node::Plain(disk) => on_disk(disk, verb, words, told),
-        Node::Disk(disk) => on_disk(disk, verb, words, told),
-        _ => told.refuse("no disk"),
     }
 }
 
