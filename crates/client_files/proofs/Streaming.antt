@@ -4,7 +4,7 @@ use Rattle.std.proofs.Common.{◌≡◌, ◌≢◌, ℕ, zero, suc, ◌+◌, ◌
 use Rattle.std.proofs.lemmas.Bool.{cases_lt, le-ltb, lt-ltb}
 use Rattle.std.proofs.lemmas.List.{append-nil, take-append-drop, take_all, take-append-le, drop-append-le}
 use Rattle.std.proofs.Math.Seq.{drop-append-add}
-use Rattle.outside.specs.Images.{IsToldAnd, Tells, filled}
+use Rattle.outside.specs.Images.{IfTold, Tells, filled}
 use Rattle.base_types.specs.declared.faults.InputKind.{InputKind}
 use Rattle.base_types.specs.declared.faults.InputKind.TheVariants as kinds
 use Rattle.cbdc_types.specs.declared.tx.FullTx.{FullTx}
@@ -144,7 +144,7 @@ meets_later told read next unread after pieces old new bad come on meets bytes l
 
 -- ---- one read
 
-told_is : (told : Option (List ℕ)) (P : List ℕ → Type 0) → IsToldAnd told P → Tells told P
+told_is : (told : Option (List ℕ)) (P : List ℕ → Type 0) → IfTold told P → Tells told P
 told_is None P h c e = absurd (cc)
 told_is (Some d) P h c e = let same : d ≡ c = cc in subst P same h
 
@@ -159,7 +159,7 @@ at_limit told w full = record {
 }
 
 pub one_more : (told : Option (List ℕ)) (old new : WindowOf) (buf after : List ℕ) (n : ℕ) → n ≤ length buf → length after ≡ length buf → 0 < length buf → old.had + length buf ≤ 1073741824
-    → IsToldAnd told (λ c. after ≡ filled c old.had n buf) → IsToldAnd told (λ c. old.had < length c → 0 < length buf → 0 < n)
+    → IfTold told (λ c. after ≡ filled c old.had n buf) → IfTold told (λ c. old.had < length c → 0 < length buf → 0 < n)
     → new ≡ record { unread = old.unread ++ take n after; had = old.had + length (take n after) } → HasMore told old new n
 one_more told old new buf after n fits same some room bytes inside is =
     let size : length (take n after) ≡ n = omega (arith, length-take n after, same, fits) in
@@ -189,11 +189,11 @@ one_more told old new buf after n fits same some room bytes inside is =
     }
 
 pub one_more_at : (told : Option (List ℕ)) (old new : WindowOf) (buf after : List ℕ) (n at : ℕ) → at ≡ old.had → n ≤ length buf → length after ≡ length buf → 0 < length buf → old.had + length buf ≤ 1073741824
-    → IsToldAnd told (λ c. after ≡ filled c at n buf) → IsToldAnd told (λ c. at < length c → 0 < length buf → 0 < n)
+    → IfTold told (λ c. after ≡ filled c at n buf) → IfTold told (λ c. at < length c → 0 < length buf → 0 < n)
     → new ≡ record { unread = old.unread ++ take n after; had = old.had + length (take n after) } → HasMore told old new n
 one_more_at told old new buf after n at place fits same some room bytes inside is =
-    one_more told old new buf after n fits same some room (subst (λ (k : ℕ). IsToldAnd told (λ c. after ≡ filled c k n buf)) place bytes)
-    (subst (λ (k : ℕ). IsToldAnd told (λ c. k < length c → 0 < length buf → 0 < n)) place inside) is
+    one_more told old new buf after n fits same some room (subst (λ (k : ℕ). IfTold told (λ c. after ≡ filled c k n buf)) place bytes)
+    (subst (λ (k : ℕ). IfTold told (λ c. k < length c → 0 < length buf → 0 < n)) place inside) is
 
 -- the end is reached where no byte came
 pub end_now : (told : Option (List ℕ)) (old new : WindowOf) (n : ℕ) → HasMore told old new n → n ≡ 0 → IsFileEnd told new.had

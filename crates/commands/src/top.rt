@@ -328,8 +328,8 @@ where
 
     // Where nothing hinders what is asked (`IsUnhindered`) it ends with Ok or Memory, or with WriteFault, where the sink's count rose (`write_fault`). Nothing
     // does where all that it is about is told, no count of it rises, and it is as `CanInit`, `CanRun` and `CanAudit` say, or, of `recover` and `status`,
-    // `AreReadyFor` (of these and of `run`: with room for every record that is still to come, `Ample`); of `gen`, where no hashes of its workload clash;
-    // of help, always.
+    // `AreReadyFor` (of these and of `run`: with room for every record that is still to come, `Ample`), and each hash of `status` has its 32 bytes; of
+    // `gen`, where no hashes of its workload clash; of help, always.
     ensures complete { let before = scene I.Inbox R.Rack O.Sink inbox.old rack out.old in
         let after = scene I.Inbox R.Rack O.Sink inbox.new result.rack out.new in
         (r : Asked) → WordsAskFor (texts words.now) r → IsUnhindered R.Disk.Disk before after r

@@ -9,7 +9,7 @@ ghost use Rattle.lane_driver.specs.Told.{IsLane, AreShardsOf};
 ghost use Rattle.lane_driver.specs.Reports.{IsReported};
 ghost use Rattle.lane_driver.specs.Outcomes.{LaneResult};
 ghost use Rattle.node_ports.specs.Nodes.{sight_at};
-ghost use Rattle.phase_calls.specs.Phase.{MakesAll, AsksLocks, AsksFinishes, AsksForgets, Locks, Finishes, Forgets, IsToldAtOnce};
+ghost use Rattle.phase_calls.specs.Phase.{MakesAll, AsksLocks, AsksFinishes, AsksForgets, Locks, Finishes, Forgets, IsPhaseTold};
 ghost use Rattle.lane_waves.specs.Phases.{SeatsShow, SeatsTell, KeepsSeats};
 
 use cbdc_types::{FinishCall, ForgetCall, LaneId, LockCall, NodeFault, Replied, Shape, Stamp};
@@ -124,7 +124,7 @@ pub(crate) fn run_over<
     >, ports: &mut [P]|
         requires { IsSync W.row
             × IsSend P.row × IsSync G.row × AsksLocks P.sight P.serves calls.now out.old ports.old }
-        ensures { IsToldAtOnce (Locks P.sight P.serves P.alone P.at P.faults P.holds)
+        ensures { IsPhaseTold (Locks P.sight P.serves P.alone P.at P.faults P.holds)
             calls.now out.old ports.old out.new ports.new }
     { lock_phase(rt, gate, pace, calls, out, ports) };
     let finish = |calls: &[(u32, FinishCall)], out: &mut Vec<
@@ -132,7 +132,7 @@ pub(crate) fn run_over<
     >, ports: &mut [P]|
         requires { IsSync W.row
             × IsSend P.row × IsSync G.row × AsksFinishes P.sight P.serves calls.now out.old ports.old }
-        ensures { IsToldAtOnce (Finishes P.sight P.serves P.alone P.at P.faults P.holds)
+        ensures { IsPhaseTold (Finishes P.sight P.serves P.alone P.at P.faults P.holds)
             calls.now out.old ports.old out.new ports.new }
     { finish_phase(rt, gate, pace, calls, out, ports) };
     let forget = |calls: &[(u32, ForgetCall)], out: &mut Vec<
@@ -140,7 +140,7 @@ pub(crate) fn run_over<
     >, ports: &mut [P]|
         requires { IsSync W.row
             × IsSend P.row × IsSync G.row × AsksForgets P.sight P.serves calls.now out.old ports.old }
-        ensures { IsToldAtOnce (Forgets P.sight P.serves P.alone P.at P.faults P.holds)
+        ensures { IsPhaseTold (Forgets P.sight P.serves P.alone P.at P.faults P.holds)
             calls.now out.old ports.old out.new ports.new }
     { forget_phase(rt, gate, pace, calls, out, ports) };
     let phases = PhaseGate {

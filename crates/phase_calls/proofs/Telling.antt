@@ -13,7 +13,7 @@ use Rattle.lane_driver.specs.Told.{IsStillNode, KeepNodes}
 use Rattle.lane_driver.specs.Keeping.{KeepsShard}
 use Rattle.lane_driver.proofs.Fitting.{nodes_same}
 use Rattle.node_ports.specs.Nodes.{no_sight, sight_at}
-use Rattle.phase_calls.specs.Phase.{IsCallTaken, IsMade, IsPhaseMade, IsToldAtOnce, Answered}
+use Rattle.phase_calls.specs.Phase.{IsCallTaken, IsMade, IsPhaseMade, IsPhaseTold, Answered}
 use Rattle.phase_calls.proofs.Halves.{none_made}
 
 -- ---- before
@@ -96,11 +96,11 @@ only Q H xs all = All-weaker (λ x. Q x × H) Q (λ x h. h.0) xs all
 
 -- a phase is told that is told where it has calls: where it has none nothing has changed
 pub phase_told : {P C A : Type 0} (makes : C → P → P → A → Type 0) (calls : List (ℕ × C)) (out : Vec A) (ps : List P) (out' : Vec A) (ps' : List P) → out.items ≡ [] → (length calls ≡ 0 → (out' ≡ out) × (ps' ≡ ps))
-    → (0 < length calls → IsToldAtOnce makes calls out ps out' ps') → IsToldAtOnce makes calls out ps out' ps'
+    → (0 < length calls → IsPhaseTold makes calls out ps out' ps') → IsPhaseTold makes calls out ps out' ps'
 phase_told makes [] out ps out' ps' empty none some =
     let same = none refl in
-    subst (λ o. IsToldAtOnce makes [] out ps o ps') (sym same.0)
-    (subst (λ qs. IsToldAtOnce makes [] out ps out qs) (sym same.1) (record { made = none_made makes 0 ps [] out.items refl (ap length empty); capacity = refl }))
+    subst (λ o. IsPhaseTold makes [] out ps o ps') (sym same.0)
+    (subst (λ qs. IsPhaseTold makes [] out ps out qs) (sym same.1) (record { made = none_made makes 0 ps [] out.items refl (ap length empty); capacity = refl }))
 phase_told makes (c ∷ cs) out ps out' ps' empty none some = some (omega arith)
 
 -- ---- what is seen

@@ -97,7 +97,7 @@ pub record IsPhaseAsked {P C A : Type 0} (fits : Header → C → Type 0) (lane_
   pub room : length calls ≤ vec_capacity out
 
 -- they are made, and answered
-pub record IsToldAtOnce {P C A : Type 0} (makes : C → P → P → A → Type 0) (calls : List (ℕ × C)) (out : Vec A) (ports : List P) (out' : Vec A) (ports' : List P) : Type 0 where
+pub record IsPhaseTold {P C A : Type 0} (makes : C → P → P → A → Type 0) (calls : List (ℕ × C)) (out : Vec A) (ports : List P) (out' : Vec A) (ports' : List P) : Type 0 where
   pub made : IsPhaseMade makes 0 calls ports ports' out'.items
   pub capacity : vec_capacity out' ≡ vec_capacity out
 
@@ -149,7 +149,7 @@ module _ {F P C A : Type 0} (g : Shared F (Bor (List (ℕ × C)) × (MutBor (Vec
   -- each value of this type may be called with the calls of any phase that is asked for, and makes them
   pub record MakesPhases (asks : List (ℕ × C) → Vec A → List P → Type 0) (makes : C → P → P → A → Type 0) : Type 0 where
     pub takes : (f : F) (cs : List (ℕ × C)) (os : Vec A) (ps : List P) → asks cs os ps → TakesPhase f cs os ps
-    pub tells : (f : F) (cs : List (ℕ × C)) (os : Vec A) (ps : List P) (os' : Vec A) (ps' : List P) → PhaseCalled f cs os ps os' ps' → IsToldAtOnce makes cs os ps os' ps'
+    pub tells : (f : F) (cs : List (ℕ × C)) (os : Vec A) (ps : List P) (os' : Vec A) (ps' : List P) → PhaseCalled f cs os ps os' ps' → IsPhaseTold makes cs os ps os' ps'
 
 -- what makes the lock, finish and forget calls of a phase, at either pace
 pub record MakesAll {FL FN FT P : Type 0} (gl : Shared FL (Bor (List (ℕ × LockCall)) × (MutBor (Vec (Result Replied NodeFault)) × (MutBor (List P) × Unit {0}))) (Unit {0} × (MutBor (Vec (Result Replied NodeFault)) × (MutBor (List P) × Unit {0}))))

@@ -2,7 +2,7 @@
 ghost use Rattle.std.specs.Prelude.{◌≡◌, ◌≤◌, ◌<◌, [], length, vec_len, vec_capacity};
 ghost use denote.Param.Send.{IsSync, IsSend};
 ghost use Rattle.cbdc_model.specs.Calls.{IsLockCall, IsFinishCall, IsForgetCall};
-ghost use Rattle.phase_calls.specs.Phase.{Accepts, Makes, IsPhase, IsPhaseTaken, IsPhaseMade, AsksLocks, AsksFinishes, AsksForgets, Locks, Finishes, Forgets, IsToldAtOnce};
+ghost use Rattle.phase_calls.specs.Phase.{Accepts, Makes, IsPhase, IsPhaseTaken, IsPhaseMade, AsksLocks, AsksFinishes, AsksForgets, Locks, Finishes, Forgets, IsPhaseTold};
 
 use cbdc_types::{FinishCall, ForgetCall, LockCall, NodeFault, Replied, Stamp};
 use lane_driver::ShardPort;
@@ -42,7 +42,7 @@ pub fn lock_phase<W: Threads + Sync, P: ShardPort + Send, G: Gate + Sync>(
     ports: &mut [P],
 )
     requires asks { AsksLocks P.sight P.serves calls.now out.old ports.old }
-    ensures told { IsToldAtOnce
+    ensures told { IsPhaseTold
         (Locks P.sight P.serves P.alone P.at P.faults P.holds) calls.now out.old ports.old out.new ports.new }
 {
     let lock = |port: &mut P, call: &LockCall| -> Result<Replied, NodeFault>
@@ -63,7 +63,7 @@ pub fn finish_phase<W: Threads + Sync, P: ShardPort + Send, G: Gate + Sync>(
     ports: &mut [P],
 )
     requires asks { AsksFinishes P.sight P.serves calls.now out.old ports.old }
-    ensures told { IsToldAtOnce (Finishes P.sight P.serves P.alone P.at P.faults P.holds)
+    ensures told { IsPhaseTold (Finishes P.sight P.serves P.alone P.at P.faults P.holds)
         calls.now out.old ports.old out.new ports.new }
 {
     let finish = |port: &mut P, call: &FinishCall| -> Result<Stamp, NodeFault>
@@ -84,7 +84,7 @@ pub fn forget_phase<W: Threads + Sync, P: ShardPort + Send, G: Gate + Sync>(
     ports: &mut [P],
 )
     requires asks { AsksForgets P.sight P.serves calls.now out.old ports.old }
-    ensures told { IsToldAtOnce (Forgets P.sight P.serves P.alone P.at P.faults P.holds)
+    ensures told { IsPhaseTold (Forgets P.sight P.serves P.alone P.at P.faults P.holds)
         calls.now out.old ports.old out.new ports.new }
 {
     let forget = |port: &mut P, call: &ForgetCall| -> Result<Stamp, NodeFault>
@@ -110,7 +110,7 @@ fn make_each<
     ports: &mut [P],
 )
     requires { IsPhaseTaken (Accepts F.Fn f.now) calls.now out.old ports.old }
-    ensures { IsToldAtOnce (Makes F.Fn f.now) calls.now out.old ports.old out.new ports.new }
+    ensures { IsPhaseTold (Makes F.Fn f.now) calls.now out.old ports.old out.new ports.new }
 {
     hold_places(out, calls.len());
     at_each(rt, at_once, f, 0, calls, out.as_mut_slice(), ports);

@@ -11,7 +11,7 @@ use Rattle.record_log.specs.Held.{HasNoRecord}
 use Rattle.node_journal.specs.Opening.{IsJournalOf, IsDamagedAt, IsTooFull}
 use Rattle.rack_ledgers.specs.Asked.{asked_of}
 
--- a header of either kind
+-- any header: of a node of either kind
 abbrev pub IsAny : Header → Type 0
 IsAny h = Unit {0}
 

@@ -1,5 +1,5 @@
 use Rattle.std.proofs.Common.{rules}
-use Rattle.phase_calls.specs.Phase.{AsksLocks, AsksFinishes, AsksForgets, Locks, Finishes, Forgets, IsToldAtOnce}
+use Rattle.phase_calls.specs.Phase.{AsksLocks, AsksFinishes, AsksForgets, Locks, Finishes, Forgets, IsPhaseTold}
 use Rattle.lane_waves.specs.Phases.{KeepsPorts}
 use Rattle.lane_waves.proofs.Making.{asked_at, told_at}
 use Rattle.lane_waves.proofs.seats.run_over.Goals as goal
@@ -11,15 +11,15 @@ run_lane-requires-clause-mine g c =
       record {
         lock = record {
           takes = λ f cs os ps asks calls out ports d e h. let asked = asked_at (AsksLocks P.sight P.serves) cs calls.now os out.now ps ports.now d e h asks in search rules;
-          tells = λ f cs os ps os' ps' d. told_at (IsToldAtOnce (Locks P.sight P.serves P.alone P.at P.faults P.holds)) d.calls.now cs d.out.now os d.ports.now ps d.after_out.now os' d.after_ports.now ps' d.calls_are d.out_is d.ports_are d.left_out d.left_ports d.called;
+          tells = λ f cs os ps os' ps' d. told_at (IsPhaseTold (Locks P.sight P.serves P.alone P.at P.faults P.holds)) d.calls.now cs d.out.now os d.ports.now ps d.after_out.now os' d.after_ports.now ps' d.calls_are d.out_is d.ports_are d.left_out d.left_ports d.called;
         };
         finish = record {
           takes = λ f cs os ps asks calls out ports d e h. let asked = asked_at (AsksFinishes P.sight P.serves) cs calls.now os out.now ps ports.now d e h asks in search rules;
-          tells = λ f cs os ps os' ps' d. told_at (IsToldAtOnce (Finishes P.sight P.serves P.alone P.at P.faults P.holds)) d.calls.now cs d.out.now os d.ports.now ps d.after_out.now os' d.after_ports.now ps' d.calls_are d.out_is d.ports_are d.left_out d.left_ports d.called;
+          tells = λ f cs os ps os' ps' d. told_at (IsPhaseTold (Finishes P.sight P.serves P.alone P.at P.faults P.holds)) d.calls.now cs d.out.now os d.ports.now ps d.after_out.now os' d.after_ports.now ps' d.calls_are d.out_is d.ports_are d.left_out d.left_ports d.called;
         };
         forget = record {
           takes = λ f cs os ps asks calls out ports d e h. let asked = asked_at (AsksForgets P.sight P.serves) cs calls.now os out.now ps ports.now d e h asks in search rules;
-          tells = λ f cs os ps os' ps' d. told_at (IsToldAtOnce (Forgets P.sight P.serves P.alone P.at P.faults P.holds)) d.calls.now cs d.out.now os d.ports.now ps d.after_out.now os' d.after_ports.now ps' d.calls_are d.out_is d.ports_are d.left_out d.left_ports d.called;
+          tells = λ f cs os ps os' ps' d. told_at (IsPhaseTold (Forgets P.sight P.serves P.alone P.at P.faults P.holds)) d.calls.now cs d.out.now os d.ports.now ps d.after_out.now os' d.after_ports.now ps' d.calls_are d.out_is d.ports_are d.left_out d.left_ports d.called;
         };
       },
     )
@@ -37,15 +37,15 @@ returns-clause-keeps g c =
         record {
           lock = record {
             takes = λ f cs os ps asks calls out ports d e h. let asked = asked_at (AsksLocks P.sight P.serves) cs calls.now os out.now ps ports.now d e h asks in search rules;
-            tells = λ f cs os ps os' ps' d. told_at (IsToldAtOnce (Locks P.sight P.serves P.alone P.at P.faults P.holds)) d.calls.now cs d.out.now os d.ports.now ps d.after_out.now os' d.after_ports.now ps' d.calls_are d.out_is d.ports_are d.left_out d.left_ports d.called;
+            tells = λ f cs os ps os' ps' d. told_at (IsPhaseTold (Locks P.sight P.serves P.alone P.at P.faults P.holds)) d.calls.now cs d.out.now os d.ports.now ps d.after_out.now os' d.after_ports.now ps' d.calls_are d.out_is d.ports_are d.left_out d.left_ports d.called;
           };
           finish = record {
             takes = λ f cs os ps asks calls out ports d e h. let asked = asked_at (AsksFinishes P.sight P.serves) cs calls.now os out.now ps ports.now d e h asks in search rules;
-            tells = λ f cs os ps os' ps' d. told_at (IsToldAtOnce (Finishes P.sight P.serves P.alone P.at P.faults P.holds)) d.calls.now cs d.out.now os d.ports.now ps d.after_out.now os' d.after_ports.now ps' d.calls_are d.out_is d.ports_are d.left_out d.left_ports d.called;
+            tells = λ f cs os ps os' ps' d. told_at (IsPhaseTold (Finishes P.sight P.serves P.alone P.at P.faults P.holds)) d.calls.now cs d.out.now os d.ports.now ps d.after_out.now os' d.after_ports.now ps' d.calls_are d.out_is d.ports_are d.left_out d.left_ports d.called;
           };
           forget = record {
             takes = λ f cs os ps asks calls out ports d e h. let asked = asked_at (AsksForgets P.sight P.serves) cs calls.now os out.now ps ports.now d e h asks in search rules;
-            tells = λ f cs os ps os' ps' d. told_at (IsToldAtOnce (Forgets P.sight P.serves P.alone P.at P.faults P.holds)) d.calls.now cs d.out.now os d.ports.now ps d.after_out.now os' d.after_ports.now ps' d.calls_are d.out_is d.ports_are d.left_out d.left_ports d.called;
+            tells = λ f cs os ps os' ps' d. told_at (IsPhaseTold (Forgets P.sight P.serves P.alone P.at P.faults P.holds)) d.calls.now cs d.out.now os d.ports.now ps d.after_out.now os' d.after_ports.now ps' d.calls_are d.out_is d.ports_are d.left_out d.left_ports d.called;
           };
         },
       )).0;

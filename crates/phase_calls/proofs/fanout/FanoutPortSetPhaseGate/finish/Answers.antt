@@ -2,7 +2,7 @@ use Rattle.std.proofs.Common.{◌<◌, ℕ, length, sym, subst}
 use Rattle.std.specs.List.{All}
 use Rattle.cbdc_model.specs.Calls.{IsFinishCall}
 use Rattle.lane_laws.specs.Answers.{FinishAnswer}
-use Rattle.phase_calls.specs.Phase.{MakesAll, IsPhaseAsked, IsPhaseMade, IsToldAtOnce, Finishes, IsStampAnswer}
+use Rattle.phase_calls.specs.Phase.{MakesAll, IsPhaseAsked, IsPhaseMade, IsPhaseTold, Finishes, IsStampAnswer}
 use Rattle.phase_calls.proofs.Telling.{beside, only, made_in, phase_told, set_told}
 use Rattle.phase_calls.proofs.fanout.FanoutPortSetPhaseGate.finish.Goals as goal
 
@@ -25,7 +25,7 @@ returns g c =
     let Served : _ → Type 0 = λ (d : ℕ × _). All (λ q. P.serves q d.1.batch.lane) ports.items in
     let Makers = MakesAll g.L.Fn g.N.Fn g.T.Fn P.sight P.serves P.alone P.at P.faults P.holds in
     let makes = Finishes P.sight P.serves P.alone P.at P.faults P.holds in
-    let told : IsToldAtOnce makes calls c.args.out.now c.as_mut_slice.result.now c.make_phase.new.out c.make_phase.new.ports = phase_told makes calls c.args.out.now c.as_mut_slice.result.now c.make_phase.new.out c.make_phase.new.ports c.requires.empty c.make_phase.ensures.none
+    let told : IsPhaseTold makes calls c.args.out.now c.as_mut_slice.result.now c.make_phase.new.out c.make_phase.new.ports = phase_told makes calls c.args.out.now c.as_mut_slice.result.now c.make_phase.new.out c.make_phase.new.ports c.requires.empty c.make_phase.ensures.none
     (λ some. (beside Served Makers calls some c.requires.mine).finish.tells c.args.gate.now.finish.now calls c.args.out.now c.as_mut_slice.result.now c.make_phase.new.out c.make_phase.new.ports (c.make_phase.ensures.some some)) in
     let made = made_in makes calls ports c.make_phase.new.ports answers (subst (λ ps. IsPhaseMade makes 0 calls ps c.make_phase.new.ports answers) c.as_mut_slice.ensures.value told.made) in
     let set = set_told (FinishAnswer P.alone) IsStampAnswer P.at P.sight P.faults P.holds P.serves (λ n m d s t a h. h) ports.items _ calls answers made in
