@@ -9,8 +9,8 @@ ghost use Rattle.audit.specs.Rows.{read};
 ghost use Rattle.audit.specs.Knowing.{Knows};
 
 use crate::known::Known;
+use crate::merging::stamp_of;
 use crate::outcomes::{are_decided, outcomes_by_locks};
-use crate::stamp_of;
 use cbdc_types::{Answered, BatchId, CompactTx, Outcome, Record, RecordKind, Shape};
 use same_records::{are_outcomes, is_concerned, is_part_from};
 use std::alloc::{AllocError, Global};

@@ -3,7 +3,7 @@ ghost use Rattle.std.specs.Prelude.{◌≡◌, ◌<◌, ◌∷◌, ◌==◌, ◌
 ghost use Rattle.cbdc_model.specs.Records.{Batch, Record as ModelRecord, Row, journal, record_of, last_stamp, stamp_of, is_of, kind_of, same_batch};
 ghost use Rattle.audit.specs.Rows.{read, journal_in, record_at};
 
-use crate::stamp_of;
+use crate::merging::stamp_of;
 use cbdc_types::{BatchId, Record, RecordKind};
 use std::alloc::{AllocError, Global};
 use std::collections::HashMap;

@@ -21,7 +21,7 @@ mod walking;
 pub use account::{account_law, begun_law, caused_lists_law};
 pub use auditing::audit;
 pub use laws::{caused_law, one_verdict_law, ordered_law, unspent_law};
-pub use merging::{merge, record_at, stamp_of};
+pub use merging::{merge, record_at};
 pub use order_laws::rises_law;
 pub use place::{History, Place};
 pub use verdict::{Totals, Verdict};

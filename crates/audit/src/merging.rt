@@ -9,20 +9,11 @@ use crate::place::{History, Place};
 use cbdc_types::{List, Record};
 use std::alloc::{AllocError, Global};
 
-/// A record's stamp: 0 for a first record.
-pub fn stamp_of(r: &Record) -> u64
+// A record's stamp, as a number: 0 for a first record.
+pub(crate) fn stamp_of(r: &Record) -> u64
     ensures { result ≡ stamp_of r.now }
 {
-    match r {
-        Record::Genesis { .. } | Record::Start { .. } => 0,
-        Record::Lock { stamp, .. } => stamp.0,
-        Record::Finish { stamp, .. } => stamp.0,
-        Record::Forget { stamp, .. } => stamp.0,
-        Record::Prepare { stamp, .. } => stamp.0,
-        Record::Commit { stamp, .. } => stamp.0,
-        Record::Discard { stamp, .. } => stamp.0,
-        Record::Done { stamp, .. } => stamp.0,
-    }
+    same_records::stamp_of(r).0
 }
 
 /// The record at a place.

@@ -12,13 +12,19 @@ use lane_driver::{LaneFault, LaneReport, Ports, SliceSource, run_batch, run_lane
 use mem_devices::FaultDisk;
 use node_ports::{NodeLogs, NodeShards};
 use outside::{Gate, Point, When};
-use plain_check::{Phase, copy_of_record, last_stamp, slot_of, slot_stamp};
 use record_grammar::is_compact;
 use row_records::{Told, Wrong};
+use same_records::{Phase, last_stamp, slot_of, slot_stamp};
 use shard_node::ShardNode;
 use std::alloc::{AllocError, Global};
 use std::cell::RefCell;
 use std::sync::Wait;
+
+fn copy_of(x: &Record) -> Result<Record, AllocError>
+    ensures { IfOk result (λ y. y ≡ x.now) }
+{
+    x.clone()
+}
 
 // Copies of records.
 fn copied(alloc: Global, records: &[Record]) -> Result<Vec<Record>, AllocError>
@@ -26,7 +32,7 @@ fn copied(alloc: Global, records: &[Record]) -> Result<Vec<Record>, AllocError>
 {
     let mut all = Vec::with_capacity(alloc, records.len())?;
     for own in records {
-        all.push(copy_of_record(own)?)?;
+        all.push(copy_of(own)?)?;
     }
     Ok(all)
 }

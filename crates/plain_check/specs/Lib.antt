@@ -1,4 +1,3 @@
-pub mod Slots
 pub mod Journals
 pub mod Plans
 pub mod Coins

@@ -10,11 +10,10 @@ ghost use Rattle.plain_check.specs.Journals.{journals_in};
 
 use crate::causes::{all_have, home_journal, is_stamped, last_of};
 use crate::outcomes::{are_decided_by, journal_at, outcomes_by_locks};
-use crate::records::{lock_of, outcomes_of, record_of, stamp_of, txs_of};
 use cbdc_types::{
     Answered, BatchId, CompactTx, List, NodeId, Outcome, Record, RecordKind, Shape, Stamp,
 };
-use same_records::{are_outcomes, is_part_from};
+use same_records::{are_outcomes, is_part_from, lock_of, outcomes_of, record_of, stamp_of, txs_of};
 use std::alloc::{AllocError, Global};
 
 // Whether the entries are the transactions' part at this node, where it is a shard.

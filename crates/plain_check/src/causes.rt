@@ -7,9 +7,8 @@ ghost use Rattle.plain_check.specs.Journals.{journals_in};
 
 use crate::nexts::stamp_of_kind;
 use crate::outcomes::journal_at;
-use crate::records::{last_stamp, record_of, txs_of};
 use cbdc_types::{BatchId, List, Record, Shape, Stamp};
-use same_records::{home_of, is_concerned};
+use same_records::{home_of, is_concerned, last_stamp, record_of, txs_of};
 
 /// The journal of a batch's coordinator.
 pub fn home_journal<'a>(

@@ -5,15 +5,13 @@ ghost use Rattle.cbdc_model.specs.Ranges.{home_of};
 ghost use Rattle.cbdc_model.specs.Replies.{answered, entries};
 ghost use Rattle.cbdc_model.specs.Slots.{slot, Idle, InLock};
 ghost use Rattle.cbdc_model.specs.After.{FitsReplies, Follows, After};
-ghost use Rattle.plain_check.specs.Slots.{phase_in};
+ghost use Rattle.same_records.specs.Slots.{phase_in};
 
 use crate::copying::entries_in;
-use crate::records::{last_stamp, lock_of, txs_of};
 use crate::replying::replies_of;
-use crate::slots::{Phase, slot_of};
 use cbdc_types::{Answered, BatchId, Header, Record, Stamp};
 use record_grammar::is_in_grammar;
-use same_records::{are_answered, home_of, is_held};
+use same_records::{Phase, are_answered, home_of, is_held, last_stamp, lock_of, slot_of, txs_of};
 use std::alloc::{AllocError, Global};
 
 /// Whether there are as many decisions as entries, and commits only for Held.

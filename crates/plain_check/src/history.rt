@@ -5,9 +5,8 @@ ghost use Rattle.cbdc_model.specs.Outcomes.{won_txs};
 ghost use Rattle.cbdc_model.specs.History.{goes_above, IsOrdered, newly_won, committed};
 
 use crate::copying::{copy_of_compact, copy_of_record, put};
-use crate::records::{stamp_of, txs_of};
 use cbdc_types::{CompactTx, List, NodeId, Outcome, Record};
-use same_records::is_won;
+use same_records::{is_won, stamp_of, txs_of};
 use std::alloc::{AllocError, Global};
 use std::marker::Model;
 

@@ -2,18 +2,17 @@
 ghost use Rattle.std.specs.Prelude.{◌≡◌, ◌<◌, ◌^◌, IfOk};
 ghost use Rattle.cbdc_model.specs.Records.{last_stamp, record_of, decisions_in, stamp_in, finish_kind};
 ghost use Rattle.cbdc_model.specs.Next.{next_stamp, next_lock, next_finish, next_forget, lock_again, finish_again, finish_now, finish_in, forget_in, is_idle};
-ghost use Rattle.plain_check.specs.Slots.{phase_in};
+ghost use Rattle.same_records.specs.Slots.{phase_in};
 ghost use Rattle.plain_check.specs.Plans.{locking_plan, plain_plan};
 
 use crate::comparing::{misfit, other_decisions, other_part};
 use crate::copying::replies_in;
 use crate::plans::{LockPlan, StampPlan};
-use crate::records::{last_stamp, lock_of, record_of, stamp_of};
 use crate::replying::replies_of;
-use crate::slots::{Phase, slot_of, slot_stamp};
 use cbdc_types::{
     BatchId, FinishCall, ForgetCall, LockCall, Record, RecordKind, Refused, Replied, Stamp,
 };
+use same_records::{Phase, last_stamp, lock_of, record_of, slot_of, slot_stamp, stamp_of};
 use std::alloc::{AllocError, Global};
 
 /// Whether a phase is Idle.

@@ -7,9 +7,8 @@ ghost use Rattle.cbdc_model.specs.Replies.{entries};
 ghost use Rattle.plain_check.specs.Journals.{journals_in};
 
 use crate::copying::put;
-use crate::records::lock_of;
 use cbdc_types::{Answered, BatchId, CompactTx, List, Outcome, Outcomes, Record, Reply, Shape};
-use same_records::is_won;
+use same_records::{is_won, lock_of};
 use std::alloc::{AllocError, Global};
 
 /// A node's journal, nothing past the last node.

@@ -2,7 +2,7 @@
 ghost use Rattle.std.specs.Prelude.{◌≡◌, ◌≤◌, ◌++◌, length, IfSome, OnOk, None, Some};
 ghost use Rattle.line_text.specs.Reports.{recovery_text};
 ghost use Rattle.plain_check.specs.Journals.{journals_in};
-ghost use Rattle.plain_check.specs.Slots.{phase_in};
+ghost use Rattle.same_records.specs.Slots.{phase_in};
 ghost use Rattle.printed_lines.specs.Recoveries.{open_phase, won_in, lost_in, batch_line, lane_line, resumed_below, open_below, resumed_count, IsRecoverText};
 
 use crate::line_unspent::unspent_count;

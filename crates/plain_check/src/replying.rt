@@ -3,8 +3,7 @@ ghost use Rattle.std.specs.Prelude.{◌≡◌, ◌++◌, [], IfOk, OnOk};
 ghost use Rattle.cbdc_model.specs.Replies.{refusal, reply_to, answered};
 
 use crate::copying::{copy_of_entry, put};
-use crate::records::has;
-use crate::status::status_of;
+use crate::status::{has, status_of};
 use cbdc_types::{Answered, BatchId, Entry, Hash, List, Record, Reply, Status};
 use same_records::is_held;
 use std::alloc::{AllocError, Global};

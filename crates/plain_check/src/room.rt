@@ -3,11 +3,10 @@
 ghost use Rattle.std.specs.Prelude.{◌≡◌, ◌+◌, ◌*◌, ◌-◌, ◌^◌, ◌<◌, ◌≤◌, min, sum_by, MatchOption};
 ghost use Rattle.cbdc_model.specs.Room.{reply_size, outcome_size, compact_size, answered_size, size_of, room_in, lane_room, kept_below, kept_room, need_of};
 ghost use Rattle.cbdc_model.specs.Due.{used_of};
-ghost use Rattle.plain_check.specs.Slots.{phase_in};
+ghost use Rattle.same_records.specs.Slots.{phase_in};
 
-use crate::records::{lock_of, txs_of};
-use crate::slots::{Phase, slot_of};
 use cbdc_types::{Answered, BatchId, CompactTx, LaneId, Outcome, Record, Reply, Shape};
+use same_records::{Phase, lock_of, slot_of, txs_of};
 
 // The number, none where it may stand for a greater one.
 fn counted(bytes: u64) -> Option<u64>

@@ -2,9 +2,15 @@
 ghost use Rattle.std.specs.Prelude.{◌≡◌};
 ghost use Rattle.cbdc_model.specs.Status.{has, held_inputs, taken_inputs, made_outputs, returned_inputs, finished_status, status};
 
-use crate::records::{has, lock_of};
 use cbdc_types::{Answered, Hash, Record, Status};
-use same_records::is_held;
+use same_records::{is_held, lock_of};
+
+/// Whether a hash stands in a list.
+pub fn has(xs: &[Hash], x: &Hash) -> bool
+    ensures { result ≡ has xs.now x.now }
+{
+    xs.contains(x)
+}
 
 /// Whether the hash is an input of a Held entry.
 #[tactic(auto, using(crate::proofs::Digests::has_append))]

@@ -9,9 +9,9 @@ ghost use Rattle.plain_check.specs.Named.{entry_hashes, named_hashes, named_belo
 
 use crate::copying::{put, put_slice};
 use crate::outcomes::journal_at;
-use crate::records::{has, lock_of};
-use crate::status::status_of;
+use crate::status::{has, status_of};
 use cbdc_types::{Answered, Hash, List, Record, Shape, Status};
+use same_records::lock_of;
 use shard_ranges::shard_of;
 use std::alloc::{AllocError, Global};
 

@@ -5,9 +5,8 @@ ghost use Rattle.cbdc_model.specs.Slots.{slot, Idle};
 ghost use Rattle.cbdc_model.specs.World.{node_at, journals, AreIdle, IsRecovered};
 
 use crate::nexts::is_idle;
-use crate::slots::slot_of;
 use cbdc_types::{LaneId, List, Record, Shape};
-use same_records::home_of;
+use same_records::{home_of, slot_of};
 use std::marker::Model;
 
 /// A node: its journal, whether it is up, and a record that a fault or a crash may have left or not. Contracts see the

@@ -1,17 +1,23 @@
-//! Whether hashes, entries, replies, outcomes, transactions, records and journals are the same, whether a reply or an outcome is Held, and what of a
-//! batch lies on a shard. Journals are lists whose newest record comes first.
+//! Whether hashes, entries, replies, outcomes, transactions, records and journals are the same, whether a reply or an outcome is Held, what of a
+//! batch lies on a shard, and what a journal says of a batch and of a lane, by looking back. Journals are lists whose newest record comes first.
 //!
 //! - Tested in `journal_rows`.
 #![tactic(auto)]
 
 mod comparing;
+mod lookups;
 mod parts;
 mod records;
 mod same;
+mod slots;
 mod values;
 
 pub use comparing::{
     are_same_hashes, is_same_compact, is_same_entry, is_same_output, is_same_point,
+};
+pub use lookups::{
+    batch_of, is_in_lane, is_of, kind_of, last_stamp, lock_of, outcomes_of, record_of, stamp_of,
+    txs_of,
 };
 pub use parts::{
     are_elsewhere, entry_at, hashes_on, home_of, is_concerned, is_entry_at, is_part_from, part_of,
@@ -21,4 +27,5 @@ pub use same::{
     are_answered, are_decisions, are_hashes, are_outcomes, is_batch, is_entry, is_hash, is_header,
     is_outcome, is_part, is_reply,
 };
+pub use slots::{Phase, Slot, slot_of, slot_stamp};
 pub use values::{is_held, is_same_batch, is_same_hash, is_won};

@@ -1,4 +1,5 @@
-use Rattle.std.proofs.Common.{◌≡◌, ◌∙◌, ap, length, reverse, sym, subst}
+use Rattle.std.proofs.Common.{◌≡◌, ◌∙◌, ap, length, reverse, sym, subst, arith}
+use Rattle.std.proofs.lemmas.Grind.{common_steps}
 use Rattle.std.proofs.lemmas.List.{length-map}
 use Rattle.cbdc_model.specs.Records.{journal}
 use Rattle.cbdc_model.specs.History.{IsOrdered}
@@ -21,3 +22,6 @@ pub returns-clause-ordered : goal.returns-clause-ordered
 returns-clause-ordered c = λ rises.
     subst (λ h. IsOrdered (newest_first (read c.args.journals.now) h)) (sym c.from_vec.ensures)
     (ordered_from (rows_at (read c.args.journals.now) c.in_ok-places.places.items) (c.in_ok-places.ensures.rises rises))
+
+pub returns-clause-journals : goal.returns-clause-journals
+returns-clause-journals c = grind (arith, common_steps)

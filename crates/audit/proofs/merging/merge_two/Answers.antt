@@ -1,4 +1,5 @@
-use Rattle.std.proofs.Common.{◌≡◌, ◌∙◌, ◌⊎◌, ◌+◌, ◌-◌, ◌≤◌, ◌++◌, inl, inr, sym, ap, subst, length, take, drop, get_or, refl}
+use Rattle.std.proofs.Common.{◌≡◌, ◌∙◌, ◌⊎◌, ◌+◌, ◌-◌, ◌≤◌, ◌++◌, inl, inr, sym, ap, subst, length, take, drop, get_or, refl, arith}
+use Rattle.std.proofs.lemmas.Grind.{common_steps}
 use Rattle.std.proofs.lemmas.List.Elements.{All-push, All-get_or, All-same}
 use Rattle.audit.specs.declared.place.Place.{Place}
 use Rattle.audit.specs.Rows.{read, rows_at, IsRecordPlace}
@@ -52,3 +53,15 @@ returns-clause-rises c = λ apart.
 pub returns-clause-places : goal.returns-clause-places
 returns-clause-places c =
     all_joined (read c.args.journals.now) c.args.a.now c.args.b.now c.places.places.items c.places.i c.places.j _ (both c) c.requires.left c.requires.right c.places.invariant.1
+
+pub offset_bounds-b-j-2 : goal.offset_bounds-b-j-2
+offset_bounds-b-j-2 c = grind (arith, common_steps)
+
+pub offset_bounds-a-i-2 : goal.offset_bounds-a-i-2
+offset_bounds-a-i-2 c = grind (arith, common_steps)
+
+pub slice_bounds-extend_from_slice-start-2 : goal.slice_bounds-extend_from_slice-start-2
+slice_bounds-extend_from_slice-start-2 c = grind (arith, common_steps)
+
+pub slice_bounds-extend_from_slice-count-2 : goal.slice_bounds-extend_from_slice-count-2
+slice_bounds-extend_from_slice-count-2 c = grind (arith, common_steps)

@@ -1,4 +1,5 @@
-use Rattle.std.proofs.Common.{◌≡◌, ◌∙◌, sym, ap, subst}
+use Rattle.std.proofs.Common.{◌≡◌, ◌∙◌, sym, ap, subst, arith}
+use Rattle.std.proofs.lemmas.Grind.{common_steps}
 use Rattle.std.proofs.lemmas.List.{take_all}
 use Rattle.audit.specs.Rows.{read, rows_at, journal_in}
 use Rattle.audit.specs.Merges.{rows_of_node, RiseAll}
@@ -17,3 +18,6 @@ returns-clause-journals c = λ n. ap (journal n) (whole c) ∙ own_journals (rea
 
 pub returns-clause-rises : goal.returns-clause-rises
 returns-clause-rises c = λ h. subst RiseAll (sym (whole c)) (own_rises c.args.node (journal_in (read c.args.journals.now) c.args.node) h)
+
+pub records-preserved : goal.records-preserved
+records-preserved c = grind (arith, common_steps)

@@ -1,4 +1,5 @@
 use Rattle.std.proofs.Common.{◌∙◌, ◌<◌, ℕ, ap, sym, subst, arith, length, get_or, List, None}
+use Rattle.std.proofs.lemmas.Grind.{common_steps}
 use Rattle.cbdc_model.specs.Records.{entries_in, Answered, Won}
 use Rattle.cbdc_model.specs.Causes.{at_shards}
 use Rattle.cbdc_model.specs.Outcomes.{outcome_by, reply_at}
@@ -17,3 +18,6 @@ returns-clause-outcomes t c = λ J h k lt.
     ∙ ap (λ r. outcome_by r c.args.shard (get_or c.in_ok-outcomes.outcomes.items k Won)) (c.in_ok-replies.ensures.replies k lt ∙ ap (λ l. reply_at l k) (c.entries_at-entries.ensures J h))
     ∙ ap (λ o. outcome_by (reply_at (locks c.args.shard) k) c.args.shard o) (c.in_ok-outcomes.ensures.outcomes J h k lt)
     ∙ sym (outcome_step locks k c.args.shard c.args.shape.now.shards below)
+
+pub returns-clause-len : goal.returns-clause-len
+returns-clause-len t c = grind (arith, common_steps)

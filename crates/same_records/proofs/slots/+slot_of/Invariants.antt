@@ -1,5 +1,5 @@
 use Rattle.std.proofs.Common.{length}
-use Rattle.plain_check.proofs.slots.+slot_of.Given as goal
+use Rattle.same_records.proofs.slots.+slot_of.Given as goal
 
 abbrev pub decreases-slot_of : goal.decreases-slot_of
 decreases-slot_of l = length l.past.now

@@ -1,23 +1,24 @@
 // What stands in records, and how one is found. A journal has its newest record first.
 ghost use Rattle.std.specs.Prelude.{◌≡◌, ◌==◌, ℕ, false, MatchOption};
 ghost use Rattle.cbdc_model.specs.Records.{Batch as ModelBatch, same_batch, stamp_of, kind_of, is_of, is_in_lane, record_of, lock_of, txs_of, outcomes_of, last_stamp};
-ghost use Rattle.cbdc_model.specs.Status.{has};
 
-use cbdc_types::{Answered, BatchId, CompactTx, Hash, LaneId, Outcome, Record, RecordKind, Stamp};
-use same_records::is_same_batch;
+use crate::values::is_same_batch;
+use cbdc_types::{Answered, BatchId, CompactTx, LaneId, Outcome, Record, RecordKind, Stamp};
 
 /// A record's stamp: 0 for a first record.
 pub fn stamp_of(r: &Record) -> Stamp
     ensures { result ≡ stamp_of r.now }
 {
-    Stamp(audit::stamp_of(r))
-}
-
-/// Whether a hash stands in a list.
-pub fn has(xs: &[Hash], x: &Hash) -> bool
-    ensures { result ≡ has xs.now x.now }
-{
-    xs.contains(x)
+    match r {
+        Record::Genesis { .. } | Record::Start { .. } => Stamp(0),
+        Record::Lock { stamp, .. } => *stamp,
+        Record::Finish { stamp, .. } => *stamp,
+        Record::Forget { stamp, .. } => *stamp,
+        Record::Prepare { stamp, .. } => *stamp,
+        Record::Commit { stamp, .. } => *stamp,
+        Record::Discard { stamp, .. } => *stamp,
+        Record::Done { stamp, .. } => *stamp,
+    }
 }
 
 /// The kind of a record, as the first byte of its body names it: 1 to 9.

@@ -1,9 +1,9 @@
 // A lane's slot at a node, by looking back.
 ghost use Rattle.std.specs.Prelude.{◌≡◌};
 ghost use Rattle.cbdc_model.specs.Slots.{slot, slot_stamp};
-ghost use Rattle.plain_check.specs.Slots.{slot_in};
+ghost use Rattle.same_records.specs.Slots.{slot_in};
 
-use crate::records::{is_in_lane, stamp_of};
+use crate::lookups::{is_in_lane, stamp_of};
 use cbdc_types::{LaneId, Record, Stamp};
 
 /// What the last record of a lane was: Idle after none, a Forget or a Done.

@@ -1,8 +1,8 @@
 -- The slots of the program as those of the definitions.
 use Rattle.cbdc_model.specs.Slots as model
-use Rattle.plain_check.specs.declared.slots.Phase.{Phase}
-use Rattle.plain_check.specs.declared.slots.Phase.TheVariants.{Idle, InLock, InFinish, InPrepare, InCommit, InDiscard}
-use Rattle.plain_check.specs.declared.slots.Slot.{Slot}
+use Rattle.same_records.specs.declared.slots.Phase.{Phase}
+use Rattle.same_records.specs.declared.slots.Phase.TheVariants.{Idle, InLock, InFinish, InPrepare, InCommit, InDiscard}
+use Rattle.same_records.specs.declared.slots.Slot.{Slot}
 
 -- a phase of the program as one of the definitions
 abbrev pub phase_in : Phase → model.Phase
