@@ -1,7 +1,7 @@
 -- What was told of a batch, from its Prepare on, and a lane that goes on by a batch.
-use Rattle.std.proofs.Common.{◌≡◌, ℕ, zero, suc, ◌<◌, ◌==◌, Bool, true, List, [], ◌∷◌, length, take, drop, Ok, Err, refl, sym, ◌∙◌, ap, subst, arith}
+use Rattle.std.proofs.Common.{◌≡◌, ℕ, zero, suc, ◌<◌, ◌≤◌, ◌==◌, Bool, true, false, List, [], ◌∷◌, length, take, drop, Ok, Err, refl, sym, ◌∙◌, ap, subst, arith, rules}
 use Rattle.std.specs.Prelude.{◌++◌, reverse}
-use Rattle.std.proofs.lemmas.List.{reverse-append}
+use Rattle.std.proofs.lemmas.List.{reverse-append, length-take, length-drop}
 use Rattle.cbdc_types.specs.declared.calls.NodeFault.{NodeFault}
 use Rattle.cbdc_model.specs.Records.{Shape, Batch, Compact, Entry, Outcome}
 use Rattle.cbdc_model.specs.Ranges.{home_of}
@@ -77,3 +77,17 @@ pub none_after : (n : ℕ) (rest piece : List Compact) → 0 < n → piece ≡ t
 none_after n [] piece size is none = refl
 none_after zero (x ∷ rest) piece size is none = absurd (omega (arith, size))
 none_after (suc n) (x ∷ rest) piece size is none = absurd (let z : x ∷ take n rest ≡ [] = sym is ∙ none in cc)
+
+pub not_empty : (xs : List Compact) → false ≡ (length xs == 0) → 0 < length xs
+not_empty [] h = absurd (let e : false ≡ true = h in search rules)
+not_empty (x ∷ xs) h = omega arith
+
+-- a piece is no longer than asked
+pub piece_size : (n : ℕ) (rest piece : List Compact) → piece ≡ take n rest → length piece ≤ n
+piece_size n rest piece is = subst (λ xs. length xs ≤ n) (sym is) (omega (arith, length-take n rest))
+
+-- less is left behind a piece that is not empty
+pub fewer_left : (n : ℕ) (rest piece more : List Compact) → piece ≡ take n rest → more ≡ drop n rest → 0 < length piece → length more < length rest
+fewer_left n rest piece more is back some =
+    let m = ap (λ xs. length xs) back ∙ length-drop n rest in
+    omega (arith, m, ap (λ xs. length xs) is ∙ length-take n rest, some)

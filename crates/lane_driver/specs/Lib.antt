@@ -11,4 +11,3 @@ pub mod Wanting
 pub mod Readied
 pub mod Showing
 pub mod Outcomes
-pub mod Nexts

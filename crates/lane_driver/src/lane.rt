@@ -7,61 +7,15 @@ ghost use Rattle.lane_driver.specs.Stops.{IsLaneSettled};
 ghost use Rattle.lane_driver.specs.Told.{IsLane, AreShardsOf};
 ghost use Rattle.lane_driver.specs.Reports.{IsReported};
 ghost use Rattle.lane_driver.specs.Showing.{PortsShow, PortsTell, KeepsLanePorts};
-ghost use Rattle.lane_driver.specs.Nexts.{NextResult};
 ghost use Rattle.lane_driver.specs.Outcomes.{LaneResult};
 
-use crate::fault::{BatchReport, LaneFault, LaneReport, no_memory};
+use crate::fault::{LaneFault, LaneReport, no_memory};
 use crate::making::ready;
 use crate::port::{LogPort, PortSet, Ports};
 use crate::source::Source;
 use cbdc_types::{LaneId, List, Shape};
 use outside::Gate;
 use std::alloc::Global;
-
-// Runs the batch of the next piece that a source gives to an idle lane, or makes no call where nothing is left. The reports of
-// the batches before it stay with the caller, so that no way out of here lets go of them.
-fn run_next<S: PortSet<G>, L: LogPort, X: Source, G: Gate>(
-    alloc: Global,
-    shape: &Shape,
-    lane: LaneId,
-    source: &mut X,
-    ports: &mut Ports<S, L>,
-    repeats: u32,
-    gate: &G,
-) -> Result<Option<BatchReport>, LaneFault>
-    requires same { S.alone ≡ L.alone }
-    requires at { L.at ports.old.log ≡ home_of shape.now lane }
-    requires home { IsLane (L.header ports.old.log) lane }
-    requires shape { (L.header ports.old.log).shape ≡ shape.now }
-    requires idle { L.phase ports.old.log lane ≡ Idle }
-    requires count { S.count ports.old.shards ≡ shape.now.shards }
-    requires ledger { AreShardsOf shape.now (S.sights ports.old.shards) }
-    requires mine { S.serves ports.old.shards lane }
-    requires settled { PortsShow L.LogPort S.PortSet ports.old (IsLaneSettled shape.now lane) }
-    requires limits { All IsCompact (X.rest source.old) }
-    ensures same { X.all source.new ≡ X.all source.old }
-    ensures outcome { PortsTell L.LogPort S.PortSet ports.old ports.new
-        (NextResult shape.now L.alone lane (X.rest source.old) (X.rest source.new) repeats result) }
-    ensures idle { OnOk result (L.phase ports.new.log lane ≡ Idle) }
-    ensures keeps { KeepsLanePorts L.LogPort S.PortSet lane ports.old ports.new }
-{
-    match source.advance(alloc, shape.batch() as usize) {
-        Ok(()) => {}
-        Err(_) => return Err(no_memory()),
-    }
-    let piece = source.piece();
-    if piece.is_empty() {
-        return Ok(None);
-    }
-    let ready = match ready(alloc, shape, lane, piece) {
-        Ok(ready) => ready,
-        Err(_) => return Err(no_memory()),
-    };
-    match ready.go(ports, repeats, gate) {
-        Ok(report) => Ok(Some(report)),
-        Err(fault) => Err(fault),
-    }
-}
 
 /// Runs all that a source gives to an idle lane in order, in batches of `batch`, the last maybe shorter; with nothing it
 /// makes no call. Each batch is taken from the source when those before it are done; where memory runs out there, the lane
@@ -108,9 +62,20 @@ pub fn run_lane<S: PortSet<G>, L: LogPort, X: Source, G: Gate>(
         Err(_) => return Err(no_memory()),
     };
     'pieces: loop {
-        match run_next(alloc, shape, lane, source, ports, repeats, gate) {
-            Ok(Some(report)) => batches.push_reserved(report),
-            Ok(None) => break,
+        match source.advance(alloc, size) {
+            Ok(()) => {}
+            Err(_) => return Err(no_memory()),
+        }
+        let piece = source.piece();
+        if piece.is_empty() {
+            break;
+        }
+        let ready = match ready(alloc, shape, lane, piece) {
+            Ok(ready) => ready,
+            Err(_) => return Err(no_memory()),
+        };
+        match ready.go(ports, repeats, gate) {
+            Ok(report) => batches.push_reserved(report),
             Err(fault) => return Err(fault),
         }
     }

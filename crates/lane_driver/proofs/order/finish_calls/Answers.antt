@@ -2,8 +2,8 @@ use Rattle.std.proofs.Common.{◌≡◌, ◌≤◌, [], length, ap, ◌∙◌, s
 use Rattle.std.specs.Global.{Vec}
 use Rattle.std.specs.Prelude.{Bool}
 use Rattle.std.specs.Vec.{vec_capacity}
-use Rattle.cbdc_types.specs.declared.calls.LockCall.{LockCall}
 use Rattle.cbdc_model.specs.Outcomes.{decisions}
+use Rattle.std.proofs.lemmas.Grind.{common_steps}
 use Rattle.lane_driver.specs.Calls.{finish_call_of}
 use Rattle.lane_driver.proofs.Filling.{filled_below, filled_more, last_so, rest_so}
 use Rattle.lane_driver.proofs.Rooming.{finish_with}
@@ -35,3 +35,6 @@ loop-lock-preserved c =
       rooms = rest_so (λ (v : Vec Bool). (v.items ≡ []) × (length c.args.outcomes.now ≤ vec_capacity v)) c.loop-lock.rooms.items c.pop.new.self.items c.in-Some.room c.in-Some.ensures.items so.rooms;
       as_many = omega (arith, so.as_many, c.in-Some.ensures.cases);
     }
+
+pub returns : goal.returns
+returns c = grind (arith, common_steps)

@@ -1,4 +1,5 @@
-use Rattle.std.proofs.Common.{refl, ◌∙◌}
+use Rattle.std.proofs.Common.{refl, ◌∙◌, arith}
+use Rattle.std.proofs.lemmas.Grind.{common_steps}
 use Rattle.lane_driver.specs.Calls.{forget_call_of}
 use Rattle.lane_driver.proofs.Filling.{filled_below, filled_more}
 use Rattle.lane_driver.proofs.order.forget_calls.Goals as goal
@@ -12,3 +13,6 @@ loop-lock-preserved c = record {
   made = filled_more (forget_call_of c.args.batch.now c.args.cause) c.args.locks.now c.loop-lock.lock-index c.lock-item.result c.loop-lock.out.items c.push_reserved.new.self.items _ c.loop-lock-test.true c.lock-item.is c.loop-lock.invariant.made refl c.push_reserved.ensures.items;
   room = c.push_reserved.ensures.capacity ∙ c.loop-lock.invariant.room;
 }
+
+pub returns : goal.returns
+returns c = grind (arith, common_steps)

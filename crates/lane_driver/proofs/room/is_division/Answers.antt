@@ -1,5 +1,6 @@
 use Rattle.std.proofs.Common.{arith, ◌≡◌, ◌<◌, ◌≤◌, length, get_or, ap, subst}
 use Rattle.std.proofs.lemmas.List.Elements.{All-more}
+use Rattle.std.proofs.lemmas.Grind.{common_steps}
 use Rattle.lane_driver.specs.Calls.{shard}
 use Rattle.lane_driver.proofs.Rising.{rising-more, before-more}
 use Rattle.lane_driver.proofs.room.is_division.Goals as goal
@@ -19,3 +20,6 @@ loop-shard-preserved c =
       below = All-more (λ p. shard p < c.args.shards) xs i x lt inv.below (omega (arith, at));
       small = All-more (λ p. length p.1 ≤ c.args.size) xs i x lt inv.small (subst (λ p. length p.1 ≤ c.args.size) c.loop-shard-item.is size);
     }
+
+pub returns-clause-small : goal.returns-clause-small
+returns-clause-small c = grind (arith, common_steps)
