@@ -1,6 +1,6 @@
 -- A file that comes in pieces: what is said of all of it.
-use Rattle.std.specs.Prelude.{◌==◌}
-use Rattle.std.proofs.Common.{◌≡◌, ◌≢◌, ℕ, zero, suc, ◌+◌, ◌-◌, ◌≤◌, Bool, true, false, inl, inr, ltb, cond, ◌<◌, List, [], ◌∷◌, ◌++◌, length, take, drop, Option, Some, None, Result, Ok, Err, refl, sym, ap, subst, ◌∙◌, arith, append_assoc, length-append, length-take, length-drop}
+use Rattle.std.specs.Prelude.{◌==◌, IfErr, IsErrAnd}
+use Rattle.std.proofs.Common.{◌≡◌, ◌≢◌, ℕ, zero, suc, ◌+◌, ◌-◌, ◌≤◌, Bool, true, false, inl, inr, ltb, cond, ◌<◌, List, [], ◌∷◌, ◌++◌, length, take, drop, Option, Some, None, Result, Ok, Err, refl, sym, ap, subst, ◌∙◌, arith, append_assoc, length-append, length-take}
 use Rattle.std.proofs.lemmas.Bool.{cases_lt, le-ltb, lt-ltb}
 use Rattle.std.proofs.lemmas.List.{append-nil, take-append-drop, take_all, take-append-le, drop-append-le}
 use Rattle.std.proofs.Math.Seq.{drop-append-add}
@@ -17,7 +17,7 @@ use Rattle.byte_fields.proofs.Loop.{with_front, begins, goes_on as items_go_on, 
 use Rattle.tx_codec.specs.declared.reading.BadTx.{BadTx}
 use Rattle.tx_codec.specs.declared.feed.FeedState.{FeedState}
 use Rattle.tx_codec.specs.declared.feed.FeedState.TheVariants as states
-use Rattle.tx_codec.specs.Places.{IsSpelledAt, IsFirstFault}
+use Rattle.tx_codec.specs.Places.{IsSpelledAt}
 use Rattle.tx_codec.specs.Feeds.{IsGoing, IsCutAt, IsBadIn}
 use Rattle.tx_codec.proofs.Feeding.{nothing_read, reads_later}
 use Rattle.client_files.proofs.PieceLemmas.{piece_is, one_piece}
@@ -34,6 +34,12 @@ pub stops_on : (P Q : BadFile → Type 0) (before mid now last : ℕ) (e : Strea
 stops_on P Q before mid now last (faults.Bad bad) on le ge p = on bad p
 stops_on P Q before mid now last faults.ReadFault on le ge rose = omega (arith, rose, le, ge)
 stops_on P Q before mid now last faults.Memory on le ge p = tt
+
+-- the same at the way out of a `?`
+pub stops_out : {X : Type 0} (r : Result X StreamFault) (e : StreamFault) (P Q : BadFile → Type 0) (before mid now last : ℕ) → IsErrAnd r (λ y. y ≡ e) → ((bad : BadFile) → P bad → Q bad) → before ≤ mid → now ≤ last → Stops P mid now e
+    → IfErr r (Stops Q before last)
+stops_out (Ok x) e P Q before mid now last h on le ge stops = absurd h
+stops_out (Err y) e P Q before mid now last h on le ge stops = subst (λ (z : StreamFault). Stops Q before last z) (sym h) (stops_on P Q before mid now last e on le ge stops)
 
 -- the place of a field that is bad, however much comes behind it
 bad_other : (len left : ℕ) (more : Bool) (kind : InputKind) → kind ≢ kinds.Cut → bad_at len more left kind ≡ record { at = len - left; kind = kind }
@@ -228,6 +234,10 @@ so_more told now old w new n all next same so m is = record {
   is = is ∙ ap (λ (l : List ℕ). l ++ m.piece) so.is ∙ append_assoc old.unread so.pieces m.piece;
 }
 
+-- the window is that much closer to the limit
+pub falls : (told : Option (List ℕ)) (old new : WindowOf) (n had : ℕ) → HasMore told old new n → old.had ≡ had → n ≢ 0 → 1073741824 - new.had < 1073741824 - had
+falls told old new n had m is some = omega (arith, m.come.had, m.size, m.bound, is, some)
+
 -- with more bytes behind
 behind : (all unread pieces later : List ℕ) → all ≡ unread ++ pieces → unread ++ (pieces ++ later) ≡ all ++ later
 behind all unread pieces later is = sym (append_assoc unread pieces later) ∙ ap (λ (l : List ℕ). l ++ later) (sym is)
@@ -376,10 +386,13 @@ tx_took told old new fed unread had taken tx so spelled new_is = record {
     read : List ℕ → Result (FullTx × List ℕ) Fault
     read l = Ok (tx, l)
 
+pub tx_place : (told : Option (List ℕ)) (old : WindowOf) (all : List ℕ) (had start : ℕ) → SoFar told old had all → start + length old.unread ≡ old.had → start + length all ≡ had
+tx_place told old all had start so place = omega (arith, place, so.come.had, ap length so.is, length-append old.unread so.pieces)
+
 pub tx_bad : (told : Option (List ℕ)) (old : WindowOf) (all : List ℕ) (had start : ℕ) (field : BadTx) (bad : BadFile) → SoFar told old had all → start + length old.unread ≡ old.had → IsBadIn all field
     → bad ≡ bad_at had false (had - (start + field.at)) field.kind → OfRead told old.had (MeetsBadField told transaction_at old.unread bad)
 tx_bad told old all had start field bad so place b is =
-    let size : start + length all ≡ had = omega (arith, place, so.come.had, ap length so.is, length-append old.unread so.pieces) in
+    let size = tx_place told old all had start so place in
     meets_stop told transaction_at old.unread so.pieces old.had had (had - (start + field.at)) field.kind bad so.come b.kind
     (λ later.
     let k = b.stays later in

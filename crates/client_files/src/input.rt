@@ -12,6 +12,37 @@ use std::alloc::Global;
 /// How many bytes are asked for at once.
 pub(crate) const PIECE: usize = 65_536;
 
+// Reads what comes next of a file, at most so much of it, into this buffer, and from there behind these bytes. None at its end.
+fn read_into<I: Inbox>(
+    inbox: &mut I,
+    name: &str,
+    bytes: &mut Vec<u8>,
+    room: usize,
+    buf: &mut [u8],
+) -> Result<usize, FetchFault>
+    requires room { 0 < room }
+    requires some { 0 < length buf.old }
+    ensures bytes { IfOk result (λ n. Tells (I.file inbox.old name.now)
+        (λ c. bytes.new.items ≡ bytes.old.items ++ take n (drop (length bytes.old.items) c))) }
+    ensures len { IfOk result (λ n. (length bytes.new.items ≡ length bytes.old.items + n) × (n ≤ room)) }
+    ensures end { IfOk result
+        (λ n. Tells (I.file inbox.old name.now) (λ c. n ≡ 0 → length c ≤ length bytes.old.items)) }
+    ensures same { (other : List ℕ) → I.file inbox.new other ≡ I.file inbox.old other }
+    ensures later { (other : List ℕ) → I.count inbox.old other ≤ I.count inbox.new other }
+    ensures failed { IsErrOf result FetchFault.ReadFault
+        → Rose (I.count inbox.old name.now) (I.count inbox.new name.now) }
+{
+    let len = buf.len().min(room);
+    let piece = &mut buf[..len];
+    match inbox.read(name, bytes.len() as u64, piece) {
+        Err(Failed) => Err(FetchFault::ReadFault),
+        Ok(n) => match bytes.extend_from_slice(&piece[..n]) {
+            Ok(()) => Ok(n),
+            Err(_) => Err(FetchFault::Memory),
+        },
+    }
+}
+
 // Reads what comes next of a file, none at its end.
 fn read_more<I: Inbox>(
     inbox: &mut I,
@@ -31,14 +62,7 @@ fn read_more<I: Inbox>(
         → Rose (I.count inbox.old name.now) (I.count inbox.new name.now) }
 {
     let mut buf = [0u8; PIECE];
-    let piece = &mut buf[..PIECE.min(room)];
-    match inbox.read(name, bytes.len() as u64, piece) {
-        Err(Failed) => Err(FetchFault::ReadFault),
-        Ok(n) => match bytes.extend_from_slice(&piece[..n]) {
-            Ok(()) => Ok(n),
-            Err(_) => Err(FetchFault::Memory),
-        },
-    }
+    read_into(inbox, name, bytes, room, &mut buf)
 }
 
 /// Whether the file goes on behind a place.

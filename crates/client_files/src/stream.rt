@@ -19,24 +19,27 @@ use outside::{Failed, Inbox};
 use std::alloc::Global;
 use tx_codec::{Fed, ReadFault, TxFeed};
 
-// One read of what comes next of a file, into this buffer. None at its end.
+// One read of what comes next of a file, at most so much of it, into this buffer. None at its end.
 fn read_next<I: Inbox>(
     inbox: &mut I,
     name: &str,
     window: &mut Window,
+    room: usize,
     buf: &mut [u8],
 ) -> Result<usize, StreamFault>
-    requires some { 0 < length buf.old }
-    requires room { window.old.had + length buf.old ≤ 1073741824 }
+    requires some { (0 < room) × (0 < length buf.old) }
+    requires room { window.old.had + room ≤ 1073741824 }
     ensures more { IfOk result (λ n. HasMore (I.file inbox.old name.now) window.old window.new n) }
     ensures fault { IfErr result
         (Stops (λ bad. ⊥) (I.count inbox.old name.now) (I.count inbox.new name.now)) }
     ensures same { (other : Items ℕ) → I.file inbox.new other ≡ I.file inbox.old other }
     ensures later { (other : Items ℕ) → I.count inbox.old other ≤ I.count inbox.new other }
 {
-    match inbox.read(name, window.had() as u64, buf) {
+    let len = buf.len().min(room);
+    let piece = &mut buf[..len];
+    match inbox.read(name, window.had() as u64, piece) {
         Err(Failed) => Err(StreamFault::ReadFault),
-        Ok(n) => match window.put(&buf[..n]) {
+        Ok(n) => match window.put(&piece[..n]) {
             Ok(()) => Ok(n),
             Err(_) => Err(StreamFault::Memory),
         },
@@ -56,8 +59,7 @@ fn more<I: Inbox>(inbox: &mut I, name: &str, window: &mut Window) -> Result<usiz
         return Ok(0);
     }
     let mut buf = [0u8; PIECE];
-    let piece = &mut buf[..PIECE.min(room)];
-    read_next(inbox, name, window, piece)
+    read_next(inbox, name, window, room, &mut buf)
 }
 
 // Whether a file of which no more is read goes on there.
