@@ -1,5 +1,5 @@
 -- The calls of a phase in two halves: what is asked of them is asked of each, and what is told of each is told of all.
-use Rattle.std.proofs.Common.{inl, inr, ◌≡◌, ◌≢◌, ◌<◌, ◌≤◌, ◌+◌, ◌-◌, ℕ, zero, suc, false, ◌==◌, Some, List, [], ◌∷◌, ◌++◌, length, get_or, set, refl, sym, ap, ◌∙◌, subst, arith}
+use Rattle.std.proofs.Common.{inl, inr, ◌≡◌, ◌≢◌, ◌<◌, ◌≤◌, ◌+◌, ◌-◌, ◌/◌, ℕ, zero, suc, false, ◌==◌, Some, List, [], ◌∷◌, ◌++◌, length, get_or, set, refl, sym, ap, ◌∙◌, subst, arith}
 use Rattle.std.specs.List.{AllZip, slice_get}
 use Rattle.std.proofs.lemmas.Bool.{cases_lt}
 use Rattle.std.proofs.lemmas.List.{length-append, length-set}
@@ -48,6 +48,17 @@ module _ {X : Type 0} where
   one [] e y = absurd (omega (arith, e))
   one (x ∷ []) e y = refl
   one (x ∷ z ∷ zs) e y = absurd (omega (arith, e))
+
+-- the back half of a list of two or more
+pub some_back : {X : Type 0} (xs low high : List X) → 2 ≤ length xs → xs ≡ low ++ high → length low ≡ length xs / 2 → 0 < length high
+some_back xs low high many split half = omega (arith, many, ap length split, length-append low high, half)
+
+-- the back halves of two lists that are as long as each other
+pub backs : {X Y : Type 0} (xs low high : List X) (ys front back : List Y) (half : ℕ) → length ys ≡ length xs → xs ≡ low ++ high → ys ≡ front ++ back → length low ≡ half → length front ≡ half → length back ≡ length high
+backs xs low high ys front back half same split cut n m = omega (arith, same, ap length split, ap length cut, length-append low high, length-append front back, n, m)
+
+pub within_cut : (first at n : ℕ) → (first ≤ at) × (at < first + n) → at - first ≤ n
+within_cut first at n h = omega (arith, h.0, h.1)
 
 -- ---- the shards of the calls
 
@@ -273,9 +284,15 @@ module _ {P C A : Type 0} (makes : C → P → P → A → Type 0) where
 
 -- ---- the first call, where it is alone
 
+pub no_rest : {X : Type 0} (x : X) (xs rest : List X) → length xs < 2 → xs ≡ x ∷ rest → length rest ≡ 0
+no_rest x xs rest few are = omega (arith, few, ap length are)
+
 module _ {P C A : Type 0} (accepts : C → P → Type 0) (first : ℕ) (calls : List (ℕ × C)) (ports : List P) (answers : List A) (c : ℕ × C) (rest : List (ℕ × C)) (h : IsPhase accepts first calls ports answers) (are : calls ≡ c ∷ rest) where
   pub first_call : IsCallTaken accepts first ports c
   first_call = (subst (Every (IsCallTaken accepts first ports)) are h.taken).0
+
+  pub no_less_than : first ≤ c.0
+  no_less_than = let t = first_call in let e = t.place_is in omega (arith, e)
 
   pub inside : c.0 - first < length ports
   inside = let t = first_call in let e = t.place_is in omega (arith, e, within ports t.place t.port t.found)

@@ -128,6 +128,24 @@ fn hold_places<A: Drop>(out: &mut Vec<Result<A, NodeFault>>, count: usize)
     }
 }
 
+// Calls `f` with a call that is alone and the port of its shard, or with none.
+fn make_alone<P, C, A: Drop, F: Fn(&mut P, &C) -> A>(
+    f: &F,
+    first: u32,
+    calls: &[(u32, C)],
+    answers: &mut [A],
+    ports: &mut [P],
+)
+    requires few { length calls.now < 2 }
+    requires phase { IsPhase (Accepts F.Fn f.now) first calls.now ports.old answers.old }
+    ensures { IsPhaseMade (Makes F.Fn f.now) first calls.now ports.old ports.new answers.new }
+{
+    let Some(((shard, call), _rest)) = calls.split_first() else {
+        return;
+    };
+    answers[0] = f(&mut ports[(*shard - first) as usize], call);
+}
+
 /// Calls `f` with each call and the port of its shard: at once, all but one in a thread of its own where one can be made, or one after another.
 /// The ports stand for the shards from `first` on, and the calls' shards rise.
 //
@@ -145,11 +163,8 @@ fn at_each<R: Threads + Sync, P: Send, C: Sync, A: Send + Drop, F: Fn(&mut P, &C
     requires { IsPhase (Accepts F.Fn f.now) first calls.now ports.old answers.old }
     ensures { IsPhaseMade (Makes F.Fn f.now) first calls.now ports.old ports.new answers.new }
 {
-    let Some(((shard, call), rest)) = calls.split_first() else {
-        return;
-    };
-    if rest.is_empty() {
-        answers[0] = f(&mut ports[(*shard - first) as usize], call);
+    if calls.len() < 2 {
+        make_alone(f, first, calls, answers, ports);
         return;
     }
     let half = calls.len() / 2;
