@@ -1,5 +1,5 @@
 -- Lists by the numbers of their places.
-use Rattle.std.proofs.Common.{◌≡◌, ℕ, zero, suc, ◌+◌, ◌*◌, ◌<◌, List, [], ◌∷◌, ◌++◌, length, reverse, take, drop, Some, None, refl, sym, ap, ◌∙◌, subst, arith}
+use Rattle.std.proofs.Common.{◌≡◌, ℕ, zero, suc, ◌+◌, ◌*◌, ◌<◌, ◌≤◌, List, [], ◌∷◌, ◌++◌, length, reverse, take, drop, Some, None, refl, sym, ap, ◌∙◌, subst, arith}
 use Rattle.std.specs.Prelude.{All, slice_get, vec_len}
 use Rattle.std.specs.Global.{Vec}
 use Rattle.std.proofs.lemmas.Grind.{common_steps}
@@ -117,6 +117,25 @@ append_many xs ys = grind (arith, common_steps)
 pub none_long : {A : Type 0} (xs : List A) → length xs ≡ 0 → xs ≡ []
 none_long [] e = refl
 none_long (x ∷ xs) e = absurd (let z = e in omega (arith, z))
+
+-- of two lists as long as each other each has one fewer, or one more; or one of them gives one to the other, where there is room
+pub many_less : (a b x y : ℕ) → a ≡ x + 1 → b ≡ y + 1 → a ≡ b → x ≡ y
+many_less a b x y e f g = omega arith
+
+pub many_more : (a b x y : ℕ) → x ≡ a + 1 → y ≡ b + 1 → a ≡ b → x ≡ y
+many_more a b x y e f g = omega arith
+
+pub many_over : (a l x m n : ℕ) → a ≡ x + 1 → m ≡ l + 1 → a + l ≡ n → x + m ≡ n
+many_over a l x m n e f g = omega arith
+
+pub many_fit : (a l x n c v : ℕ) → a ≡ x + 1 → a + l ≡ n → n ≤ c → v ≡ l → v < c
+many_fit a l x n c v e f g h = omega arith
+
+pub many_still : (n c d : ℕ) → d ≡ c → n ≤ c → n ≤ d
+many_still n c d e f = omega arith
+
+pub nothing_left : {A : Type 0} (v : Vec A) → vec_len v ≡ 0 → v.items ≡ []
+nothing_left v e = none_long v.items (sym v.ok.0 ∙ e)
 
 pub no_items : {A : Type 0} (v : Vec A) → v.items ≡ [] → vec_len v ≡ 0
 no_items v e = let many : length v.items ≡ 0 = ap (λ (xs : List _). length xs) e in let ok = v.ok.0 in omega (arith, many, ok)

@@ -1,9 +1,9 @@
-use Rattle.std.proofs.Common.{rules, ◌≡◌, ◌+◌, ◌*◌, List, [], length, refl, sym, ap, ◌∙◌, subst, arith}
+use Rattle.std.proofs.Common.{◌≡◌, ◌+◌, ◌*◌, List, length, refl, sym, ap, ◌∙◌, subst, arith}
 use Rattle.std.specs.Prelude.{All}
 use Rattle.std.proofs.lemmas.List.Elements.{All-nil, All-push, All-same}
 use Rattle.lane_waves.specs.Places.{AllFrom}
 use Rattle.lane_waves.specs.Deals.{AreLanesWaiting, HaveSeats, IsHomeFresh, IsHomeLeft, IsEmptyRoom, AreRunsNumbered}
-use Rattle.lane_waves.proofs.Places.{snoc_many, pushed_many, all_last, next_row, zero_row}
+use Rattle.lane_waves.proofs.Places.{nothing_left, snoc_many, pushed_many, all_last, next_row, zero_row}
 use Rattle.lane_waves.proofs.Ending.{none_seated}
 use Rattle.lane_waves.proofs.dealing.deal_all.Goals as goal
 
@@ -91,20 +91,20 @@ loop-own-preserved g c =
 
 pub returns-clause-emptied : goal.returns-clause-emptied
 returns-clause-emptied g c =
-    let none : c.loop-own.homes.items ≡ [] = search (rules, c.in_default.ensures.cases) in
+    let none = nothing_left c.loop-own.homes c.in_default.ensures.cases.0 in
     let z = ap (λ (xs : List _). length xs) none in
     let m = c.loop-own.invariant.many in
     (omega (arith, z, m), c.loop-own.invariant.emptied)
 
 pub returns-clause-waiting : goal.returns-clause-waiting
 returns-clause-waiting g c =
-    let none : c.loop-own.homes.items ≡ [] = search (rules, c.in_default.ensures.cases) in
+    let none = nothing_left c.loop-own.homes c.in_default.ensures.cases.0 in
     let all = ap (λ (xs : List _). length xs * c.args.shape.now.lanes) none ∙ zero_row c.args.shape.now.lanes in
     subst (λ n. AreLanesWaiting g.S.Shard.sight c.args.shard_locks.now n c.loop-own.table) all c.loop-own.invariant.waiting
 
 pub returns-clause-dealt : goal.returns-clause-dealt
 returns-clause-dealt g c =
-    let none : c.loop-own.homes.items ≡ [] = search (rules, c.in_default.ensures.cases) in
+    let none = nothing_left c.loop-own.homes c.in_default.ensures.cases.0 in
     let all = ap (λ (xs : List _). length xs * c.args.shape.now.lanes) none ∙ zero_row c.args.shape.now.lanes in
     subst (λ n. HaveSeats g.S.Shard.sight g.B.Locks.tables c.args.shape.now c.args.log_locks.now c.args.shard_locks.now n c.args.table.lanes.items c.loop-own.table) all c.loop-own.invariant.dealt
 

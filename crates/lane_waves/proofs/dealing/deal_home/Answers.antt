@@ -1,4 +1,4 @@
-use Rattle.std.proofs.Common.{rules, ◌≡◌, ◌<◌, ◌≤◌, ◌+◌, ◌*◌, ℕ, suc, Some, List, [], length, refl, sym, ap, ◌∙◌, subst, arith}
+use Rattle.std.proofs.Common.{◌≡◌, ◌<◌, ◌≤◌, ◌+◌, ◌*◌, ℕ, suc, Some, List, length, refl, sym, ap, ◌∙◌, subst, arith}
 use Rattle.std.specs.Prelude.{slice_get}
 use Rattle.std.proofs.lemmas.Option.{slice_get_read}
 use Rattle.std.proofs.lemmas.List.Elements.{All-pop}
@@ -7,7 +7,7 @@ use Rattle.node_lock.specs.Seats.{knows, opening_of}
 use Rattle.port_sets.specs.Nodes.{shard_sight, log_sight}
 use Rattle.lane_waves.specs.NodeRows.{AreDealt}
 use Rattle.lane_waves.specs.Deals.{MayRun, AreLanesWaiting, HaveSeats, IsOpenNodeAt, AreRunsNumbered}
-use Rattle.lane_waves.proofs.Places.{snoc_many, all_here}
+use Rattle.lane_waves.proofs.Places.{nothing_left, snoc_many, all_here}
 use Rattle.lane_waves.proofs.Lists.{home_last}
 use Rattle.lane_waves.proofs.Seating.{set_up, seats_more}
 use Rattle.lane_waves.proofs.dealing.deal_home.Goals as goal
@@ -83,14 +83,14 @@ loop-seat-preserved g c =
 
 pub returns-clause-waiting : goal.returns-clause-waiting
 returns-clause-waiting g c =
-    let none : c.loop-seat.own.items ≡ [] = search (rules, c.in_default.ensures.cases) in
+    let none = nothing_left c.loop-seat.own c.in_default.ensures.cases.0 in
     let z = ap (λ (xs : List _). length xs) none in
     let all : c.args.home * c.args.shape.now.lanes + length c.loop-seat.own.items ≡ c.args.home * c.args.shape.now.lanes = omega (arith, z) in
     subst (λ n. AreLanesWaiting g.S.Shard.sight c.args.shard_locks.now n c.loop-seat.table) all c.loop-seat.invariant.waiting
 
 pub returns-clause-dealt : goal.returns-clause-dealt
 returns-clause-dealt g c =
-    let none : c.loop-seat.own.items ≡ [] = search (rules, c.in_default.ensures.cases) in
+    let none = nothing_left c.loop-seat.own c.in_default.ensures.cases.0 in
     let z = ap (λ (xs : List _). length xs) none in
     let all : c.args.home * c.args.shape.now.lanes + length c.loop-seat.own.items ≡ c.args.home * c.args.shape.now.lanes = omega (arith, z) in
     λ lanes d. subst (λ n. HaveSeats g.S.Shard.sight g.B.Locks.tables c.args.shape.now c.args.log_locks.now c.args.shard_locks.now n lanes c.loop-seat.table) all (c.loop-seat.invariant.dealt lanes d)

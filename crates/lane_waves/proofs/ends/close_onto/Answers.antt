@@ -1,6 +1,6 @@
-use Rattle.std.proofs.Common.{rules, ◌≡◌, ◌≤◌, ◌+◌, ◌<◌, length, [], refl, arith}
-use Rattle.lane_waves.specs.NodeRows.{IsClosed}
-use Rattle.lane_waves.proofs.Closing.{Closing, begun, goes_on, ended, ready_parts, no_seats}
+use Rattle.std.proofs.Common.{rules, arith}
+use Rattle.std.proofs.lemmas.Grind.{common_steps}
+use Rattle.lane_waves.proofs.Closing.{begun, goes_on}
 use Rattle.lane_waves.proofs.ends.close_onto.Goals as goal
 
 pub loop-lock-init : goal.loop-lock-init
@@ -13,3 +13,12 @@ loop-lock-preserved g c =
           c.in-Some.lock c.in-Some-pop.own c.close.result inv.0 c.in-Some.ensures.items c.in-Some-pop.ensures.items c.push_reserved.ensures.items (record { done = c.close.ensures.done; lives = c.close.ensures.lives }),
       (let e = inv.1 in search (rules, e)),
     )
+
+pub close-requires : goal.close-requires
+close-requires g c = grind (arith, common_steps)
+
+pub unreachable-requires : goal.unreachable-requires
+unreachable-requires g c = grind (arith, common_steps)
+
+pub returns : goal.returns
+returns g c = grind (arith, common_steps)

@@ -1,8 +1,10 @@
-use Rattle.std.proofs.Common.{rules, ◌≡◌, ◌≤◌, ◌+◌, ◌<◌, ℕ, List, length, reverse, [], ◌∷◌, ◌++◌, refl, ap, ◌∙◌, arith, subst, sym}
+use Rattle.std.proofs.Common.{rules, ◌≡◌, ◌≤◌, ◌<◌, ℕ, List, length, reverse, [], ◌∷◌, ◌++◌, ap, ◌∙◌, arith, subst, sym}
+use Rattle.std.proofs.lemmas.Grind.{common_steps}
 use Rattle.node_lock.specs.Seats.{AreFresh, table_of}
 use Rattle.node_lock.specs.Tickets.{times}
-use Rattle.lane_waves.specs.NodeRows.{AreRows, IsRow, AreLocked, HaveAllSeats, AreClosed, AreStill}
-use Rattle.lane_waves.proofs.Locking.{Locking, rows_last, first_locked, more_locked, all_locked, locked_ready, all_still, all_same, same_before}
+use Rattle.lane_waves.specs.NodeRows.{AreRows, AreStill}
+use Rattle.lane_waves.proofs.Locking.{rows_last, first_locked, more_locked, locked_ready, all_still, all_same, same_before}
+use Rattle.lane_waves.proofs.Places.{snoc_many, many_less, many_more, many_over, many_fit, many_still}
 use Rattle.lane_waves.proofs.ends.lock_all.Goals as goal
 
 pub returns-in_default-clause-back : goal.returns-in_default-clause-back
@@ -47,20 +49,37 @@ returns-in-Err-clause-back g c =
 pub loop-node-preserved : goal.loop-node-preserved
 loop-node-preserved g c =
     let inv = c.loop-node.invariant in
-    let o = c.in-Ok-new.ensures in (
+    let o = c.in-Ok-new.ensures in
+    let n = snoc_many c.loop-node.nodes.items c.pop.new.self.items c.in-Some.node c.in-Some.ensures.items in
+    let r = snoc_many c.loop-node.rows.items c.pop-in-Some.new.self.items c.in-Some-pop.row c.in-Some-pop.ensures.items in
+    let l = snoc_many c.push_reserved.new.self.items c.loop-node.locks.items c.in-Ok-new.lock c.push_reserved.ensures.items in
+    let s = snoc_many c.push_reserved-in-Ok-new.new.self.items c.loop-node.seats.items c.in-Ok-new.own c.push_reserved-in-Ok-new.ensures.items in (
       more_locked g.N.Sighted.sight c.args.nodes.items c.args.rows.items c.loop-node.nodes.items c.pop.new.self.items c.loop-node.rows.items c.pop-in-Some.new.self.items
           c.loop-node.locks.items c.push_reserved.new.self.items c.loop-node.seats.items c.push_reserved-in-Ok-new.new.self.items
           c.in-Some.node c.in-Some-pop.row c.in-Ok-new.lock c.in-Ok-new.own inv.0 c.in-Some.ensures.items c.in-Some-pop.ensures.items c.push_reserved.ensures.items c.push_reserved-in-Ok-new.ensures.items
           o.opening.0 (o.opening.1 ∙ c.as_slice.ensures.value)
           (subst (λ (xs : List ℕ). AreFresh (g.N.Sighted.sight c.in-Some.node) c.in-Some.node (table_of c.in-Ok-new.lock) xs c.in-Ok-new.own.items) c.as_slice.ensures.value o.seats),
-      (let a = inv in search (rules, a)),
-      (let a = inv in search (rules, a)),
-      (let a = inv in search (rules, a)),
-      (let a = inv in search (rules, a)),
-      (let a = inv in search (rules, a)),
-      (let a = inv in search (rules, a)),
+      many_less _ _ _ _ r n inv.1,
+      many_over _ _ _ _ _ n l inv.2,
+      many_more _ _ _ _ s l inv.3,
+      many_still _ _ _ c.push_reserved.ensures.capacity inv.4,
+      many_still _ _ _ c.push_reserved-in-Ok-new.ensures.capacity inv.5,
+      many_still _ _ _ c.pop.ensures.capacity inv.6,
       inv.7,
     )
 
 pub new-requires-clause-some : goal.new-requires-clause-some
 new-requires-clause-some g c = subst (λ (xs : List ℕ). 0 < length xs) (sym c.as_slice.ensures.value) (rows_last c.pop-in-Some.new.self.items c.in-Some-pop.row (subst AreRows c.in-Some-pop.ensures.items c.loop-node.invariant.0.fit)).1.some
+
+pub push_reserved-requires : goal.push_reserved-requires
+push_reserved-requires g c =
+    let inv = c.loop-node.invariant in
+    many_fit _ _ _ _ _ _ (snoc_many c.loop-node.nodes.items c.pop.new.self.items c.in-Some.node c.in-Some.ensures.items) inv.2 inv.4 c.loop-node.locks.ok.0
+
+pub push_reserved-requires-in-Ok-new : goal.push_reserved-requires-in-Ok-new
+push_reserved-requires-in-Ok-new g c =
+    let inv = c.loop-node.invariant in
+    many_fit _ _ _ _ _ _ (snoc_many c.loop-node.nodes.items c.pop.new.self.items c.in-Some.node c.in-Some.ensures.items) inv.2 inv.5 (c.loop-node.seats.ok.0 ∙ inv.3)
+
+pub returns-clause-locked : goal.returns-clause-locked
+returns-clause-locked g c = grind (arith, common_steps)

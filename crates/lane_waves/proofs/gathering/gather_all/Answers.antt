@@ -1,7 +1,7 @@
-use Rattle.std.proofs.Common.{rules, ◌≡◌, ◌+◌, ◌*◌, Some, List, [], length, refl, ap, ◌∙◌, arith}
+use Rattle.std.proofs.Common.{◌≡◌, ◌+◌, ◌*◌, Some, List, length, refl, ap, ◌∙◌, arith}
 use Rattle.std.proofs.lemmas.List.Elements.{All-pop}
 use Rattle.lane_waves.specs.Deals.{IsEmptyRoom}
-use Rattle.lane_waves.proofs.Places.{snoc_many, pushed_many, next_row, zero_row, append_many, none_long}
+use Rattle.lane_waves.proofs.Places.{nothing_left, snoc_many, pushed_many, next_row, zero_row, append_many, none_long}
 use Rattle.lane_waves.proofs.Giving.{homes_none, homes_more, homes_all}
 use Rattle.lane_waves.proofs.gathering.gather_all.Goals as goal
 
@@ -55,19 +55,19 @@ loop-own-preserved g c =
 
 pub returns-clause-none : goal.returns-clause-none
 returns-clause-none g c =
-    let none : c.loop-own.emptied.items ≡ [] = search (rules, c.in_default.ensures.cases) in
+    let none = nothing_left c.loop-own.emptied c.in_default.ensures.cases.0 in
     none_long c.loop-own.table.runs.items (c.loop-own.invariant.runs ∙ ap (λ (xs : List _). length xs * c.args.count) none ∙ zero_row c.args.count)
 
 pub returns-clause-many : goal.returns-clause-many
 returns-clause-many g c =
-    let none : c.loop-own.emptied.items ≡ [] = search (rules, c.in_default.ensures.cases) in
+    let none = nothing_left c.loop-own.emptied c.in_default.ensures.cases.0 in
     let z = ap (λ (xs : List _). length xs) none in
     let m = c.loop-own.invariant.many in
     omega (arith, z, m)
 
 pub returns-clause-homes : goal.returns-clause-homes
 returns-clause-homes g c =
-    let none : c.loop-own.emptied.items ≡ [] = search (rules, c.in_default.ensures.cases) in
+    let none = nothing_left c.loop-own.emptied c.in_default.ensures.cases.0 in
     homes_all c.args.count c.args.table c.loop-own.homes.items c.loop-own.table c.loop-own.invariant.homes (none_long c.loop-own.table.runs.items (c.loop-own.invariant.runs ∙ ap (λ (xs : List _). length xs * c.args.count) none ∙ zero_row c.args.count))
 
 pub returns-clause-room : goal.returns-clause-room

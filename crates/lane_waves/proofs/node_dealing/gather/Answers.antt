@@ -1,6 +1,6 @@
-use Rattle.std.proofs.Common.{rules, ◌≡◌, ◌≤◌, ◌<◌, List, [], length, ◌∷◌, ◌++◌, refl, arith, ap, ◌∙◌, sym, append-nil}
-use Rattle.std.specs.Prelude.{vec_capacity}
-use Rattle.lane_waves.specs.Dealing.{Pops, PopsEach, HaveOne, HaveRoomForOne}
+use Rattle.std.proofs.Common.{rules, arith, sym}
+use Rattle.std.proofs.lemmas.Grind.{common_steps}
+use Rattle.lane_waves.specs.Dealing.{Pops}
 use Rattle.lane_waves.proofs.Rounds.{room_left, gathers_on}
 use Rattle.lane_waves.proofs.node_dealing.gather.Goals as goal
 
@@ -20,3 +20,9 @@ loop-row-preserved g c =
       search (rules, inv),
       search (rules, inv),
     )
+
+pub returns-clause-empty : goal.returns-clause-empty
+returns-clause-empty g c = grind (arith, common_steps)
+
+pub returns-clause-added : goal.returns-clause-added
+returns-clause-added g c = grind (arith, common_steps)

@@ -1,6 +1,7 @@
-use Rattle.std.proofs.Common.{rules, ◌≡◌, ◌∷◌, ◌++◌, ◌+◌, suc, [], length, reverse, refl, sym, subst}
+use Rattle.std.proofs.Common.{rules, ◌≡◌, ◌∷◌, ◌++◌, ◌+◌, [], length, reverse, refl, sym, subst}
 use Rattle.lane_waves.specs.Ports.{AreSeated, ArePorts, AreNumbered}
 use Rattle.lane_waves.proofs.Porting.{porting, ports_on, ported, numbered_on, none_seated, seated_left, no_locks}
+use Rattle.lane_waves.proofs.Places.{nothing_left}
 use Rattle.lane_waves.proofs.ports.ports_over.Goals as goal
 
 pub loop-seat-init : goal.loop-seat-init
@@ -25,7 +26,7 @@ loop-seat-preserved g c =
 
 pub returns-clause-ports : goal.returns-clause-ports
 returns-clause-ports g c =
-    let none : c.loop-seat.seats.items ≡ [] = search (rules, c.in_default.ensures.cases) in
+    let none = nothing_left c.loop-seat.seats c.in_default.ensures.cases.0 in
     subst (λ ps. ArePorts c.args.locks.now c.args.seats.items ps) (sym c.reverse.ensures.items) (ported c.args.locks.now c.args.seats.items c.loop-seat.left.now c.loop-seat.seats.items c.loop-seat.ports.items c.loop-seat.invariant.0 none)
 
 pub unreachable-requires : goal.unreachable-requires
@@ -35,6 +36,6 @@ unreachable-requires g c =
 pub returns-clause-numbered : goal.returns-clause-numbered
 returns-clause-numbered g c =
     let inv = c.loop-seat.invariant in
-    let none : c.loop-seat.seats.items ≡ [] = search (rules, c.in_default.ensures.cases) in
+    let none = nothing_left c.loop-seat.seats c.in_default.ensures.cases.0 in
     let left : c.loop-seat.left.now ≡ [] = none_seated c.loop-seat.left.now (subst (λ ss. AreSeated c.loop-seat.left.now ss) none inv.0.left) in
     subst (λ ps. AreNumbered c.args.first ps) (sym c.reverse.ensures.items) (subst (λ n. AreNumbered n (reverse c.loop-seat.ports.items)) (search (rules, left)) inv.4)

@@ -1,5 +1,6 @@
-use Rattle.std.proofs.Common.{rules, ◌≡◌, [], ◌∙◌}
+use Rattle.std.proofs.Common.{rules, ◌∙◌}
 use Rattle.lane_waves.proofs.Porting.{backing, backs_on, backed}
+use Rattle.lane_waves.proofs.Places.{nothing_left}
 use Rattle.lane_waves.proofs.ports.seats_back.Goals as goal
 
 pub loop-port-preserved : goal.loop-port-preserved
@@ -12,5 +13,5 @@ loop-port-init g c = (backing c.args.ports.items c.args.seats.items c.requires.e
 
 pub returns : goal.returns
 returns g c =
-    let none : c.loop-port.ports.items ≡ [] = search (rules, c.in_default.ensures.cases) in
+    let none = nothing_left c.loop-port.ports c.in_default.ensures.cases.0 in
     c.reverse.ensures.items ∙ backed c.args.ports.items c.loop-port.ports.items c.loop-port.seats.items c.loop-port.invariant.0 none

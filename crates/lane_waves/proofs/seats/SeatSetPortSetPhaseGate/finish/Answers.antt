@@ -1,7 +1,19 @@
 use Rattle.lane_waves.proofs.seats.SeatSetPortSetPhaseGate.finish.Goals as goal
 
-pub finish-requires : goal.finish-requires
-finish-requires g c = record { shards = c.requires.shards; calls = c.requires.calls; mine = c.requires.mine; empty = c.requires.empty; room = c.requires.room }
+pub finish-requires-clause-shards : goal.finish-requires-clause-shards
+finish-requires-clause-shards g c = c.requires.shards
+
+pub finish-requires-clause-calls : goal.finish-requires-clause-calls
+finish-requires-clause-calls g c = c.requires.calls
+
+pub finish-requires-clause-mine : goal.finish-requires-clause-mine
+finish-requires-clause-mine g c = c.requires.mine
+
+pub finish-requires-clause-empty : goal.finish-requires-clause-empty
+finish-requires-clause-empty g c = c.requires.empty
+
+pub finish-requires-clause-room : goal.finish-requires-clause-room
+finish-requires-clause-room g c = c.requires.room
 
 pub returns : goal.returns
 returns g c =

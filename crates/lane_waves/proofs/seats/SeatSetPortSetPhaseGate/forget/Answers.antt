@@ -1,7 +1,19 @@
 use Rattle.lane_waves.proofs.seats.SeatSetPortSetPhaseGate.forget.Goals as goal
 
-pub forget-requires : goal.forget-requires
-forget-requires g c = record { shards = c.requires.shards; calls = c.requires.calls; mine = c.requires.mine; empty = c.requires.empty; room = c.requires.room }
+pub forget-requires-clause-shards : goal.forget-requires-clause-shards
+forget-requires-clause-shards g c = c.requires.shards
+
+pub forget-requires-clause-calls : goal.forget-requires-clause-calls
+forget-requires-clause-calls g c = c.requires.calls
+
+pub forget-requires-clause-mine : goal.forget-requires-clause-mine
+forget-requires-clause-mine g c = c.requires.mine
+
+pub forget-requires-clause-empty : goal.forget-requires-clause-empty
+forget-requires-clause-empty g c = c.requires.empty
+
+pub forget-requires-clause-room : goal.forget-requires-clause-room
+forget-requires-clause-room g c = c.requires.room
 
 pub returns : goal.returns
 returns g c =
