@@ -7,7 +7,7 @@ use cbdc_types::{
 };
 use crossbeam_channel::Receiver;
 use lane_driver::Source;
-use lane_sources::{Ahead, Deals, FileOf, LaneSource, RuledAt, feed, pipe};
+use lane_sources::{Ahead, Deals, Feeder, FileOf, LaneSource, RuledAt, feed, pipe};
 use outside::{OpenGate, Point, When};
 use sentinel::{AllGood, Verifier};
 use std::alloc::{AllocError, Global};
@@ -29,39 +29,38 @@ fn spent(number: u8) -> Input {
     }
 }
 
-// A list of one, or of none.
-fn at_most_one<T: Drop>(alloc: Global, item: Option<T>) -> Result<List<T>, AllocError> {
-    let mut all = List::new(alloc);
-    if let Some(item) = item {
-        all.push(item)?;
+// Puts together a transaction that spends the output of this number, or nothing where there is none.
+fn put_parts(alloc: Global, tx: &mut FullTx, number: Option<u8>) -> Result<(), AllocError> {
+    if let Some(number) = number {
+        tx.inputs.push(spent(number))?;
     }
-    Ok(all)
+    tx.outputs.push(Output {
+        program: Hash([2; 32]),
+        value: 7,
+    })?;
+    if number.is_some() {
+        tx.witnesses.push(List::new(alloc))?;
+    }
+    Ok(())
 }
 
 // A transaction that spends the output of this number, or nothing where there is none.
 fn payment(alloc: Global, number: Option<u8>) -> Result<FullTx, AllocError> {
-    let (input, witness) = match number {
-        Some(number) => (Some(spent(number)), Some(List::new(alloc))),
-        None => (None, None),
+    let mut tx = FullTx {
+        inputs: List::new(alloc),
+        outputs: List::new(alloc),
+        witnesses: List::new(alloc),
     };
-    let made = Output {
-        program: Hash([2; 32]),
-        value: 7,
-    };
-    Ok(FullTx {
-        inputs: at_most_one(alloc, input)?,
-        outputs: at_most_one(alloc, Some(made))?,
-        witnesses: at_most_one(alloc, witness)?,
-    })
+    put_parts(alloc, &mut tx, number)?;
+    Ok(tx)
 }
 
-// Three submissions, of which the second has no inputs.
-fn three(alloc: Global) -> Result<Vec<FullTx>, AllocError> {
-    let mut txs = Vec::new(alloc);
+// Puts three submissions behind others; the second has no inputs.
+fn put_three(alloc: Global, txs: &mut Vec<FullTx>) -> Result<(), AllocError> {
     for number in [Some(3), None, Some(4)] {
         txs.push(payment(alloc, number)?)?;
     }
-    Ok(txs)
+    Ok(())
 }
 
 // What the sentinel ahead of a lane sends, for which its channel has room; nothing where it is dropped before its first message.
@@ -82,15 +81,21 @@ fn sent<R: Wait, V: Verifier, F: Deals>(
     Ok(messages)
 }
 
-// Whether a message is of this place, with a refusal because it has no inputs at the second one, and a compact form elsewhere.
-fn is_of<F: Deals>(message: RuledAt<F>, place: usize) -> bool {
-    if message.place() != place {
-        return false;
-    }
-    match message.take().ruling {
-        Ruling::Refused(refusal) => place == 1 && refusal == Refusal::NoInputs,
+// Whether the second message has a refusal because it has no inputs, and another one a compact form.
+fn is_due(ruling: &Ruling, place: usize) -> bool {
+    match ruling {
+        Ruling::Refused(refusal) => place == 1 && *refusal == Refusal::NoInputs,
         Ruling::Sound(_) => place != 1,
     }
+}
+
+// Whether a message is of this place, with a refusal because it has no inputs at the second one, and a compact form elsewhere.
+fn is_of<F: Deals>(message: RuledAt<F>, place: usize) -> bool {
+    let at = message.place();
+    let ruled = message.take();
+    let told = at == place && is_due(&ruled.ruling, place);
+    drop(ruled);
+    told
 }
 
 // Whether messages of these places come, in this order, and then no more.
@@ -106,6 +111,34 @@ fn come<R: Wait, F: Deals>(rt: &R, messages: &Receiver<RuledAt<F>>, places: &[us
     messages.recv(rt).is_err()
 }
 
+// Puts copies of a piece behind what came before it.
+fn put_piece(all: &mut Vec<CompactTx>, piece: &[CompactTx]) -> Result<(), AllocError> {
+    for tx in piece {
+        all.push(tx.clone()?)?;
+    }
+    Ok(())
+}
+
+// Puts all that a source gives there, piece by piece.
+fn put_all<S: Source>(
+    alloc: Global,
+    source: &mut S,
+    all: &mut Vec<CompactTx>,
+) -> Result<(), AllocError> {
+    for _ in 0..source.begin() {
+        source.advance(alloc, 2)?;
+        put_piece(all, source.piece())?;
+    }
+    Ok(())
+}
+
+// All that a source gives.
+fn taken<S: Source>(alloc: Global, source: &mut S) -> Result<Vec<CompactTx>, AllocError> {
+    let mut all = Vec::new(alloc);
+    put_all(alloc, source, &mut all)?;
+    Ok(all)
+}
+
 // All that a lane gets that has this ahead of it.
 fn given<R: Wait, V: Verifier, F: Deals>(
     rt: &R,
@@ -115,15 +148,46 @@ fn given<R: Wait, V: Verifier, F: Deals>(
 ) -> Result<Vec<CompactTx>, AllocError>
     requires { 0 < file.now }
 {
-    let mut all = Vec::new(alloc);
     let mut source = LaneSource::new(rt, alloc, file, 0, ahead)?;
-    for _ in 0..source.begin() {
-        source.advance(alloc, 2)?;
-        for tx in source.piece() {
-            all.push(tx.clone()?)?;
-        }
+    let all = taken(alloc, &mut source);
+    drop(source);
+    all
+}
+
+// How often a sentinel passes its gate, a digit for each time.
+fn passed<R: Wait, V: Verifier, F: Deals>(
+    rt: &R,
+    alloc: Global,
+    shape: &Shape,
+    file: &FileOf<'_, V, F>,
+    feeder: Feeder<F>,
+) -> u64 {
+    let gate = RowGate::Keep(KeepGate::new(Point {
+        lane: LaneId(0),
+        node: NodeId(0),
+        kind: 0,
+        when: When::After,
+    }));
+    feed(rt, alloc, shape, file, feeder, &gate);
+    let times = gate.passed();
+    drop(gate);
+    times
+}
+
+// The same of the sentinel of a lane that has let go of it before, or not.
+fn passed_ahead<R: Wait, V: Verifier, F: Deals, S: Source>(
+    rt: &R,
+    alloc: Global,
+    shape: &Shape,
+    file: &FileOf<'_, V, F>,
+    feeder: Feeder<F>,
+    source: &mut S,
+    lets_go: bool,
+) -> u64 {
+    if lets_go {
+        source.end_ahead();
     }
-    Ok(all)
+    passed(rt, alloc, shape, file, feeder)
 }
 
 // How often the sentinel of a lane passes its gate, a digit for each time, where the lane has let go of it before, or not.
@@ -137,18 +201,13 @@ fn passes<R: Wait, V: Verifier, F: Deals>(
     requires { 0 < file.now }
 {
     let (feeder, messages) = pipe(alloc, LaneId(0))?;
-    let mut source = LaneSource::new(rt, alloc, file, 0, Ahead::Sent(messages))?;
-    if lets_go {
-        source.end_ahead();
-    }
-    let gate = RowGate::Keep(KeepGate::new(Point {
-        lane: LaneId(0),
-        node: NodeId(0),
-        kind: 0,
-        when: When::After,
-    }));
-    feed(rt, alloc, shape, file, feeder, &gate);
-    Ok(gate.passed())
+    let Ok(mut source) = LaneSource::new(rt, alloc, file, 0, Ahead::Sent(messages)) else {
+        drop(feeder);
+        return Err(AllocError);
+    };
+    let times = passed_ahead(rt, alloc, shape, file, feeder, &mut source, lets_go);
+    drop(source);
+    Ok(times)
 }
 
 // Whether the messages of a lane are of these places.
@@ -161,7 +220,18 @@ fn is_sent<R: Wait, V: Verifier, F: Deals>(
     places: &[usize],
 ) -> Result<bool, AllocError> {
     let messages = sent(rt, alloc, shape, file, lane, true)?;
-    Ok(come(rt, &messages, places))
+    let told = come(rt, &messages, places);
+    drop(messages);
+    Ok(told)
+}
+
+// The places of three submissions that go to a lane, of one or of two.
+fn places_of(lanes: u32, lane: u32) -> &'static [usize] {
+    match (lanes, lane) {
+        (1, _) => &[0, 1, 2],
+        (_, 0) => &[0, 2],
+        _ => &[1],
+    }
 }
 
 // Whether the messages of each lane come, of one or of two.
@@ -171,12 +241,13 @@ fn all_come<R: Wait, V: Verifier, F: Deals>(
     shape: &Shape,
     file: &FileOf<'_, V, F>,
 ) -> Result<bool, AllocError> {
-    if shape.lane_count() == 1 {
-        return is_sent(rt, alloc, shape, file, LaneId(0), &[0, 1, 2]);
+    let lanes = shape.lane_count();
+    let mut told = true;
+    for lane in 0..lanes {
+        let places = places_of(lanes, lane);
+        told &= is_sent(rt, alloc, shape, file, LaneId(lane), places)?;
     }
-    let first = is_sent(rt, alloc, shape, file, LaneId(0), &[0, 2])?;
-    let second = is_sent(rt, alloc, shape, file, LaneId(1), &[1])?;
-    Ok(first && second)
+    Ok(told)
 }
 
 // All that a lane gets whose sentinel sends, or is dropped before its first message.
@@ -193,6 +264,36 @@ fn received<R: Wait, V: Verifier, F: Deals>(
     given(rt, alloc, file, Ahead::Sent(messages))
 }
 
+// Whether the lane gets these with a sentinel that sends, or is dropped before its first message.
+fn gets<R: Wait, V: Verifier, F: Deals>(
+    rt: &R,
+    alloc: Global,
+    shape: &Shape,
+    file: &FileOf<'_, V, F>,
+    starts: bool,
+    txs: &[CompactTx],
+) -> Result<bool, AllocError>
+    requires { 0 < file.now }
+{
+    let own = received(rt, alloc, shape, file, starts)?;
+    Ok(own.as_slice() == txs)
+}
+
+// Whether the lane gets these with a sentinel that sends, and with one that was dropped.
+fn gets_twice<R: Wait, V: Verifier, F: Deals>(
+    rt: &R,
+    alloc: Global,
+    shape: &Shape,
+    file: &FileOf<'_, V, F>,
+    txs: &[CompactTx],
+) -> Result<bool, AllocError>
+    requires { 0 < file.now }
+{
+    let with = gets(rt, alloc, shape, file, true, txs)?;
+    let without = gets(rt, alloc, shape, file, false, txs)?;
+    Ok(txs.len() == 2 && with && without)
+}
+
 // Whether the lane gets the two sound ones, with a sentinel that sends, with one that was dropped, and with none.
 fn are_same<R: Wait, V: Verifier, F: Deals>(
     rt: &R,
@@ -203,12 +304,27 @@ fn are_same<R: Wait, V: Verifier, F: Deals>(
     requires { 0 < file.now }
 {
     let alone = given(rt, alloc, file, Ahead::Nothing)?;
-    let with = received(rt, alloc, shape, file, true)?;
-    let without = received(rt, alloc, shape, file, false)?;
-    Ok(alone.len() == 2 && with == alone && without == alone)
+    gets_twice(rt, alloc, shape, file, alone.as_slice())
 }
 
 // What comes of the messages of each lane, of what the first lane gets, and of its sentinel.
+fn tried_on<R: Wait, V: Verifier, F: Deals>(
+    rt: &R,
+    alloc: Global,
+    shape: &Shape,
+    file: &FileOf<'_, V, F>,
+) -> Result<Fed, AllocError>
+    requires { 0 < file.now }
+{
+    Ok(Fed {
+        comes: all_come(rt, alloc, shape, file)?,
+        is_same: are_same(rt, alloc, shape, file)?,
+        kept: passes(rt, alloc, shape, file, false)?,
+        let_go: passes(rt, alloc, shape, file, true)?,
+    })
+}
+
+// The same of these submissions.
 fn tried<R: Wait, V: Verifier, F: Deals>(
     rt: &R,
     alloc: Global,
@@ -221,12 +337,7 @@ fn tried<R: Wait, V: Verifier, F: Deals>(
     requires shape { F.shape ≡ shape.now }
 {
     let file: FileOf<'_, V, F> = FileOf::new(txs, verifier, shape.lane_count());
-    Ok(Fed {
-        comes: all_come(rt, alloc, shape, &file)?,
-        is_same: are_same(rt, alloc, shape, &file)?,
-        kept: passes(rt, alloc, shape, &file, false)?,
-        let_go: passes(rt, alloc, shape, &file, true)?,
-    })
+    tried_on(rt, alloc, shape, &file)
 }
 
 // What was tried.
@@ -238,10 +349,22 @@ struct Fed {
     let_go: u64,
 }
 
-fn try_all<R: Wait, V: Verifier>(rt: &R, alloc: Global, lanes: u32, verifier: &V) -> Option<Fed> {
+// The same of three submissions, to so many lanes.
+fn try_three<R: Wait, V: Verifier>(
+    rt: &R,
+    alloc: Global,
+    lanes: u32,
+    txs: &mut Vec<FullTx>,
+    verifier: &V,
+) -> Option<Fed> {
     let shape = Shape::new(1, 1, lanes, 16).ok()?;
-    let txs = three(alloc).ok()?;
+    put_three(alloc, txs).ok()?;
     tried::<R, V, Brand>(rt, alloc, &shape, txs.as_slice(), verifier).ok()
+}
+
+fn try_all<R: Wait, V: Verifier>(rt: &R, alloc: Global, lanes: u32, verifier: &V) -> Option<Fed> {
+    let mut txs = Vec::new(alloc);
+    try_three(rt, alloc, lanes, &mut txs, verifier)
 }
 
 /// Three submissions, the second refused, come in three messages.

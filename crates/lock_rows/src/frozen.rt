@@ -1,5 +1,5 @@
 // A shard in memory, for the rows: it has the coins that it began with, and no memory for a batch.
-ghost use Rattle.std.specs.Prelude.{◌≡◌, IfOk, IfSome};
+ghost use Rattle.std.specs.Prelude.{◌≡◌, [], ◌∷◌, IfOk, IfSome};
 ghost use Rattle.cbdc_model.specs.Sights.{Sight};
 
 use cbdc_types::{
@@ -38,29 +38,38 @@ fn copied(it: &Record) -> Result<Record, AllocError>
     it.clone()
 }
 
+// A copy of one record alone.
+fn only_copied(alloc: Global, it: &Record) -> Option<Vec<Record>>
+    ensures { IfSome result (λ rs. rs.items ≡ it.now ∷ []) }
+{
+    let Ok(copy) = copied(it) else {
+        return None;
+    };
+    let Ok(mut records) = Vec::with_capacity(alloc, 1) else {
+        return None;
+    };
+    records.push_reserved(copy);
+    Some(records)
+}
+
 impl Frozen {
     /// A copy in memory of a shard that has no record behind its Genesis; else none, or memory is wanting.
     pub fn of<D: Disk>(alloc: Global, shard: &ShardNode<D>) -> Option<Frozen>
         ensures { IfSome result (λ s. s.header ≡ shard.now.header) }
     {
-        let all = shard.records();
-        if all.len() != 1 {
+        let [first] = shard.records() else {
             return None;
-        }
-        let first = &all[0];
+        };
         let Record::Genesis { header, hashes } = first else {
             return None;
         };
         let Ok(core) = ShardCore::new(alloc, header, hashes.as_slice()) else {
             return None;
         };
-        let Ok(copy) = copied(first) else {
+        let Some(records) = only_copied(alloc, first) else {
+            drop(core);
             return None;
         };
-        let Ok(mut records) = Vec::with_capacity(alloc, 1) else {
-            return None;
-        };
-        records.push_reserved(copy);
         Some(Frozen { core, records })
     }
 }

@@ -28,7 +28,10 @@ fn written(alloc: Global, first: &Record, header: &Header, size: usize) -> Optio
 // A disk of this size with the Genesis of one coin.
 fn disk_of(alloc: Global, header: Header, coin: Hash, size: usize) -> Option<PlainDisk> {
     let hashes = only(alloc, coin)?;
-    written(alloc, &Record::Genesis { header, hashes }, &header, size)
+    let first = Record::Genesis { header, hashes };
+    let disk = written(alloc, &first, &header, size);
+    drop(first);
+    disk
 }
 
 // The shard on a disk.

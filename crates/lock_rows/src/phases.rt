@@ -175,6 +175,17 @@ fn is_answered<R: Threads + Wait + Sync>(
     }
 }
 
+// The row below, with its shards given.
+fn has_locks<R: Threads + Wait + Sync>(
+    rt: &R,
+    alloc: Global,
+    one: &mut ShardNode<PlainDisk>,
+    two: &mut ShardNode<PlainDisk>,
+    three: &mut ShardNode<PlainDisk>,
+) -> bool {
+    is_answered(rt, alloc, one, two, three) && has(three, 2) && has(two, 1) && has(one, 2)
+}
+
 // The row below, with its first two shards given.
 fn third_is_missing<R: Threads + Wait + Sync>(
     rt: &R,
@@ -185,7 +196,9 @@ fn third_is_missing<R: Threads + Wait + Sync>(
     let Some(mut three) = shard_of(alloc, 3, COINS[2], ROOMY) else {
         return false;
     };
-    is_answered(rt, alloc, one, two, &mut three) && has(&three, 2)
+    let told = has_locks(rt, alloc, one, two, &mut three);
+    drop(three);
+    told
 }
 
 // The row below, with its first shard given.
@@ -197,14 +210,18 @@ fn second_is_narrow<R: Threads + Wait + Sync>(
     let Some(mut two) = shard_of(alloc, 2, COINS[1], NARROW) else {
         return false;
     };
-    third_is_missing(rt, alloc, one, &mut two) && has(&two, 1)
+    let told = third_is_missing(rt, alloc, one, &mut two);
+    drop(two);
+    told
 }
 
 /// The lock calls of a phase at three shards, made at once: the first has the coin, the second no room for its Lock, the third not the coin. Whether
 /// the answers stand in the order of the shards, each its own, and the first and the third have their Lock, and the second none.
 pub fn second_is_full<R: Threads + Wait + Sync>(rt: &R, alloc: Global) -> Option<bool> {
     let mut one = shard_of(alloc, 1, COINS[0], ROOMY)?;
-    Some(second_is_narrow(rt, alloc, &mut one) && has(&one, 2))
+    let told = second_is_narrow(rt, alloc, &mut one);
+    drop(one);
+    Some(told)
 }
 
 // Whether nothing is answered in a phase of no call, with a port over this shard.
@@ -238,8 +255,19 @@ fn is_silent<R: Threads + Wait + Sync>(
     answers.is_empty()
 }
 
+// The row below, with its shard given.
+fn leaves_none<R: Threads + Wait + Sync>(
+    rt: &R,
+    alloc: Global,
+    one: &mut ShardNode<PlainDisk>,
+) -> bool {
+    is_silent(rt, alloc, one) && has(one, 1)
+}
+
 /// A phase of no call, made at once. Whether nothing is answered, and each shard has its Genesis alone.
 pub fn asks_none<R: Threads + Wait + Sync>(rt: &R, alloc: Global) -> Option<bool> {
     let mut one = shard_of(alloc, 1, COINS[0], ROOMY)?;
-    Some(is_silent(rt, alloc, &mut one) && has(&one, 1))
+    let told = leaves_none(rt, alloc, &mut one);
+    drop(one);
+    Some(told)
 }

@@ -55,12 +55,9 @@ fn write_beside<R: Threads + Wait + Sync>(
     gate: &RowGate,
 ) -> Option<Left> {
     let book = opened(alloc)?;
-    let Ok((guarded, mut seats)) = Guarded::new(alloc, book, &[ONE, TWO]) else {
-        return None;
-    };
-    let (Some(two), Some(one)) = (seats.pop(), seats.pop()) else {
-        unreachable!()
-    };
+    let (guarded, mut seats) = Guarded::new(alloc, book, &[ONE, TWO]).ok()?;
+    let two = seats.pop().unwrap();
+    let one = seats.pop().unwrap();
     let (first, second) = join(
         rt,
         || write_all(rt, &guarded, one, 0, count, gate),
@@ -75,9 +72,8 @@ fn write_beside<R: Threads + Wait + Sync>(
     })
 }
 
-/// Two lanes make 100 calls each on a book that has one line.
-pub fn two_threads<R: Threads + Wait + Sync>(rt: &R, alloc: Global) -> Option<bool> {
-    let left = write_beside(rt, alloc, 100, &RowGate::Open)?;
+// Whether two lanes left 100 lines each behind the first one, each in its order.
+fn has_both(left: &Left) -> bool {
     let lines = left.book.lines();
     let counts = (
         count_in_order(lines, OLD, 7),
@@ -85,25 +81,42 @@ pub fn two_threads<R: Threads + Wait + Sync>(rt: &R, alloc: Global) -> Option<bo
         count_in_order(lines, TWO, 0),
     );
     let written = (left.first, left.second);
-    Some(lines.len() == 201 && written == (100, 100) && counts == (Some(1), Some(100), Some(100)))
+    lines.len() == 201 && written == (100, 100) && counts == (Some(1), Some(100), Some(100))
+}
+
+/// Two lanes make 100 calls each on a book that has one line.
+pub fn two_threads<R: Threads + Wait + Sync>(rt: &R, alloc: Global) -> Option<bool> {
+    let left = write_beside(rt, alloc, 100, &RowGate::Open)?;
+    let told = has_both(&left);
+    drop(left);
+    Some(told)
+}
+
+// How many lines there are of the first line's lane, and of the lane that writes.
+fn counts_of(lines: &[Line]) -> Option<(u64, u64)> {
+    Some((
+        count_in_order(lines, OLD, 7)?,
+        count_in_order(lines, ONE, 0)?,
+    ))
 }
 
 // How many lines a look is told of: those of the first line's lane, and those of the lane that writes.
 fn looked(answer: Answer) -> Option<(u64, u64)> {
-    let Answer::Listed(Ok(lines)) = answer else {
-        return None;
+    let counts = match &answer {
+        Answer::Listed(Ok(lines)) => counts_of(lines.as_slice()),
+        _ => None,
     };
-    Some((
-        count_in_order(lines.as_slice(), OLD, 7)?,
-        count_in_order(lines.as_slice(), ONE, 0)?,
-    ))
+    drop(answer);
+    counts
 }
 
 fn counted(answer: Answer) -> Option<usize> {
-    match answer {
-        Answer::Counted(count) => Some(count),
+    let count = match &answer {
+        Answer::Counted(count) => Some(*count),
         Answer::Listed(_) => None,
-    }
+    };
+    drop(answer);
+    count
 }
 
 // A lane writes three lines and looks; another only looks, ahead of it and behind it. Whether both see what was written.
@@ -130,30 +143,52 @@ fn are_shown<R: Wait>(
 /// A lane writes three lines and looks; one that only looks sees them too, and the book as it is at the end.
 pub fn looks<R: Threads + Wait + Sync>(rt: &R, alloc: Global) -> Option<bool> {
     let book = opened(alloc)?;
-    let Ok((guarded, mut seats)) = Guarded::new(alloc, book, &[ONE, NONE]) else {
-        return None;
-    };
-    let (Some(mut auditor), Some(mut one)) = (seats.pop(), seats.pop()) else {
-        unreachable!()
-    };
+    let (guarded, mut seats) = Guarded::new(alloc, book, &[ONE, NONE]).ok()?;
+    let mut auditor = seats.pop().unwrap();
+    let mut one = seats.pop().unwrap();
     let told = are_shown(rt, &guarded, &mut one, &mut auditor);
     seats.push_reserved(one);
     seats.push_reserved(auditor);
     let book = guarded.close(seats);
-    Some(told && book.lines().len() == 4)
+    let count = book.lines().len();
+    drop(book);
+    Some(told && count == 4)
 }
 
-// Whether the gate that holds one lane until the other has come lets both go.
+// Whether each of two lanes left a line behind the first one.
+fn has_each(left: &Left) -> bool {
+    left.book.lines().len() == 3 && (left.first, left.second) == (1, 1)
+}
+
+// Whether a gate that holds one lane until the other has come lets both go.
+fn have_met<R: Threads + Wait + Sync>(rt: &R, alloc: Global, gate: &RowGate) -> Option<bool> {
+    let left = write_beside(rt, alloc, 1, gate)?;
+    let told = has_each(&left);
+    drop(left);
+    Some(gate.has_met() && told)
+}
+
+// The same of a gate that is made for it.
 fn has_met<R: Threads + Wait + Sync>(rt: &R, alloc: Global, gate: RowGate) -> Option<bool> {
-    let left = write_beside(rt, alloc, 1, &gate)?;
-    Some(gate.has_met() && left.book.lines().len() == 3 && (left.first, left.second) == (1, 1))
+    let told = have_met(rt, alloc, &gate);
+    drop(gate);
+    told
+}
+
+// Whether a lane that waits before its call goes on once the other has made its own.
+fn is_let_go<R: Threads + Wait + Sync>(
+    rt: &R,
+    alloc: Global,
+    held: LaneId,
+    awaited: LaneId,
+) -> Option<bool> {
+    let (before, after) = (point_of(held, When::Before), point_of(awaited, When::After));
+    has_met(rt, alloc, RowGate::Meet(MeetGate::new(before, after, 0)))
 }
 
 /// Each lane waits before its call, in turn, until the other has made its own.
 pub fn beside_each_other<R: Threads + Wait + Sync>(rt: &R, alloc: Global) -> Option<bool> {
-    let first = MeetGate::new(point_of(ONE, When::Before), point_of(TWO, When::After), 0);
-    let second = MeetGate::new(point_of(TWO, When::Before), point_of(ONE, When::After), 0);
-    Some(has_met(rt, alloc, RowGate::Meet(first))? && has_met(rt, alloc, RowGate::Meet(second))?)
+    Some(is_let_go(rt, alloc, ONE, TWO)? && is_let_go(rt, alloc, TWO, ONE)?)
 }
 
 /// A lane has the node and keeps it for long; the other comes then, and waits for its turn.
@@ -179,15 +214,15 @@ pub fn keeps_out<R: Threads + Wait + Sync>(rt: &R, alloc: Global) -> Option<bool
 /// A call passes the gate before, inside and after.
 pub fn three_points<R: Threads + Wait + Sync>(rt: &R, alloc: Global) -> Option<bool> {
     let book = opened(alloc)?;
-    let Ok((guarded, mut seats)) = Guarded::new(alloc, book, &[ONE]) else {
-        return None;
-    };
-    let Some(mut one) = seats.pop() else {
-        unreachable!()
-    };
+    let (guarded, mut seats) = Guarded::new(alloc, book, &[ONE]).ok()?;
+    let mut one = seats.pop().unwrap();
     let gate = RowGate::Keep(KeepGate::new(point_of(ONE, When::Before)));
     let written = write_lent(rt, &guarded, &mut one, 0, 2, &gate);
+    let passed = gate.passed();
+    drop(gate);
     seats.push_reserved(one);
     let book = guarded.close(seats);
-    Some(gate.passed() == 123_123 && written == 2 && book.lines().len() == 3)
+    let count = book.lines().len();
+    drop(book);
+    Some(passed == 123_123 && written == 2 && count == 3)
 }

@@ -113,11 +113,17 @@ fn calls_of(alloc: Global, lane: LaneId, committed: bool) -> Option<Calls>
     })
 }
 
-fn is_done(reply: &ShardReply) -> bool {
+fn is_good(reply: &ShardReply) -> bool {
     match reply {
         ShardReply::Locked(answer) => answer.is_ok(),
         ShardReply::Stamped(answer) => answer.is_ok(),
     }
+}
+
+fn is_done(reply: ShardReply) -> bool {
+    let is_good = is_good(&reply);
+    drop(reply);
+    is_good
 }
 
 // What is told of the coin that the batch makes.
@@ -152,15 +158,15 @@ fn spend<R: Wait, S: Shard>(
 {
     let at = point_of(seat.lane(), When::Before);
     let mut lock = ShardCall::Lock(&calls.lock);
-    let locked = guarded.call(rt, &mut seat, &mut lock, &RowGate::Open, &at);
+    let locked = is_done(guarded.call(rt, &mut seat, &mut lock, &RowGate::Open, &at));
     let before = look(rt, guarded, &mut seat);
     let mut finish = ShardCall::Finish(&calls.finish);
-    let finished = guarded.call(rt, &mut seat, &mut finish, &RowGate::Open, &at);
+    let finished = is_done(guarded.call(rt, &mut seat, &mut finish, &RowGate::Open, &at));
     let behind = look(rt, guarded, &mut seat);
     Spent {
         seat,
-        locked: is_done(&locked),
-        finished: is_done(&finished),
+        locked,
+        finished,
         before,
         behind,
     }
@@ -217,12 +223,9 @@ fn at_shard<R: Threads + Wait + Sync, S: Shard + Send + Drop>(
     requires may_lock { IsLockCall (S.sight node).header calls.now.lock }
     requires may_finish { IsFinishCall (S.sight node).header calls.now.finish }
 {
-    let Ok((guarded, mut seats)) = Guarded::new(alloc, SharedShard { node }, &[ONE, TWO]) else {
-        return None;
-    };
-    let (Some(two), Some(one)) = (seats.pop(), seats.pop()) else {
-        unreachable!()
-    };
+    let (guarded, mut seats) = Guarded::new(alloc, SharedShard { node }, &[ONE, TWO]).ok()?;
+    let two = seats.pop().unwrap();
+    let one = seats.pop().unwrap();
     let (spent, two, at_last) = beside(rt, &guarded, one, two, calls);
     let Spent {
         seat,
@@ -233,7 +236,7 @@ fn at_shard<R: Threads + Wait + Sync, S: Shard + Send + Drop>(
     } = spent;
     seats.push_reserved(seat);
     seats.push_reserved(two);
-    let _node = guarded.close(seats);
+    drop(guarded.close(seats));
     Some(Told {
         locked,
         finished,
@@ -259,6 +262,15 @@ fn asked<R: Threads + Wait + Sync, S: Shard + Send + Drop>(
     at_shard(rt, alloc, node, calls)
 }
 
+// Both lanes at the shard on its disk.
+fn asked_on_disk<R: Threads + Wait + Sync>(rt: &R, alloc: Global, calls: &Calls) -> Option<Told>
+    requires lock { calls.now.lock.batch.lane ≡ 0 }
+    requires finish { calls.now.finish.batch.lane ≡ 0 }
+{
+    let node = opened_shard(alloc)?;
+    asked(rt, alloc, node, calls)
+}
+
 /// A lane locks a part and finishes it while another looks. Whether the coin that is made is absent before the Finish, and unspent behind it:
 /// for the lane that made it at once, and for the other behind the join.
 pub fn shows_output<R: Threads + Wait + Sync>(
@@ -266,9 +278,6 @@ pub fn shows_output<R: Threads + Wait + Sync>(
     alloc: Global,
     committed: bool,
 ) -> Option<bool> {
-    let calls = calls_of(alloc, ONE, committed)?;
-    let node = opened_shard(alloc)?;
-    let told = asked(rt, alloc, node, &calls)?;
     let shown = Told {
         locked: true,
         finished: true,
@@ -276,20 +285,31 @@ pub fn shows_output<R: Threads + Wait + Sync>(
         behind: Status::Unspent,
         at_last: Status::Unspent,
     };
-    Some(told == shown)
+    let calls = calls_of(alloc, ONE, committed)?;
+    let told = asked_on_disk(rt, alloc, &calls);
+    drop(calls);
+    Some(told? == shown)
 }
 
 // A copy of the shard that stands on no disk and takes no batch.
 fn frozen_shard(alloc: Global) -> Option<Frozen> {
     let node = opened_shard(alloc)?;
-    Frozen::of(alloc, &node)
+    let frozen = Frozen::of(alloc, &node);
+    drop(node);
+    frozen
+}
+
+// Both lanes at that copy.
+fn asked_frozen<R: Threads + Wait + Sync>(rt: &R, alloc: Global, calls: &Calls) -> Option<Told>
+    requires lock { calls.now.lock.batch.lane ≡ 0 }
+    requires finish { calls.now.finish.batch.lane ≡ 0 }
+{
+    let frozen = frozen_shard(alloc)?;
+    asked(rt, alloc, frozen, calls)
 }
 
 /// The same lanes at a copy of the shard that stands on no disk and takes no batch. Whether neither call is done, and the coin is absent for both lanes.
 pub fn takes_none<R: Threads + Wait + Sync>(rt: &R, alloc: Global) -> Option<bool> {
-    let calls = calls_of(alloc, ONE, true)?;
-    let frozen = frozen_shard(alloc)?;
-    let told = asked(rt, alloc, frozen, &calls)?;
     let refused = Told {
         locked: false,
         finished: false,
@@ -297,5 +317,8 @@ pub fn takes_none<R: Threads + Wait + Sync>(rt: &R, alloc: Global) -> Option<boo
         behind: Status::Absent,
         at_last: Status::Absent,
     };
-    Some(told == refused)
+    let calls = calls_of(alloc, ONE, true)?;
+    let told = asked_frozen(rt, alloc, &calls);
+    drop(calls);
+    Some(told? == refused)
 }
