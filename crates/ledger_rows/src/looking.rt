@@ -25,6 +25,8 @@ fn check_status(wanted: u64, text: &str, came: u64, told: &mut Told) {
     other.put(text);
     other.named("=", came as u128);
     told.check_same(first.as_str(), other.as_str());
+    drop(first);
+    drop(other);
 }
 
 /// `same RACK`: all disks have the bytes of those that were kept.
@@ -32,6 +34,8 @@ pub fn same(state: &State, words: &[&str], told: &mut Told) {
     let wanted = state.rack(told.word_at(words, 0), told);
     let came = digits_of(&state.disks, told);
     told.check_same(wanted.as_str(), came.as_str());
+    drop(wanted);
+    drop(came);
 }
 
 // A disk has these bytes at a place.
@@ -48,6 +52,7 @@ pub fn bytes(state: &State, words: &[&str], told: &mut Told) {
         let at = count_at(words, 1, told);
         let wanted = hex_at(words, 2, told);
         check_bytes(&disk.bytes, at, &wanted, told);
+        drop(wanted);
     }
 }
 
@@ -161,6 +166,7 @@ fn line_of(words: &[&str], told: &mut Told) -> String {
 fn check_line(words: &[&str], came: &str, told: &mut Told) {
     let wanted = line_of(words, told);
     told.check_same(wanted.as_str(), came);
+    drop(wanted);
 }
 
 // What came.
@@ -183,4 +189,5 @@ fn check_came(verb: Verb, words: &[&str], text: &str, came: &str, told: &mut Tol
 pub fn look(state: &State, verb: Verb, words: &[&str], text: &str, told: &mut Told) {
     let came = came_of(state, verb, words, told);
     check_came(verb, words, text, came.as_str(), told);
+    drop(came);
 }

@@ -3,7 +3,7 @@ ghost use Rattle.std.specs.Prelude.{◌≡◌};
 
 use crate::ordering::PointOrder;
 use cbdc_types::NodeId;
-use mem_devices::{FaultDisk, MemInbox, MemRack};
+use mem_devices::MemInbox;
 use outside::{Failed, Gate, Inbox, Point, Rack};
 use row_records::Told;
 use std::alloc::Global;
@@ -40,7 +40,9 @@ impl NotingGate {
             is_slow: _,
         } = self;
         let points = points.into_inner();
-        by_nodes(points.as_slice(), told)
+        let ordered = by_nodes(points.as_slice(), told);
+        drop(points);
+        ordered
     }
 }
 
@@ -58,11 +60,18 @@ fn is_of_phase(point: &Point, last: &Point) -> bool {
 fn by_nodes(points: &[Point], told: &mut Told) -> Vec<Point> {
     let mut phased = numbered(points, told);
     told.made(phased.sort_by_key(|(phase, point)| (*phase, point.node.0)));
-    let mut ordered = Vec::new(told.alloc);
-    for (_, point) in &phased {
-        told.push(&mut ordered, *point);
-    }
+    let ordered = without_phases(&phased, told);
+    drop(phased);
     ordered
+}
+
+// Points without the numbers of their phases.
+fn without_phases(phased: &[(u64, Point)], told: &mut Told) -> Vec<Point> {
+    let mut points = Vec::new(told.alloc);
+    for (_, point) in phased {
+        told.push(&mut points, *point);
+    }
+    points
 }
 
 // Points, each with the number of its phase.
@@ -128,28 +137,28 @@ impl Inbox for NotingInbox {
 
 /// A rack that notes the nodes whose disks are taken.
 #[derive(Drop)]
-pub struct NotingRack {
-    pub disks: MemRack<FaultDisk>,
+pub struct NotingRack<K: Rack> {
+    pub disks: K,
     pub nodes: Vec<NodeId>,
 }
 
-impl Rack for NotingRack {
-    type Disk = FaultDisk;
+impl<K: Rack> Rack for NotingRack<K> {
+    type Disk = K::Disk;
 
-    ghost held = { λ r. ⟦<MemRack<FaultDisk> as Rack>⟧.held r.disks };
+    ghost held = { λ r. K.held r.disks };
 
-    ghost count = { λ r. ⟦<MemRack<FaultDisk> as Rack>⟧.count r.disks };
+    ghost count = { λ r. K.count r.disks };
 
-    ghost can_take = { λ r. ⟦<MemRack<FaultDisk> as Rack>⟧.can_take r.disks };
+    ghost can_take = { λ r. K.can_take r.disks };
 
-    ghost can_put = { λ r. ⟦<MemRack<FaultDisk> as Rack>⟧.can_put r.disks };
+    ghost can_put = { λ r. K.can_put r.disks };
 
-    fn take(&mut self, node: NodeId) -> Result<FaultDisk, Failed> {
+    fn take(&mut self, node: NodeId) -> Result<K::Disk, Failed> {
         let _ = self.nodes.push(node);
         self.disks.take(node)
     }
 
-    fn put(&mut self, node: NodeId, disk: FaultDisk) {
+    fn put(&mut self, node: NodeId, disk: K::Disk) {
         self.disks.put(node, disk);
     }
 }
