@@ -7,7 +7,7 @@ use cbdc_types::{
 };
 use crossbeam_channel::Receiver;
 use lane_driver::Source;
-use lane_sources::{Ahead, Deals, Feeder, FileOf, LaneSource, RuledAt, feed, pipe};
+use lane_sources::{Ahead, Deals, FileOf, LaneSource, RuledAt, feed, pipe};
 use outside::{OpenGate, Point, When};
 use sentinel::{AllGood, Verifier};
 use std::alloc::{AllocError, Global};
@@ -55,12 +55,13 @@ fn payment(alloc: Global, number: Option<u8>) -> Result<FullTx, AllocError> {
     Ok(tx)
 }
 
-// Puts three submissions behind others; the second has no inputs.
-fn put_three(alloc: Global, txs: &mut Vec<FullTx>) -> Result<(), AllocError> {
+// Three submissions, of which the second has no inputs.
+fn three(alloc: Global) -> Result<Vec<FullTx>, AllocError> {
+    let mut txs = Vec::new(alloc);
     for number in [Some(3), None, Some(4)] {
         txs.push(payment(alloc, number)?)?;
     }
-    Ok(())
+    Ok(txs)
 }
 
 // What the sentinel ahead of a lane sends, for which its channel has room; nothing where it is dropped before its first message.
@@ -111,14 +112,6 @@ fn come<R: Wait, F: Deals>(rt: &R, messages: &Receiver<RuledAt<F>>, places: &[us
     messages.recv(rt).is_err()
 }
 
-// Puts copies of a piece behind what came before it.
-fn put_piece(all: &mut Vec<CompactTx>, piece: &[CompactTx]) -> Result<(), AllocError> {
-    for tx in piece {
-        all.push(tx.clone()?)?;
-    }
-    Ok(())
-}
-
 // Puts all that a source gives there, piece by piece.
 fn put_all<S: Source>(
     alloc: Global,
@@ -127,7 +120,9 @@ fn put_all<S: Source>(
 ) -> Result<(), AllocError> {
     for _ in 0..source.begin() {
         source.advance(alloc, 2)?;
-        put_piece(all, source.piece())?;
+        for tx in source.piece() {
+            all.push(tx.clone()?)?;
+        }
     }
     Ok(())
 }
@@ -149,45 +144,7 @@ fn given<R: Wait, V: Verifier, F: Deals>(
     requires { 0 < file.now }
 {
     let mut source = LaneSource::new(rt, alloc, file, 0, ahead)?;
-    let all = taken(alloc, &mut source);
-    drop(source);
-    all
-}
-
-// How often a sentinel passes its gate, a digit for each time.
-fn passed<R: Wait, V: Verifier, F: Deals>(
-    rt: &R,
-    alloc: Global,
-    shape: &Shape,
-    file: &FileOf<'_, V, F>,
-    feeder: Feeder<F>,
-) -> u64 {
-    let gate = RowGate::Keep(KeepGate::new(Point {
-        lane: LaneId(0),
-        node: NodeId(0),
-        kind: 0,
-        when: When::After,
-    }));
-    feed(rt, alloc, shape, file, feeder, &gate);
-    let times = gate.passed();
-    drop(gate);
-    times
-}
-
-// The same of the sentinel of a lane that has let go of it before, or not.
-fn passed_ahead<R: Wait, V: Verifier, F: Deals, S: Source>(
-    rt: &R,
-    alloc: Global,
-    shape: &Shape,
-    file: &FileOf<'_, V, F>,
-    feeder: Feeder<F>,
-    source: &mut S,
-    lets_go: bool,
-) -> u64 {
-    if lets_go {
-        source.end_ahead();
-    }
-    passed(rt, alloc, shape, file, feeder)
+    taken(alloc, &mut source)
 }
 
 // How often the sentinel of a lane passes its gate, a digit for each time, where the lane has let go of it before, or not.
@@ -205,9 +162,17 @@ fn passes<R: Wait, V: Verifier, F: Deals>(
         drop(feeder);
         return Err(AllocError);
     };
-    let times = passed_ahead(rt, alloc, shape, file, feeder, &mut source, lets_go);
-    drop(source);
-    Ok(times)
+    if lets_go {
+        source.end_ahead();
+    }
+    let gate = RowGate::Keep(KeepGate::new(Point {
+        lane: LaneId(0),
+        node: NodeId(0),
+        kind: 0,
+        when: When::After,
+    }));
+    feed(rt, alloc, shape, file, feeder, &gate);
+    Ok(gate.passed())
 }
 
 // Whether the messages of a lane are of these places.
@@ -225,15 +190,6 @@ fn is_sent<R: Wait, V: Verifier, F: Deals>(
     Ok(told)
 }
 
-// The places of three submissions that go to a lane, of one or of two.
-fn places_of(lanes: u32, lane: u32) -> &'static [usize] {
-    match (lanes, lane) {
-        (1, _) => &[0, 1, 2],
-        (_, 0) => &[0, 2],
-        _ => &[1],
-    }
-}
-
 // Whether the messages of each lane come, of one or of two.
 fn all_come<R: Wait, V: Verifier, F: Deals>(
     rt: &R,
@@ -241,13 +197,12 @@ fn all_come<R: Wait, V: Verifier, F: Deals>(
     shape: &Shape,
     file: &FileOf<'_, V, F>,
 ) -> Result<bool, AllocError> {
-    let lanes = shape.lane_count();
-    let mut told = true;
-    for lane in 0..lanes {
-        let places = places_of(lanes, lane);
-        told &= is_sent(rt, alloc, shape, file, LaneId(lane), places)?;
+    if shape.lane_count() == 1 {
+        return is_sent(rt, alloc, shape, file, LaneId(0), &[0, 1, 2]);
     }
-    Ok(told)
+    let first = is_sent(rt, alloc, shape, file, LaneId(0), &[0, 2])?;
+    let second = is_sent(rt, alloc, shape, file, LaneId(1), &[1])?;
+    Ok(first && second)
 }
 
 // All that a lane gets whose sentinel sends, or is dropped before its first message.
@@ -264,36 +219,6 @@ fn received<R: Wait, V: Verifier, F: Deals>(
     given(rt, alloc, file, Ahead::Sent(messages))
 }
 
-// Whether the lane gets these with a sentinel that sends, or is dropped before its first message.
-fn gets<R: Wait, V: Verifier, F: Deals>(
-    rt: &R,
-    alloc: Global,
-    shape: &Shape,
-    file: &FileOf<'_, V, F>,
-    starts: bool,
-    txs: &[CompactTx],
-) -> Result<bool, AllocError>
-    requires { 0 < file.now }
-{
-    let own = received(rt, alloc, shape, file, starts)?;
-    Ok(own.as_slice() == txs)
-}
-
-// Whether the lane gets these with a sentinel that sends, and with one that was dropped.
-fn gets_twice<R: Wait, V: Verifier, F: Deals>(
-    rt: &R,
-    alloc: Global,
-    shape: &Shape,
-    file: &FileOf<'_, V, F>,
-    txs: &[CompactTx],
-) -> Result<bool, AllocError>
-    requires { 0 < file.now }
-{
-    let with = gets(rt, alloc, shape, file, true, txs)?;
-    let without = gets(rt, alloc, shape, file, false, txs)?;
-    Ok(txs.len() == 2 && with && without)
-}
-
 // Whether the lane gets the two sound ones, with a sentinel that sends, with one that was dropped, and with none.
 fn are_same<R: Wait, V: Verifier, F: Deals>(
     rt: &R,
@@ -304,27 +229,12 @@ fn are_same<R: Wait, V: Verifier, F: Deals>(
     requires { 0 < file.now }
 {
     let alone = given(rt, alloc, file, Ahead::Nothing)?;
-    gets_twice(rt, alloc, shape, file, alone.as_slice())
+    let with = received(rt, alloc, shape, file, true)?;
+    let without = received(rt, alloc, shape, file, false)?;
+    Ok(alone.len() == 2 && with == alone && without == alone)
 }
 
 // What comes of the messages of each lane, of what the first lane gets, and of its sentinel.
-fn tried_on<R: Wait, V: Verifier, F: Deals>(
-    rt: &R,
-    alloc: Global,
-    shape: &Shape,
-    file: &FileOf<'_, V, F>,
-) -> Result<Fed, AllocError>
-    requires { 0 < file.now }
-{
-    Ok(Fed {
-        comes: all_come(rt, alloc, shape, file)?,
-        is_same: are_same(rt, alloc, shape, file)?,
-        kept: passes(rt, alloc, shape, file, false)?,
-        let_go: passes(rt, alloc, shape, file, true)?,
-    })
-}
-
-// The same of these submissions.
 fn tried<R: Wait, V: Verifier, F: Deals>(
     rt: &R,
     alloc: Global,
@@ -337,7 +247,12 @@ fn tried<R: Wait, V: Verifier, F: Deals>(
     requires shape { F.shape ≡ shape.now }
 {
     let file: FileOf<'_, V, F> = FileOf::new(txs, verifier, shape.lane_count());
-    tried_on(rt, alloc, shape, &file)
+    Ok(Fed {
+        comes: all_come(rt, alloc, shape, &file)?,
+        is_same: are_same(rt, alloc, shape, &file)?,
+        kept: passes(rt, alloc, shape, &file, false)?,
+        let_go: passes(rt, alloc, shape, &file, true)?,
+    })
 }
 
 // What was tried.
@@ -349,22 +264,10 @@ struct Fed {
     let_go: u64,
 }
 
-// The same of three submissions, to so many lanes.
-fn try_three<R: Wait, V: Verifier>(
-    rt: &R,
-    alloc: Global,
-    lanes: u32,
-    txs: &mut Vec<FullTx>,
-    verifier: &V,
-) -> Option<Fed> {
-    let shape = Shape::new(1, 1, lanes, 16).ok()?;
-    put_three(alloc, txs).ok()?;
-    tried::<R, V, Brand>(rt, alloc, &shape, txs.as_slice(), verifier).ok()
-}
-
 fn try_all<R: Wait, V: Verifier>(rt: &R, alloc: Global, lanes: u32, verifier: &V) -> Option<Fed> {
-    let mut txs = Vec::new(alloc);
-    try_three(rt, alloc, lanes, &mut txs, verifier)
+    let shape = Shape::new(1, 1, lanes, 16).ok()?;
+    let txs = three(alloc).ok()?;
+    tried::<R, V, Brand>(rt, alloc, &shape, txs.as_slice(), verifier).ok()
 }
 
 /// Three submissions, the second refused, come in three messages.

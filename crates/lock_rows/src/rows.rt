@@ -72,51 +72,37 @@ fn write_beside<R: Threads + Wait + Sync>(
     })
 }
 
-// Whether two lanes left 100 lines each behind the first one, each in its order.
-fn has_both(left: &Left) -> bool {
+/// Two lanes make 100 calls each on a book that has one line.
+pub fn two_threads<R: Threads + Wait + Sync>(rt: &R, alloc: Global) -> Option<bool> {
+    let left = write_beside(rt, alloc, 100, &RowGate::Open)?;
     let lines = left.book.lines();
+    let count = lines.len();
     let counts = (
         count_in_order(lines, OLD, 7),
         count_in_order(lines, ONE, 0),
         count_in_order(lines, TWO, 0),
     );
     let written = (left.first, left.second);
-    lines.len() == 201 && written == (100, 100) && counts == (Some(1), Some(100), Some(100))
-}
-
-/// Two lanes make 100 calls each on a book that has one line.
-pub fn two_threads<R: Threads + Wait + Sync>(rt: &R, alloc: Global) -> Option<bool> {
-    let left = write_beside(rt, alloc, 100, &RowGate::Open)?;
-    let told = has_both(&left);
     drop(left);
-    Some(told)
-}
-
-// How many lines there are of the first line's lane, and of the lane that writes.
-fn counts_of(lines: &[Line]) -> Option<(u64, u64)> {
-    Some((
-        count_in_order(lines, OLD, 7)?,
-        count_in_order(lines, ONE, 0)?,
-    ))
+    Some(count == 201 && written == (100, 100) && counts == (Some(1), Some(100), Some(100)))
 }
 
 // How many lines a look is told of: those of the first line's lane, and those of the lane that writes.
 fn looked(answer: Answer) -> Option<(u64, u64)> {
-    let counts = match &answer {
-        Answer::Listed(Ok(lines)) => counts_of(lines.as_slice()),
-        _ => None,
+    let Answer::Listed(Ok(lines)) = answer else {
+        return None;
     };
-    drop(answer);
-    counts
+    Some((
+        count_in_order(lines.as_slice(), OLD, 7)?,
+        count_in_order(lines.as_slice(), ONE, 0)?,
+    ))
 }
 
 fn counted(answer: Answer) -> Option<usize> {
-    let count = match &answer {
-        Answer::Counted(count) => Some(*count),
+    match answer {
+        Answer::Counted(count) => Some(count),
         Answer::Listed(_) => None,
-    };
-    drop(answer);
-    count
+    }
 }
 
 // A lane writes three lines and looks; another only looks, ahead of it and behind it. Whether both see what was written.
@@ -155,40 +141,20 @@ pub fn looks<R: Threads + Wait + Sync>(rt: &R, alloc: Global) -> Option<bool> {
     Some(told && count == 4)
 }
 
-// Whether each of two lanes left a line behind the first one.
-fn has_each(left: &Left) -> bool {
-    left.book.lines().len() == 3 && (left.first, left.second) == (1, 1)
-}
-
-// Whether a gate that holds one lane until the other has come lets both go.
-fn have_met<R: Threads + Wait + Sync>(rt: &R, alloc: Global, gate: &RowGate) -> Option<bool> {
-    let left = write_beside(rt, alloc, 1, gate)?;
-    let told = has_each(&left);
-    drop(left);
-    Some(gate.has_met() && told)
-}
-
-// The same of a gate that is made for it.
+// Whether the gate that holds one lane until the other has come lets both go.
 fn has_met<R: Threads + Wait + Sync>(rt: &R, alloc: Global, gate: RowGate) -> Option<bool> {
-    let told = have_met(rt, alloc, &gate);
-    drop(gate);
-    told
-}
-
-// Whether a lane that waits before its call goes on once the other has made its own.
-fn is_let_go<R: Threads + Wait + Sync>(
-    rt: &R,
-    alloc: Global,
-    held: LaneId,
-    awaited: LaneId,
-) -> Option<bool> {
-    let (before, after) = (point_of(held, When::Before), point_of(awaited, When::After));
-    has_met(rt, alloc, RowGate::Meet(MeetGate::new(before, after, 0)))
+    let left = write_beside(rt, alloc, 1, &gate)?;
+    let count = left.book.lines().len();
+    let written = (left.first, left.second);
+    drop(left);
+    Some(gate.has_met() && count == 3 && written == (1, 1))
 }
 
 /// Each lane waits before its call, in turn, until the other has made its own.
 pub fn beside_each_other<R: Threads + Wait + Sync>(rt: &R, alloc: Global) -> Option<bool> {
-    Some(is_let_go(rt, alloc, ONE, TWO)? && is_let_go(rt, alloc, TWO, ONE)?)
+    let first = MeetGate::new(point_of(ONE, When::Before), point_of(TWO, When::After), 0);
+    let second = MeetGate::new(point_of(TWO, When::Before), point_of(ONE, When::After), 0);
+    Some(has_met(rt, alloc, RowGate::Meet(first))? && has_met(rt, alloc, RowGate::Meet(second))?)
 }
 
 /// A lane has the node and keeps it for long; the other comes then, and waits for its turn.
