@@ -1,9 +1,10 @@
 //! What the submissions of a client file send to a lane, checked as the lane asks for it, or ahead of it by a sentinel in a thread of its own.
 //!
 //! - What is true of a message is what its type says. Nothing is promised of what the channel delivers: a lane computes whatever does not come.
-//! - Tested in `lock_rows`: what is sent of three submissions, what the lane gets with and without it, and that a sentinel ends whose source has let go
-//!   of it; and in `threads.rows`: that a lane waits for its sentinel. What `LaneSource` gives is a clause.
-//! - Open: that a lane makes nothing anew that its sentinel sent, or that `rule_ahead` made: the result would be the same.
+//! - Tested in `lock_rows`: what is sent of three submissions, what the lane gets with and without it, that it asks for no verdict anew on what was
+//!   sent, and that a sentinel ends whose source has let go of it; and in `threads.rows`: that a lane waits for its sentinel. What `LaneSource` gives
+//!   is a clause.
+//! - Open: that a lane checks nothing anew that `rule_ahead` has checked: the result would be the same.
 #![tactic(auto)]
 
 mod ahead;

@@ -9,8 +9,9 @@ use crossbeam_channel::Receiver;
 use lane_driver::Source;
 use lane_sources::{Ahead, Deals, FileOf, LaneSource, RuledAt, feed, pipe};
 use outside::{OpenGate, Point, When};
-use sentinel::{AllGood, Verifier};
+use sentinel::{AllGood, Verdict, Verifier};
 use std::alloc::{AllocError, Global};
+use std::cell::Cell;
 use std::marker::Brand;
 use std::sync::Wait;
 use submissions::Ruling;
@@ -268,6 +269,60 @@ fn try_all<R: Wait, V: Verifier>(rt: &R, alloc: Global, lanes: u32, verifier: &V
     let shape = Shape::new(1, 1, lanes, 16).ok()?;
     let txs = three(alloc).ok()?;
     tried::<R, V, Brand>(rt, alloc, &shape, txs.as_slice(), verifier).ok()
+}
+
+// To it every witness is good, and it counts how often it is asked for a verdict.
+#[derive(Drop)]
+struct Counting {
+    asked: Cell<u64>,
+}
+
+impl Verifier for Counting {
+    ghost use Rattle.sentinel.specs.declared.verifier.Verdict.TheVariants.{Good};
+
+    ghost verdict_of = { λ _ _ _. Good };
+
+    fn verdict(&self, _tx: &Hash, _index: u64) -> Verdict {
+        self.asked.set(self.asked.get().saturating_add(1));
+        Verdict::Good
+    }
+}
+
+// How many verdicts are asked for ahead of a lane, and how many once it has all that it gets.
+fn asked<R: Wait, F: Deals>(
+    rt: &R,
+    alloc: Global,
+    shape: &Shape,
+    txs: &[FullTx],
+    verifier: &Counting,
+    starts: bool,
+) -> Result<(u64, u64), AllocError>
+    requires file { F.file ≡ txs.now }
+    requires verdicts { F.verdicts ≡ ⟦<Counting as Verifier>⟧.verdict_of verifier.now }
+    requires shape { F.shape ≡ shape.now }
+{
+    let file: FileOf<'_, Counting, F> = FileOf::new(txs, verifier, shape.lane_count());
+    let messages = sent(rt, alloc, shape, &file, LaneId(0), starts)?;
+    let ahead = verifier.asked.get();
+    given(rt, alloc, &file, Ahead::Sent(messages))?;
+    Ok((ahead, verifier.asked.get()))
+}
+
+// The same of three submissions, of which two have an input.
+fn asked_of_three<R: Wait>(rt: &R, alloc: Global, starts: bool) -> Option<(u64, u64)> {
+    let shape = Shape::new(1, 1, 1, 16).ok()?;
+    let verifier = Counting {
+        asked: Cell::new(0),
+    };
+    let txs = three(alloc).ok()?;
+    asked::<R, Brand>(rt, alloc, &shape, txs.as_slice(), &verifier, starts).ok()
+}
+
+/// A lane asks for no verdict anew on what its sentinel sent, and for each where that was dropped.
+pub fn asks_once<R: Wait>(rt: &R, alloc: Global) -> Option<bool> {
+    let sent = asked_of_three(rt, alloc, true)?;
+    let dropped = asked_of_three(rt, alloc, false)?;
+    Some(sent == (2, 2) && dropped == (0, 2))
 }
 
 /// Three submissions, the second refused, come in three messages.

@@ -112,6 +112,11 @@ fn tell_sentinels<R: Print + Threads + Wait + Sync>(rt: &R, alloc: Global, tally
     );
     tally.tell(
         rt,
+        "row a lane asks for no verdict anew on what its sentinel sent, and for each where that was dropped before its first message",
+        feeding::asks_once(rt, alloc),
+    );
+    tally.tell(
+        rt,
         "row the sentinel of a lane that has let go of it ends at its first message, and passes its gate three times for three where the lane has not",
         feeding::ends_with_its_lane(rt, alloc),
     );
