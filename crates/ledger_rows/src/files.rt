@@ -84,7 +84,6 @@ fn put_good(state: &State, bytes: &mut Vec<u8>, names: &[&str], told: &mut Told)
 fn put_hex(bytes: &mut Vec<u8>, words: &[&str], told: &mut Told) {
     let new = hex_at(words, 0, told);
     put(bytes, &new, told);
-    drop(new);
 }
 
 // Writes bytes over those at a place.
@@ -92,7 +91,6 @@ fn set(bytes: &mut [u8], words: &[&str], told: &mut Told) {
     let at = count_at(words, 0, told);
     let new = hex_at(words, 1, told);
     told.given(write_over(bytes, at, &new));
-    drop(new);
 }
 
 /// Changes bytes: `set AT DIGITS` writes over those that stand there, `add DIGITS` puts others behind them, `truncate BYTES` keeps the first.

@@ -25,8 +25,6 @@ fn check_status(wanted: u64, text: &str, came: u64, told: &mut Told) {
     other.put(text);
     other.named("=", came as u128);
     told.check_same(first.as_str(), other.as_str());
-    drop(first);
-    drop(other);
 }
 
 /// `same RACK`: all disks have the bytes of those that were kept.
@@ -34,8 +32,6 @@ pub fn same(state: &State, words: &[&str], told: &mut Told) {
     let wanted = state.rack(told.word_at(words, 0), told);
     let came = digits_of(&state.disks, told);
     told.check_same(wanted.as_str(), came.as_str());
-    drop(wanted);
-    drop(came);
 }
 
 // A disk has these bytes at a place.
@@ -52,7 +48,6 @@ pub fn bytes(state: &State, words: &[&str], told: &mut Told) {
         let at = count_at(words, 1, told);
         let wanted = hex_at(words, 2, told);
         check_bytes(&disk.bytes, at, &wanted, told);
-        drop(wanted);
     }
 }
 
@@ -166,7 +161,6 @@ fn line_of(words: &[&str], told: &mut Told) -> String {
 fn check_line(words: &[&str], came: &str, told: &mut Told) {
     let wanted = line_of(words, told);
     told.check_same(wanted.as_str(), came);
-    drop(wanted);
 }
 
 // What came.
@@ -189,5 +183,4 @@ fn check_came(verb: Verb, words: &[&str], text: &str, came: &str, told: &mut Tol
 pub fn look(state: &State, verb: Verb, words: &[&str], text: &str, told: &mut Told) {
     let came = came_of(state, verb, words, told);
     check_came(verb, words, text, came.as_str(), told);
-    drop(came);
 }

@@ -46,9 +46,7 @@ fn is_own(word: &str) -> bool {
 // Whether a word asks for these rows, which stand in code.
 fn asks_for<R: AllocGlobal + Env>(rt: &R, rows: &str) -> io::Result<bool> {
     let asks = words_where(rt, &|word: &str| word == rows)?;
-    let is_asked = !asks.is_empty();
-    drop(asks);
-    Ok(is_asked)
+    Ok(!asks.is_empty())
 }
 
 // Runs the rows of the lock round a node, where a word asks for them.
@@ -78,9 +76,7 @@ fn run_ledgers<R: AllocGlobal + Env + Files + Print + Threads + Wait + Sync>(
         step(rt, alloc, state, text, block);
     };
     let names = words_where(rt, &|word: &str| is_own(word))?;
-    let has_all = run_files::<R, State, _>(rt, &does, names.as_slice());
-    drop(names);
-    has_all
+    run_files::<R, State, _>(rt, &does, names.as_slice())
 }
 
 // Runs all rows that the words name.
@@ -101,24 +97,13 @@ fn run_rows<R: AllocGlobal + Env + Files + Print + Threads + Wait + Sync>(
     }
 }
 
-// Measures the part that words name, or runs all rows that they name.
-fn run_words<R: AllocGlobal + Env + Files + Print + Threads + Wait + Sync>(
-    rt: &R,
-    host: &HostRuntime,
-    words: &[String],
-) -> io::Result<ExitCode> {
-    match words.split_first() {
-        Some((first, more)) if first.as_str() == SPEEDS => {
-            device_rows::measure(host, more)?;
-            Ok(ExitCode::from(0))
-        }
-        _rows => run_rows(rt, host),
-    }
-}
-
 fn main(rt: HostRuntime) -> io::Result<ExitCode> {
     let words = words_where(&rt, &|_word: &str| true)?;
-    let code = run_words(&rt, &rt, words.as_slice());
-    drop(words);
-    code
+    match words.as_slice().split_first() {
+        Some((first, more)) if first.as_str() == SPEEDS => {
+            device_rows::measure(&rt, more)?;
+            Ok(ExitCode::from(0))
+        }
+        _rows => run_rows(&rt, &rt),
+    }
 }

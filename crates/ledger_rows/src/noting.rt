@@ -40,9 +40,7 @@ impl NotingGate {
             is_slow: _,
         } = self;
         let points = points.into_inner();
-        let ordered = by_nodes(points.as_slice(), told);
-        drop(points);
-        ordered
+        by_nodes(points.as_slice(), told)
     }
 }
 
@@ -60,18 +58,11 @@ fn is_of_phase(point: &Point, last: &Point) -> bool {
 fn by_nodes(points: &[Point], told: &mut Told) -> Vec<Point> {
     let mut phased = numbered(points, told);
     told.made(phased.sort_by_key(|(phase, point)| (*phase, point.node.0)));
-    let ordered = without_phases(&phased, told);
-    drop(phased);
-    ordered
-}
-
-// Points without the numbers of their phases.
-fn without_phases(phased: &[(u64, Point)], told: &mut Told) -> Vec<Point> {
-    let mut points = Vec::new(told.alloc);
-    for (_, point) in phased {
-        told.push(&mut points, *point);
+    let mut ordered = Vec::new(told.alloc);
+    for (_, point) in &phased {
+        told.push(&mut ordered, *point);
     }
-    points
+    ordered
 }
 
 // Points, each with the number of its phase.

@@ -19,18 +19,6 @@ pub struct PointOrder {
     late: AtomicBool,
 }
 
-// The first place of a point among those from a place on.
-fn place_in(points: &[Point], first: usize, point: &Point) -> Option<usize> {
-    let mut place = first;
-    for own in points {
-        if own == point {
-            return Some(place);
-        }
-        place = place.saturating_add(1);
-    }
-    None
-}
-
 impl PointOrder {
     pub fn new(points: Vec<Point>, turns: u32) -> PointOrder {
         PointOrder {
@@ -49,7 +37,9 @@ impl PointOrder {
     // The first place of a point that was not passed.
     fn place_of(&self, point: &Point) -> Option<usize> {
         let passed = self.passed.load(Ordering::SeqCst);
-        place_in(self.points.get(passed..)?, passed, point)
+        let rest = self.points.get(passed..)?;
+        let at = rest.iter().position(|own| own == point)?;
+        Some(passed.saturating_add(at))
     }
 
     /// Holds a point until those before it were passed.
@@ -144,19 +134,12 @@ pub fn holding_of(words: &[&str], told: &mut Told) -> Holding {
     Holding { turns, is_slow }
 }
 
-// The point of a line.
-fn point_in(line: &str, told: &mut Told) -> Point {
-    let words = told.words_of(line);
-    let point = point_of(&words, told);
-    drop(words);
-    point
-}
-
 /// The points of lines `LANE NODE KIND WHEN`.
 pub fn points_of(text: &str, told: &mut Told) -> Vec<Point> {
     let mut points = Vec::new(told.alloc);
     for line in text.lines() {
-        let point = point_in(line, told);
+        let words = told.words_of(line);
+        let point = point_of(&words, told);
         told.push(&mut points, point);
     }
     points

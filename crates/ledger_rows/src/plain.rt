@@ -1,13 +1,10 @@
 // Two runs of the program over devices in memory that never fail.
-ghost use Rattle.std.specs.Prelude.{IfSome};
-ghost use Rattle.mem_devices.specs.PlainRacks.{NoPlainDiskOut};
-
 use crate::play::{files_of, owned, text_in};
 use crate::state::{ROOM, State};
 use crate::words::count_at;
 use commands::{Done, process_in_memory};
 use line_text::status_code;
-use mem_devices::{MemInbox, PlainRack, PlainSink};
+use mem_devices::{PlainRack, PlainSink};
 use outside::OpenGate;
 use row_records::{Told, rest, words_around};
 use std::sync::Wait;
@@ -30,55 +27,6 @@ impl PlainRuns {
     }
 }
 
-// So many empty disks.
-fn rack_of(nodes: u32, capacity: usize, told: &mut Told) -> Option<PlainRack>
-    ensures { IfSome result NoPlainDiskOut }
-{
-    match PlainRack::new(told.alloc, nodes, capacity) {
-        Ok(rack) => Some(rack),
-        Err(_) => {
-            told.no_memory();
-            None
-        }
-    }
-}
-
-// The program with words, over devices that are there: what it answers, and the rack.
-fn run_over<W: Wait + Threads + Sync>(
-    rt: &W,
-    words: &[&str],
-    inbox: &mut MemInbox,
-    rack: PlainRack,
-    out: &mut PlainSink<ROOM>,
-    told: &mut Told,
-) -> Done<PlainRack>
-    requires { NoPlainDiskOut rack }
-    ensures { NoPlainDiskOut result.rack }
-{
-    let words = owned(words, told);
-    let done = process_in_memory(rt, told.alloc, &words, inbox, rack, out, &OpenGate);
-    drop(words);
-    done
-}
-
-// The program with the words before a stroke, and then with those behind it.
-fn run_twice<W: Wait + Threads + Sync>(
-    rt: &W,
-    words: &[&str],
-    inbox: &mut MemInbox,
-    rack: PlainRack,
-    out: &mut PlainSink<ROOM>,
-    told: &mut Told,
-) -> u64
-    requires { NoPlainDiskOut rack }
-{
-    let (first, second) = words_around(words, "/");
-    let Done { status: _, rack } = run_over(rt, first, inbox, rack, out, told);
-    let Done { status, rack } = run_over(rt, second, inbox, rack, out, told);
-    drop(rack);
-    u64::from(status_code(&status))
-}
-
 /// `NODES CAPACITY WORDS.. / WORDS..`: the program with the first words and then with the second, over so many empty disks.
 pub fn play_plain<W: Wait + Threads + Sync>(
     rt: &W,
@@ -86,15 +34,28 @@ pub fn play_plain<W: Wait + Threads + Sync>(
     words: &[&str],
     told: &mut Told,
 ) -> Option<PlainRuns> {
+    let alloc = told.alloc;
     let nodes = count_at(words, 0, told).min(PLACES) as u32;
     let capacity = count_at(words, 1, told);
-    let mut out = told.made(PlainSink::new(told.alloc))?;
-    let Some(rack) = rack_of(nodes, capacity, told) else {
-        drop(out);
-        return None;
+    let mut out = told.made(PlainSink::new(alloc))?;
+    let rack = match PlainRack::new(alloc, nodes, capacity) {
+        Ok(rack) => rack,
+        Err(_) => {
+            told.no_memory();
+            return None;
+        }
     };
+    let (first, second) = words_around(rest(words, 2), "/");
+    let (first, second) = (owned(first, told), owned(second, told));
     let mut inbox = files_of(state, told);
-    let status = run_twice(rt, rest(words, 2), &mut inbox, rack, &mut out, told);
-    drop(inbox);
-    Some(PlainRuns { status, out })
+    let Done { status: _, rack } = process_in_memory(
+        rt, alloc, &first, &mut inbox, rack, &mut out, &OpenGate,
+    );
+    let Done { status, rack: _ } = process_in_memory(
+        rt, alloc, &second, &mut inbox, rack, &mut out, &OpenGate,
+    );
+    Some(PlainRuns {
+        status: u64::from(status_code(&status)),
+        out,
+    })
 }

@@ -183,47 +183,6 @@ pub fn output_of(state: &State, told: &mut Told) -> Option<MemSink> {
     told.made(MemSink::new(alloc, state.room, Vec::new(alloc)))
 }
 
-// Those files, which note what is read.
-fn inbox_of(state: &State, told: &mut Told) -> NotingInbox {
-    NotingInbox {
-        files: files_of(state, told),
-        names: Vec::new(told.alloc),
-        alloc: told.alloc,
-    }
-}
-
-// The names of the files that were read.
-fn names_of(inbox: NotingInbox) -> Vec<String> {
-    let NotingInbox {
-        files,
-        names,
-        alloc: _,
-    } = inbox;
-    drop(files);
-    names
-}
-
-// Runs the program with these words over devices that are there.
-fn run_over<W: Wait + Threads + Sync>(
-    rt: &W,
-    words: &[&str],
-    inbox: &mut NotingInbox,
-    rack: NotingRack<MemRack<FaultDisk>>,
-    out: &mut MemSink,
-    gate: &NotingGate,
-    told: &mut Told,
-) -> Done<NotingRack<MemRack<FaultDisk>>>
-    requires { NoneOut rack.disks }
-{
-    let words = owned(words, told);
-    let done = process(rt, told.alloc, &words, inbox, rack, out, gate);
-    drop(words);
-    if !gate.is_kept() {
-        told.check_same("the points in this order", "points out of order");
-    }
-    done
-}
-
 /// Runs the program with these words over the disks and files that a row has made.
 pub fn play<W: Wait + Threads + Sync>(
     rt: &W,
@@ -231,21 +190,26 @@ pub fn play<W: Wait + Threads + Sync>(
     words: &[&str],
     told: &mut Told,
 ) -> Option<Ran> {
+    let alloc = told.alloc;
     let mut out = output_of(state, told)?;
-    let Some(rack) = rack_of(&state.disks, told) else {
-        drop(out);
-        return None;
+    let rack = rack_of(&state.disks, told)?;
+    let words = owned(words, told);
+    let mut inbox = NotingInbox {
+        files: files_of(state, told),
+        names: Vec::new(alloc),
+        alloc,
     };
-    let mut inbox = inbox_of(state, told);
     let gate = gate_of(state, told);
-    let Done { status, rack } = run_over(rt, words, &mut inbox, rack, &mut out, &gate, told);
-    let NotingRack { disks, nodes } = rack;
+    let Done { status, rack } = process(rt, alloc, &words, &mut inbox, rack, &mut out, &gate);
+    if !gate.is_kept() {
+        told.check_same("the points in this order", "points out of order");
+    }
     Some(Ran {
         status: u64::from(status_code(&status)),
         points: gate.into_points(told),
-        files: names_of(inbox),
-        nodes,
+        files: inbox.names,
+        nodes: rack.nodes,
         out,
-        rack: disks,
+        rack: rack.disks,
     })
 }

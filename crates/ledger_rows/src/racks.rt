@@ -54,7 +54,6 @@ pub fn load(state: &mut State, words: &[&str], told: &mut Told) {
     let rack = state.rack(told.word_at(words, 0), told);
     state.disks.clear();
     lay_all(state, rack.as_str(), words, told);
-    drop(rack);
 }
 
 /// `keep NAME`: all disks as they are.
@@ -80,9 +79,7 @@ fn bytes_at(rack: &str, node: usize, told: &mut Told) -> Vec<u8> {
 fn bytes_like(state: &State, words: &[&str], told: &mut Told) -> Vec<u8> {
     let node = count_at(words, 1, told);
     let rack = state.rack(told.word_at(words, 0), told);
-    let bytes = bytes_at(rack.as_str(), node, told);
-    drop(rack);
-    bytes
+    bytes_at(rack.as_str(), node, told)
 }
 
 // How many calls fail where all do from one on.
@@ -163,9 +160,7 @@ fn only(bytes: &[u8], told: &mut Told) -> u8 {
 // The byte that the two digits at a place spell.
 fn byte_at(words: &[&str], at: usize, told: &mut Told) -> u8 {
     let bytes = hex_at(words, at, told);
-    let byte = only(&bytes, told);
-    drop(bytes);
-    byte
+    only(&bytes, told)
 }
 
 // What a crash is to leave of what was not synced: nothing (a zero in each place, as a closed gate is), all, or a byte in each place.

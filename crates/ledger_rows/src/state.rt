@@ -146,32 +146,22 @@ fn tell_first(own: &mut Told, line: &str, records: &str) {
     let mut bytes = hex(line, own);
     cut(&mut bytes, records, own);
     tell_digits(own, &bytes);
-    drop(bytes);
 }
 
-// Tells the line of the next disk with its first records alone.
-fn tell_next(own: &mut Told, line: Option<&str>, records: &str) {
-    match line {
-        Some(line) => tell_first(own, line, records),
-        None => own.refuse("more counts than disks"),
-    }
-}
-
-// Tells the lines of disks with so many records each, as `2,1` tells.
-fn tell_each(own: &mut Told, rack: &str, counts: &str) {
+// Tells the lines of disks with so many records each, as `2,1]` tells.
+fn tell_cut(own: &mut Told, rack: &str, counts: &str) {
+    let Some(counts) = counts.strip_suffix(']') else {
+        own.refuse("no ] behind [");
+        return;
+    };
     let mut lines = rack.lines();
     for records in counts.split(',') {
-        tell_next(own, lines.next(), records);
+        match lines.next() {
+            Some(line) => tell_first(own, line, records),
+            None => own.refuse("more counts than disks"),
+        }
     }
     if lines.next().is_some() {
         own.refuse("fewer counts than disks");
-    }
-}
-
-// The same, as `2,1]` tells.
-fn tell_cut(own: &mut Told, rack: &str, counts: &str) {
-    match counts.strip_suffix(']') {
-        Some(counts) => tell_each(own, rack, counts),
-        None => own.refuse("no ] behind ["),
     }
 }

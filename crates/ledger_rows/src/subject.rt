@@ -35,7 +35,6 @@ fn run_plain<W: Wait + Threads + Sync>(
 ) {
     if let Some(ran) = play_plain(rt, state, words, told) {
         check_run(ran.text(told), ran.status, block, told);
-        drop(ran);
     }
 }
 
@@ -137,6 +136,5 @@ pub fn step<W: Wait + Threads + Sync>(
     let mut told = Told::new(alloc);
     let words = told.words_of(text);
     tell_step(rt, state, &words, block, &mut told);
-    drop(words);
     state.wrong = told.end().err();
 }
