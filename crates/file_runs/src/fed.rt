@@ -13,7 +13,7 @@ use lane_sources::{Ahead, Deals, Feeder, FileOf, LaneSource, feed, pipe, rule_ah
 use ledger_runs::Work;
 use outside::{Disk, Gate};
 use sentinel::Verifier;
-use std::alloc::{AllocError, Global};
+use std::alloc::Global;
 use std::marker::{Brand, Model, PhantomData};
 use std::sync::Wait;
 use std::thread::Threads;
@@ -56,26 +56,46 @@ pub(crate) fn checkers_of<W: Threads, V: Verifier, F: Deals>(
     }
 }
 
-/// What is found ahead of a lane, by these. Its feeder, where it has one, is put to the others. Or memory ran out.
-pub(crate) fn ahead_of<'a, W: Threads + Sync, V: Verifier + Sync, F: Deals + Send + Sync>(
+// The feeder of a lane is put to the others, and what it sends is ahead of it; nothing is where memory runs out.
+fn fed<F: Deals>(alloc: Global, lane: LaneId, feeders: &mut Vec<Feeder<F>>) -> Ahead<F> {
+    let Ok((feeder, messages)) = pipe(alloc, lane) else {
+        return Ahead::Nothing;
+    };
+    match feeders.push(feeder) {
+        Ok(()) => Ahead::Sent(messages),
+        Err(_) => Ahead::Nothing,
+    }
+}
+
+// What all processors find of a lane before the wave, or nothing where memory runs out.
+fn found<W: Threads + Sync, V: Verifier + Sync, F: Deals + Send + Sync>(
     rt: &W,
     alloc: Global,
-    file: &FileOf<'a, V, F>,
+    file: &FileOf<'_, V, F>,
+    lane: usize,
+) -> Ahead<F> {
+    match rule_ahead(rt, alloc, file, lane, file.txs().len()) {
+        Ok(rulings) => Ahead::Found(rulings),
+        Err(_) => Ahead::Nothing,
+    }
+}
+
+/// What is found ahead of a lane, by these. Its feeder, where it has one, is put to the others. A lane for which memory runs out here checks
+/// its submissions itself.
+pub(crate) fn ahead_of<W: Threads + Sync, V: Verifier + Sync, F: Deals + Send + Sync>(
+    rt: &W,
+    alloc: Global,
+    file: &FileOf<'_, V, F>,
     lane: usize,
     checkers: Checkers,
     feeders: &mut Vec<Feeder<F>>,
-) -> Result<Ahead<F>, AllocError>
+) -> Ahead<F>
     requires { lane < 2 ^ 32 }
 {
-    let count = file.txs().len();
     match checkers {
-        Checkers::Processors => Ok(Ahead::Found(rule_ahead(rt, alloc, file, lane, count)?)),
-        Checkers::Feeders if lane < count => {
-            let (feeder, messages) = pipe(alloc, LaneId(lane as u32))?;
-            feeders.push(feeder)?;
-            Ok(Ahead::Sent(messages))
-        }
-        _ => Ok(Ahead::Nothing),
+        Checkers::Processors => found(rt, alloc, file, lane),
+        Checkers::Feeders if lane < file.txs().len() => fed(alloc, LaneId(lane as u32), feeders),
+        _ => Ahead::Nothing,
     }
 }
 

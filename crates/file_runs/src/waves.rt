@@ -78,7 +78,7 @@ fn works_of<'a, W: Wait + Threads + Sync, V: Verifier + Sync, F: Deals + Send + 
     let checkers = checkers_of(rt, file);
     let mut works = Vec::with_capacity(alloc, count)?;
     'lanes: for lane in 0..count {
-        let ahead = ahead_of(rt, alloc, file, lane, checkers, feeders)?;
+        let ahead = ahead_of(rt, alloc, file, lane, checkers, feeders);
         let source = LaneSource::new(rt, alloc, file, lane, ahead)?;
         works.push(Work::new(alloc, source, repeats))?;
     }

@@ -1,8 +1,9 @@
 // A sentinel ahead of a lane: it checks the lane's submissions in a thread of its own, and sends what it makes of each.
 ghost use Rattle.cbdc_model.specs.Ranges.{home_of};
-ghost use Rattle.std.specs.Prelude.{◌≡◌, ◌<◌, length};
+ghost use Rattle.std.specs.Prelude.{◌≡◌};
 
-use crate::{Deals, FileOf, RuledAt, rule_at};
+use crate::ruled::rule_some;
+use crate::{Deals, FileOf, RuledAt};
 use cbdc_types::{LaneId, NodeId, Shape};
 use crossbeam_channel::{Receiver, Sender, bounded};
 use outside::{Gate, Point, When};
@@ -11,21 +12,24 @@ use std::alloc::{AllocError, Global};
 use std::sync::Wait;
 
 /// How many messages a feeder is ahead of its lane at most.
-pub const MESSAGES: usize = 64;
+pub const MESSAGES: usize = 8;
+
+// In about how many messages a lane's submissions are sent, where they are as many.
+const PARTS: usize = 16;
 
 /// A feeder that has not begun: the lane that it feeds, and the sending end of its channel. Where it is dropped the lane computes everything
 /// itself.
 #[derive(Drop)]
 pub struct Feeder<F: Deals> {
     lane: LaneId,
-    sender: Sender<RuledAt<F>>,
+    sender: Sender<Vec<RuledAt<F>>>,
 }
 
 /// The feeder of a lane and the receiving end of its channel, or memory ran out.
 pub fn pipe<F: Deals>(
     alloc: Global,
     lane: LaneId,
-) -> Result<(Feeder<F>, Receiver<RuledAt<F>>), AllocError> {
+) -> Result<(Feeder<F>, Receiver<Vec<RuledAt<F>>>), AllocError> {
     let (sender, receiver) = bounded(alloc, MESSAGES)?;
     Ok((Feeder { lane, sender }, receiver))
 }
@@ -45,25 +49,30 @@ fn point_of(shape: &Shape, lane: LaneId) -> Point
     }
 }
 
-// Sends what a sentinel makes of the submission at a place, with the place. The answer is whether that came about: memory can run out, and
+// How many submissions a message is of, for a lane that has so many. A thread that waits for a message is woken by it, which takes longer than a
+// check does.
+fn size_of(share: usize) -> usize {
+    (share / PARTS).max(1)
+}
+
+// Sends what a sentinel makes of so many submissions of a lane from a place on. The answer is whether that came about: memory can run out, and
 // the receiver be gone.
-fn send_ruled<W: Wait, V: Verifier, F: Deals>(
+fn send_some<W: Wait, V: Verifier, F: Deals>(
     rt: &W,
     alloc: Global,
     file: &FileOf<'_, V, F>,
-    sender: &Sender<RuledAt<F>>,
-    place: usize,
-) -> bool
-    requires { place < length F.file }
-{
-    match rule_at(alloc, file, place) {
+    sender: &Sender<Vec<RuledAt<F>>>,
+    from: usize,
+    many: usize,
+) -> bool {
+    match rule_some(alloc, file, from, many) {
         Ok(message) => sender.send(rt, message).is_ok(),
         Err(_) => false,
     }
 }
 
-/// Checks the submissions of a lane, one after another, and sends what a sentinel makes of each, with its place. Behind each message it
-/// passes the gate. It ends where nobody receives any more, or memory runs out.
+/// Checks the submissions of a lane, one after another, and sends what a sentinel makes of each, with its place: where they are few, each in a
+/// message of its own, the first one last. Behind each message it passes the gate. It ends where nobody receives any more, or memory runs out.
 pub fn feed<W: Wait, V: Verifier, F: Deals, G: Gate>(
     rt: &W,
     alloc: Global,
@@ -76,12 +85,14 @@ pub fn feed<W: Wait, V: Verifier, F: Deals, G: Gate>(
     let point = point_of(shape, lane);
     let lanes = file.lanes();
     let count = file.txs().len();
+    let size = size_of(count / lanes);
+    let step = lanes.saturating_mul(size);
     let mut place = lane.0 as usize;
-    'submissions: while place < count {
-        if !send_ruled(rt, alloc, file, &sender, place) {
+    'messages: for _ in 0..count {
+        if place >= count || !send_some(rt, alloc, file, &sender, place, size) {
             break;
         }
         gate.pass(rt, &point);
-        place += lanes;
+        place = place.saturating_add(step);
     }
 }

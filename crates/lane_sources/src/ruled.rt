@@ -86,7 +86,29 @@ pub(crate) fn found_or_now<'a, V: Verifier, F: Deals>(
     Ok(rule_at(alloc, file, place)?.take())
 }
 
-// The same, or nothing past the end.
+/// What a sentinel makes of so many submissions of a lane from a place on, as far as there are so many, the last one first; or memory ran out.
+pub(crate) fn rule_some<'a, V: Verifier, F: Deals>(
+    alloc: Global,
+    file: &FileOf<'a, V, F>,
+    from: usize,
+    many: usize,
+) -> Result<Vec<RuledAt<F>>, AllocError> {
+    let lanes = file.lanes();
+    let end = file.txs().len();
+    let mut rulings = Vec::with_capacity(alloc, many)?;
+    let mut place = from;
+    'submissions: for _ in 0..many {
+        if place >= end {
+            break;
+        }
+        rulings.push(rule_at(alloc, file, place)?)?;
+        place += lanes;
+    }
+    rulings.as_mut_slice().reverse();
+    Ok(rulings)
+}
+
+// What a sentinel makes of the submission at a place, or nothing past the end.
 fn rule_within<'a, V: Verifier, F: Deals>(
     alloc: Global,
     file: &FileOf<'a, V, F>,

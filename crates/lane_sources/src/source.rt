@@ -7,7 +7,7 @@ ghost use Rattle.lane_sources.specs.Sources.{count_of_lanes, all_for_lane, left_
 
 use crate::ahead::Ahead;
 use crate::file::{Deals, FileOf};
-use crate::ruled::found_or_now;
+use crate::ruled::{RuledAt, found_or_now};
 use cbdc_types::{CompactTx, Hash, Refusal};
 use lane_driver::Source;
 use sentinel::Verifier;
@@ -29,6 +29,7 @@ pub struct LaneSource<'a, W: Wait, V: Verifier, F: Deals> {
     checked: Vec<Checked>,
     piece: Vec<CompactTx>,
     ahead: Ahead<F>,
+    found: Vec<RuledAt<F>>,
 }
 
 impl<'a, W: Wait, V: Verifier, F: Deals> Model for LaneSource<'a, W, V, F> {
@@ -63,6 +64,7 @@ impl<'a, W: Wait, V: Verifier, F: Deals> LaneSource<'a, W, V, F> {
             checked: Vec::with_capacity(alloc, room)?,
             piece: Vec::new(alloc),
             ahead,
+            found: Vec::new(alloc),
         })
     }
 
@@ -102,6 +104,16 @@ impl<'a, W: Wait, V: Verifier, F: Deals> LaneSource<'a, W, V, F> {
         self.at += lanes;
     }
 
+    // The next ruling of those that are found ahead. It waits for one that is still to be sent.
+    fn next_found(&mut self) -> Option<RuledAt<F>>
+        ensures { self.new ≡ self.old }
+    {
+        if self.found.is_empty() {
+            self.found = self.ahead.next(self.rt)?;
+        }
+        self.found.pop()
+    }
+
     // What a sentinel makes of the next submission, found ahead or now.
     fn rule_next(&mut self, alloc: Global) -> Result<Ruled, AllocError>
         requires { self.old.at < length F.file }
@@ -112,7 +124,7 @@ impl<'a, W: Wait, V: Verifier, F: Deals> LaneSource<'a, W, V, F> {
         ensures some { IfErr result
             (λ _. 0 < length (left_at F.shape F.verdicts F.file self.old.lane self.old.at)) }
     {
-        let found = self.ahead.next(self.rt);
+        let found = self.next_found();
         let file = self.file;
         found_or_now(alloc, file, self.at, found)
     }

@@ -9,9 +9,8 @@ use crossbeam_channel::Receiver;
 use lane_driver::Source;
 use lane_sources::{Ahead, Deals, FileOf, LaneSource, RuledAt, feed, pipe};
 use outside::{OpenGate, Point, When};
-use sentinel::{AllGood, Verdict, Verifier};
+use sentinel::{AllGood, Verifier};
 use std::alloc::{AllocError, Global};
-use std::cell::Cell;
 use std::marker::Brand;
 use std::sync::Wait;
 use submissions::Ruling;
@@ -45,8 +44,8 @@ fn put_parts(alloc: Global, tx: &mut FullTx, number: Option<u8>) -> Result<(), A
     Ok(())
 }
 
-// A transaction that spends the output of this number, or nothing where there is none.
-fn payment(alloc: Global, number: Option<u8>) -> Result<FullTx, AllocError> {
+/// A transaction that spends the output of this number, or nothing where there is none.
+pub(crate) fn payment(alloc: Global, number: Option<u8>) -> Result<FullTx, AllocError> {
     let mut tx = FullTx {
         inputs: List::new(alloc),
         outputs: List::new(alloc),
@@ -73,7 +72,7 @@ fn sent<R: Wait, V: Verifier, F: Deals>(
     file: &FileOf<'_, V, F>,
     lane: LaneId,
     starts: bool,
-) -> Result<Receiver<RuledAt<F>>, AllocError> {
+) -> Result<Receiver<Vec<RuledAt<F>>>, AllocError> {
     let (feeder, messages) = pipe(alloc, lane)?;
     if starts {
         feed(rt, alloc, shape, file, feeder, &OpenGate);
@@ -91,22 +90,34 @@ fn is_due(ruling: &Ruling, place: usize) -> bool {
     }
 }
 
-// Whether a message is of this place, with a refusal because it has no inputs at the second one, and a compact form elsewhere.
-fn is_of<F: Deals>(message: RuledAt<F>, place: usize) -> bool {
-    let at = message.place();
-    let ruled = message.take();
+// Whether a ruling is of this place, with a refusal because it has no inputs at the second one, and a compact form elsewhere.
+fn is_of<F: Deals>(ruling: RuledAt<F>, place: usize) -> bool {
+    let at = ruling.place();
+    let ruled = ruling.take();
     let told = at == place && is_due(&ruled.ruling, place);
     drop(ruled);
     told
 }
 
-// Whether messages of these places come, in this order, and then no more.
-fn come<R: Wait, F: Deals>(rt: &R, messages: &Receiver<RuledAt<F>>, places: &[usize]) -> bool {
+// Whether a message has one ruling, of this place.
+fn is_one_of<F: Deals>(mut message: Vec<RuledAt<F>>, place: usize) -> bool {
+    match message.pop() {
+        Some(ruling) => message.is_empty() && is_of(ruling, place),
+        None => false,
+    }
+}
+
+// Whether messages of these places come, each of one of them and in this order, and then no more.
+fn come<R: Wait, F: Deals>(
+    rt: &R,
+    messages: &Receiver<Vec<RuledAt<F>>>,
+    places: &[usize],
+) -> bool {
     for place in places {
         let Ok(message) = messages.recv(rt) else {
             return false;
         };
-        if !is_of(message, *place) {
+        if !is_one_of(message, *place) {
             return false;
         }
     }
@@ -135,8 +146,8 @@ fn taken<S: Source>(alloc: Global, source: &mut S) -> Result<Vec<CompactTx>, All
     Ok(all)
 }
 
-// All that a lane gets that has this ahead of it.
-fn given<R: Wait, V: Verifier, F: Deals>(
+/// All that a lane gets that has this ahead of it.
+pub(crate) fn given<R: Wait, V: Verifier, F: Deals>(
     rt: &R,
     alloc: Global,
     file: &FileOf<'_, V, F>,
@@ -269,60 +280,6 @@ fn try_all<R: Wait, V: Verifier>(rt: &R, alloc: Global, lanes: u32, verifier: &V
     let shape = Shape::new(1, 1, lanes, 16).ok()?;
     let txs = three(alloc).ok()?;
     tried::<R, V, Brand>(rt, alloc, &shape, txs.as_slice(), verifier).ok()
-}
-
-// To it every witness is good, and it counts how often it is asked for a verdict.
-#[derive(Drop)]
-struct Counting {
-    asked: Cell<u64>,
-}
-
-impl Verifier for Counting {
-    ghost use Rattle.sentinel.specs.declared.verifier.Verdict.TheVariants.{Good};
-
-    ghost verdict_of = { λ _ _ _. Good };
-
-    fn verdict(&self, _tx: &Hash, _index: u64) -> Verdict {
-        self.asked.set(self.asked.get().saturating_add(1));
-        Verdict::Good
-    }
-}
-
-// How many verdicts are asked for ahead of a lane, and how many once it has all that it gets.
-fn asked<R: Wait, F: Deals>(
-    rt: &R,
-    alloc: Global,
-    shape: &Shape,
-    txs: &[FullTx],
-    verifier: &Counting,
-    starts: bool,
-) -> Result<(u64, u64), AllocError>
-    requires file { F.file ≡ txs.now }
-    requires verdicts { F.verdicts ≡ ⟦<Counting as Verifier>⟧.verdict_of verifier.now }
-    requires shape { F.shape ≡ shape.now }
-{
-    let file: FileOf<'_, Counting, F> = FileOf::new(txs, verifier, shape.lane_count());
-    let messages = sent(rt, alloc, shape, &file, LaneId(0), starts)?;
-    let ahead = verifier.asked.get();
-    given(rt, alloc, &file, Ahead::Sent(messages))?;
-    Ok((ahead, verifier.asked.get()))
-}
-
-// The same of three submissions, of which two have an input.
-fn asked_of_three<R: Wait>(rt: &R, alloc: Global, starts: bool) -> Option<(u64, u64)> {
-    let shape = Shape::new(1, 1, 1, 16).ok()?;
-    let verifier = Counting {
-        asked: Cell::new(0),
-    };
-    let txs = three(alloc).ok()?;
-    asked::<R, Brand>(rt, alloc, &shape, txs.as_slice(), &verifier, starts).ok()
-}
-
-/// A lane asks for no verdict anew on what its sentinel sent, and for each where that was dropped.
-pub fn asks_once<R: Wait>(rt: &R, alloc: Global) -> Option<bool> {
-    let sent = asked_of_three(rt, alloc, true)?;
-    let dropped = asked_of_three(rt, alloc, false)?;
-    Some(sent.0 > 0 && sent.1 == sent.0 && dropped == (0, sent.1))
 }
 
 /// Three submissions, the second refused, come in three messages.

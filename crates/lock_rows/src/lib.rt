@@ -11,6 +11,7 @@ mod lanes;
 mod opening;
 mod phases;
 mod rows;
+mod sending;
 mod shards;
 
 use std::alloc::Global;
@@ -112,8 +113,13 @@ fn tell_sentinels<R: Print + Threads + Wait + Sync>(rt: &R, alloc: Global, tally
     );
     tally.tell(
         rt,
-        "row a lane asks for no verdict anew on what its sentinel sent, and for each where that was dropped before its first message",
-        feeding::asks_once(rt, alloc),
+        "row sixty-four submissions of a lane come from its sentinel in sixteen messages of four, in their order, and then no more",
+        sending::come_in_messages(rt, alloc),
+    );
+    tally.tell(
+        rt,
+        "row of sixty-four submissions each verdict is asked for once: by the sentinel that sends them to their lane, or by the lane where that was dropped",
+        sending::ask_once(rt, alloc),
     );
     tally.tell(
         rt,
