@@ -22,6 +22,9 @@ use std::{mem, thread};
 // From how many submissions of a lane on no feeder checks them.
 const SHARE: usize = 2048;
 
+// So many lanes have feeders on any machine.
+const FEW: usize = 2;
+
 /// Who checks the submissions of a file.
 #[derive(Clone, Copy)]
 pub(crate) enum Checkers {
@@ -41,15 +44,21 @@ fn are_few<W: Threads>(rt: &W, lanes: usize) -> bool {
     }
 }
 
-/// Who checks the submissions of a file: where a lane has many, all processors, or the lanes, if there are enough of them.
+/// Who checks the submissions of a file. A lane with no more than a batch has to wait for all of them, and many lanes keep all processors at work:
+/// such lanes check their own. Else feeders do, or all processors, where a lane has many.
 pub(crate) fn checkers_of<W: Threads, V: Verifier, F: Deals>(
     rt: &W,
+    shape: &Shape,
     file: &FileOf<'_, V, F>,
 ) -> Checkers {
     let lanes = file.lanes();
-    if file.txs().len() / lanes < SHARE {
+    let share = file.txs().len().div_ceil(lanes);
+    let are_few = are_few(rt, lanes);
+    if share <= shape.batch() as usize {
+        Checkers::Lanes
+    } else if share < SHARE && (are_few || lanes <= FEW) {
         Checkers::Feeders
-    } else if are_few(rt, lanes) {
+    } else if share >= SHARE && are_few {
         Checkers::Processors
     } else {
         Checkers::Lanes
@@ -94,8 +103,8 @@ pub(crate) fn ahead_of<W: Threads + Sync, V: Verifier + Sync, F: Deals + Send + 
 {
     match checkers {
         Checkers::Processors => found(rt, alloc, file, lane),
-        Checkers::Feeders if lane < file.txs().len() => fed(alloc, LaneId(lane as u32), feeders),
-        _ => Ahead::Nothing,
+        Checkers::Feeders => fed(alloc, LaneId(lane as u32), feeders),
+        Checkers::Lanes => Ahead::Nothing,
     }
 }
 

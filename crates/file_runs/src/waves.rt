@@ -11,7 +11,7 @@ ghost use Rattle.lane_sources.specs.Sources.{count_of_lanes};
 ghost use Rattle.file_runs.specs.Runs.{AreLanesOf};
 
 use crate::Ledger;
-use crate::fed::{Waved, ahead_of, checkers_of, run_fed};
+use crate::fed::{Checkers, Waved, ahead_of, checkers_of, run_fed};
 use cbdc_types::FullTx;
 use lane_driver::{LaneFault, no_memory};
 use lane_sources::{Deals, Feeder, FileOf, LaneSource, checks_of};
@@ -70,12 +70,12 @@ fn works_of<'a, W: Wait + Threads + Sync, V: Verifier + Sync, F: Deals + Send + 
     alloc: Global,
     file: &'a FileOf<'a, V, F>,
     repeats: u32,
+    checkers: Checkers,
     feeders: &mut Vec<Feeder<F>>,
 ) -> Result<Vec<Work<LaneSource<'a, W, V, F>>>, AllocError>
     ensures { IfOk result (λ v. AreLanesOf F.shape F.verdicts F.file v.items) }
 {
     let count = file.lanes();
-    let checkers = checkers_of(rt, file);
     let mut works = Vec::with_capacity(alloc, count)?;
     'lanes: for lane in 0..count {
         let ahead = ahead_of(rt, alloc, file, lane, checkers, feeders);
@@ -138,8 +138,9 @@ fn run_dealt<
     requires checked { IsChecked ledger }
     ensures { RanFile D.Disk F.verdicts F.file ledger result.ledger result.came }
 {
+    let checkers = checkers_of(rt, ledger.shape(), file);
     let mut feeders = Vec::new(alloc);
-    let Ok(works) = works_of(rt, alloc, file, repeats, &mut feeders) else {
+    let Ok(works) = works_of(rt, alloc, file, repeats, checkers, &mut feeders) else {
         return FileRun {
             ledger,
             came: Err(no_memory()),

@@ -108,11 +108,7 @@ fn is_one_of<F: Deals>(mut message: Vec<RuledAt<F>>, place: usize) -> bool {
 }
 
 // Whether messages of these places come, each of one of them and in this order, and then no more.
-fn come<R: Wait, F: Deals>(
-    rt: &R,
-    messages: &Receiver<Vec<RuledAt<F>>>,
-    places: &[usize],
-) -> bool {
+fn come<R: Wait, F: Deals>(rt: &R, messages: &Receiver<Vec<RuledAt<F>>>, places: &[usize]) -> bool {
     for place in places {
         let Ok(message) = messages.recv(rt) else {
             return false;
