@@ -1,5 +1,5 @@
 // Sixty-four submissions, which a sentinel on a thread of its own checks ahead of a lane.
-ghost use Rattle.std.specs.Prelude.{◌≡◌};
+ghost use Rattle.std.specs.Prelude.{◌≡◌, ◌<◌};
 
 use crate::feeding::{given, payment};
 use cbdc_types::{FullTx, Hash, LaneId, Shape};
@@ -58,9 +58,9 @@ fn are_four_from<F: Deals>(message: &[RuledAt<F>], from: usize) -> bool {
         return false;
     };
     first.place() == from
-        && second.place() == from + 1
-        && third.place() == from + 2
-        && fourth.place() == from + 3
+        && second.place() == from.saturating_add(1)
+        && third.place() == from.saturating_add(2)
+        && fourth.place() == from.saturating_add(3)
 }
 
 // Whether sixteen messages of four rulings come, in the order of their places, and then no more.
