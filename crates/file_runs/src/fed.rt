@@ -44,6 +44,11 @@ fn are_few<W: Threads>(rt: &W, lanes: usize) -> bool {
     }
 }
 
+// Whether a run over this ledger has one thread, if its lane checks its own submissions: to wake another processor takes as long as that saves.
+fn has_one_thread(shape: &Shape, lanes: usize) -> bool {
+    lanes == 1 && shape.shards() == 1
+}
+
 /// Who checks the submissions of a file. A lane with no more than a batch has to wait for all of them, and many lanes keep all processors at work:
 /// such lanes check their own. Else feeders do, or all processors, where a lane has many.
 pub(crate) fn checkers_of<W: Threads, V: Verifier, F: Deals>(
@@ -54,12 +59,18 @@ pub(crate) fn checkers_of<W: Threads, V: Verifier, F: Deals>(
     let lanes = file.lanes();
     let share = file.txs().len().div_ceil(lanes);
     let are_few = are_few(rt, lanes);
-    if share <= shape.batch() as usize {
-        Checkers::Lanes
-    } else if share < SHARE && (are_few || lanes <= FEW) {
+    if share >= SHARE {
+        return if are_few {
+            Checkers::Processors
+        } else {
+            Checkers::Lanes
+        };
+    }
+    if share > shape.batch() as usize
+        && (are_few || lanes <= FEW)
+        && !has_one_thread(shape, lanes)
+    {
         Checkers::Feeders
-    } else if share >= SHARE && are_few {
-        Checkers::Processors
     } else {
         Checkers::Lanes
     }
