@@ -118,8 +118,8 @@ fn tell_sentinels<R: Print + Threads + Wait + Sync>(rt: &R, alloc: Global, tally
     );
     tally.tell(
         rt,
-        "row of sixty-four submissions each verdict is asked for once: by the sentinel that sends them to their lane, or by the lane where that was dropped",
-        sending::ask_once(rt, alloc),
+        "row a lane asks for no verdict anew on sixty-four submissions that its sentinel sent: as many are asked for where that was dropped",
+        sending::asks_none_anew(rt, alloc),
     );
     tally.tell(
         rt,

@@ -165,20 +165,15 @@ fn tried<R: Threads + Wait + Sync>(rt: &R, alloc: Global, trial: Trial) -> Optio
     Some((holds, verifier.asked.load(Ordering::SeqCst)))
 }
 
-// Whether it holds, with each verdict asked for once.
-fn is_asked_once<R: Threads + Wait + Sync>(rt: &R, alloc: Global, trial: Trial) -> Option<bool> {
-    let (holds, asked) = tried(rt, alloc, trial)?;
-    Some(holds && asked == COUNT as u64)
-}
-
 /// Sixty-four submissions come in sixteen messages of four, in order.
 pub fn come_in_messages<R: Threads + Wait + Sync>(rt: &R, alloc: Global) -> Option<bool> {
-    is_asked_once(rt, alloc, Trial::Messages)
+    Some(tried(rt, alloc, Trial::Messages)?.0)
 }
 
-/// Each verdict on sixty-four submissions is asked for once, by a lane's sentinel or, where that was dropped, by the lane.
-pub fn ask_once<R: Threads + Wait + Sync>(rt: &R, alloc: Global) -> Option<bool> {
-    let fed = is_asked_once(rt, alloc, Trial::Fed)?;
-    let unfed = is_asked_once(rt, alloc, Trial::Unfed)?;
-    Some(fed && unfed)
+/// As many verdicts on sixty-four submissions are asked for where a sentinel sends them to their lane as where it was dropped and the lane asks: none
+/// anew.
+pub fn asks_none_anew<R: Threads + Wait + Sync>(rt: &R, alloc: Global) -> Option<bool> {
+    let fed = tried(rt, alloc, Trial::Fed)?;
+    let unfed = tried(rt, alloc, Trial::Unfed)?;
+    Some(fed.0 && unfed.0 && fed.1 > 0 && fed.1 == unfed.1)
 }
