@@ -22,7 +22,7 @@ use std::{mem, thread};
 // From how many submissions of a lane on no feeder checks them.
 const SHARE: usize = 2048;
 
-// So many lanes have feeders on any machine.
+// So many lanes may have feeders on any machine.
 const FEW: usize = 2;
 
 /// Who checks the submissions of a file.
@@ -44,13 +44,14 @@ fn are_few<W: Threads>(rt: &W, lanes: usize) -> bool {
     }
 }
 
-// Whether a run over this ledger has one thread, if its lane checks its own submissions: to wake another processor takes as long as that saves.
-fn has_one_thread(shape: &Shape, lanes: usize) -> bool {
-    lanes == 1 && shape.shards() == 1
+// Whether lanes with fewer submissions have feeders: few lanes do, since many keep all processors at work. One lane over one shard has none: all that it
+// does, but for the last of its run, is done on one thread then, and to wake another processor takes as long as that saves.
+fn are_fed<W: Threads>(rt: &W, shape: &Shape, lanes: usize) -> bool {
+    let is_alone = lanes == 1 && shape.shards() == 1;
+    !is_alone && (lanes <= FEW || are_few(rt, lanes))
 }
 
-/// Who checks the submissions of a file. A lane with no more than a batch has to wait for all of them, and many lanes keep all processors at work:
-/// such lanes check their own. Else feeders do, or all processors, where a lane has many.
+/// Who checks the submissions of a file, by the largest share of a lane. A lane with no more than a batch would have to wait for all of them.
 pub(crate) fn checkers_of<W: Threads, V: Verifier, F: Deals>(
     rt: &W,
     shape: &Shape,
@@ -58,19 +59,12 @@ pub(crate) fn checkers_of<W: Threads, V: Verifier, F: Deals>(
 ) -> Checkers {
     let lanes = file.lanes();
     let share = file.txs().len().div_ceil(lanes);
-    let are_few = are_few(rt, lanes);
-    if share >= SHARE {
-        return if are_few {
-            Checkers::Processors
-        } else {
-            Checkers::Lanes
-        };
-    }
-    if share > shape.batch() as usize
-        && (are_few || lanes <= FEW)
-        && !has_one_thread(shape, lanes)
-    {
+    if share <= shape.batch() as usize {
+        Checkers::Lanes
+    } else if share < SHARE && are_fed(rt, shape, lanes) {
         Checkers::Feeders
+    } else if share >= SHARE && are_few(rt, lanes) {
+        Checkers::Processors
     } else {
         Checkers::Lanes
     }

@@ -11,10 +11,10 @@ use sentinel::Verifier;
 use std::alloc::{AllocError, Global};
 use std::sync::Wait;
 
-/// How many messages a feeder is ahead of its lane at most.
-pub const MESSAGES: usize = 8;
+// How many messages a lane's channel holds.
+const MESSAGES: usize = 8;
 
-// In about how many messages a lane's submissions are sent, where they are as many.
+// From how many submissions of a lane on a message is of several: of one part in so many.
 const PARTS: usize = 16;
 
 /// A feeder that has not begun: the lane that it feeds, and the sending end of its channel. Where it is dropped the lane computes everything
@@ -49,10 +49,10 @@ fn point_of(shape: &Shape, lane: LaneId) -> Point
     }
 }
 
-// How many submissions a message is of, for a lane that has so many. A thread that waits for a message is woken by it, which takes longer than a
-// check does.
-fn size_of(share: usize) -> usize {
-    (share / PARTS).max(1)
+// How many submissions a message is of, for a lane that has so many: no more than a batch. A lane that waits for a message is woken by it, which
+// takes longer than a check does.
+fn size_of(shape: &Shape, share: usize) -> usize {
+    (share / PARTS).min(shape.batch() as usize).max(1)
 }
 
 // Sends what a sentinel makes of so many submissions of a lane from a place on. The answer is whether that came about: memory can run out, and
@@ -72,7 +72,8 @@ fn send_some<W: Wait, V: Verifier, F: Deals>(
 }
 
 /// Checks the submissions of a lane, one after another, and sends what a sentinel makes of each, with its place: where they are few, each in a
-/// message of its own, the first one last. Behind each message it passes the gate. It ends where nobody receives any more, or memory runs out.
+/// message of its own, else several in a message, the first of which is its last one. Behind each message it passes the gate. It ends where nobody
+/// receives any more, or memory runs out.
 pub fn feed<W: Wait, V: Verifier, F: Deals, G: Gate>(
     rt: &W,
     alloc: Global,
@@ -85,7 +86,7 @@ pub fn feed<W: Wait, V: Verifier, F: Deals, G: Gate>(
     let point = point_of(shape, lane);
     let lanes = file.lanes();
     let count = file.txs().len();
-    let size = size_of(count / lanes);
+    let size = size_of(shape, count / lanes);
     let step = lanes.saturating_mul(size);
     let mut place = lane.0 as usize;
     'messages: for _ in 0..count {

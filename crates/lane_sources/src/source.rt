@@ -245,8 +245,9 @@ impl<'a, W: Wait, V: Verifier, F: Deals> Source for LaneSource<'a, W, V, F> {
         self.piece.as_slice()
     }
 
-    // It drops the receiving end of what a feeder sends, which then ends.
+    // It drops the receiving end of what a feeder sends, which then ends, and what was found.
     fn end_ahead(&mut self) {
         self.ahead = Ahead::Nothing;
+        self.found.clear();
     }
 }

@@ -113,12 +113,12 @@ fn tell_sentinels<R: Print + Threads + Wait + Sync>(rt: &R, alloc: Global, tally
     );
     tally.tell(
         rt,
-        "row sixty-four submissions of a lane come from its sentinel in sixteen messages of four, in their order, and then no more",
+        "row sixty-seven submissions of the second of two lanes come from its sentinel in sixteen messages of four and one of three, in their order, and then no more",
         sending::come_in_messages(rt, alloc),
     );
     tally.tell(
         rt,
-        "row a lane asks for no verdict anew on sixty-four submissions that its sentinel sent: as many are asked for where that was dropped",
+        "row a lane asks for no verdict anew on sixty-seven submissions that its sentinel sent, or that were checked before by all processors",
         sending::asks_none_anew(rt, alloc),
     );
     tally.tell(

@@ -1,10 +1,10 @@
-// Sixty-four submissions, which a sentinel on a thread of its own checks ahead of a lane.
+// Sixty-seven submissions of each of two lanes, which are checked ahead of a lane: by a sentinel on a thread of its own, or by all processors.
 ghost use Rattle.std.specs.Prelude.{◌≡◌, ◌<◌};
 
 use crate::feeding::{given, payment};
 use cbdc_types::{FullTx, Hash, LaneId, Shape};
 use crossbeam_channel::Receiver;
-use lane_sources::{Ahead, Deals, Feeder, FileOf, RuledAt, feed, pipe};
+use lane_sources::{Ahead, Deals, Feeder, FileOf, RuledAt, feed, pipe, rule_ahead};
 use outside::OpenGate;
 use sentinel::{Verdict, Verifier};
 use std::alloc::{AllocError, Global};
@@ -13,11 +13,10 @@ use std::sync::Wait;
 use std::sync::atomic::{AtomicU64, Ordering};
 use std::thread::{Threads, join};
 
-// How many submissions there are, each with one input.
-const COUNT: u8 = 64;
+// How many submissions there are, each with one input, and how many of them each lane has.
+const COUNT: u8 = 134;
 
-// How many messages they come in.
-const MESSAGES: usize = 16;
+const SHARE: usize = 67;
 
 // To it every witness is good, and it counts how often it is asked for a verdict.
 #[derive(Drop)]
@@ -52,26 +51,30 @@ fn submissions(alloc: Global) -> Result<Vec<FullTx>, AllocError> {
     Ok(txs)
 }
 
-// Whether a message has four rulings, of the places from this one on, the first one last.
-fn are_four_from<F: Deals>(message: &[RuledAt<F>], from: usize) -> bool {
-    let [fourth, third, second, first] = message else {
-        return false;
-    };
-    first.place() == from
-        && second.place() == from.saturating_add(1)
-        && third.place() == from.saturating_add(2)
-        && fourth.place() == from.saturating_add(3)
+// Whether a message has so many rulings, of every second place from this one on, the first one last.
+fn are_from<F: Deals>(message: &[RuledAt<F>], many: usize, from: usize) -> bool {
+    let mut place = from;
+    for ruling in message.iter().rev() {
+        if ruling.place() != place {
+            return false;
+        }
+        place = place.saturating_add(2);
+    }
+    message.len() == many
 }
 
-// Whether sixteen messages of four rulings come, in the order of their places, and then no more.
-fn come_by_four<R: Wait, F: Deals>(rt: &R, messages: Receiver<Vec<RuledAt<F>>>) -> bool {
-    for number in 0..MESSAGES {
+// Whether sixteen messages of four rulings come and one of three, in the order of the second lane's places, and then no more.
+fn come_in_order<R: Wait, F: Deals>(rt: &R, messages: Receiver<Vec<RuledAt<F>>>) -> bool {
+    let mut from = 1usize;
+    for number in 0..17usize {
         let Ok(message) = messages.recv(rt) else {
             return false;
         };
-        if !are_four_from(message.as_slice(), 4 * number) {
+        let many = if number < 16 { 4 } else { 3 };
+        if !are_from(message.as_slice(), many, from) {
             return false;
         }
+        from = from.saturating_add(8);
     }
     messages.recv(rt).is_err()
 }
@@ -92,23 +95,23 @@ fn feed_or_drop<R: Wait, V: Verifier, F: Deals>(
     }
 }
 
-// Whether the messages come as they should, from a sentinel on a thread of its own.
+// Whether the messages of the second lane come as they should, from a sentinel on a thread of its own.
 fn are_sent<R: Threads + Wait + Sync, F: Deals + Send + Sync>(
     rt: &R,
     alloc: Global,
     shape: &Shape,
     file: &FileOf<'_, Counting, F>,
 ) -> Result<bool, AllocError> {
-    let (feeder, messages) = pipe(alloc, LaneId(0))?;
+    let (feeder, messages) = pipe(alloc, LaneId(1))?;
     let (_, come) = join(
         rt,
         || feed_or_drop(rt, alloc, shape, file, feeder, true),
-        || come_by_four(rt, messages),
+        || come_in_order(rt, messages),
     );
     Ok(come)
 }
 
-// Whether a lane gets all, while its sentinel checks them on a thread of its own or is dropped.
+// Whether the first lane gets all, while its sentinel checks them on a thread of its own or is dropped.
 fn has_all<R: Threads + Wait + Sync, F: Deals + Send + Sync>(
     rt: &R,
     alloc: Global,
@@ -124,15 +127,29 @@ fn has_all<R: Threads + Wait + Sync, F: Deals + Send + Sync>(
         || feed_or_drop(rt, alloc, shape, file, feeder, starts),
         || given(rt, alloc, file, Ahead::Sent(messages)),
     );
-    Ok(given?.len() == COUNT as usize)
+    Ok(given?.len() == SHARE)
 }
 
-// What is tried: the messages of a sentinel, and what a lane gets that has one, or from which it was dropped.
+// Whether the first lane gets all, which all processors have checked before.
+fn has_found<R: Threads + Wait + Sync, F: Deals + Send + Sync>(
+    rt: &R,
+    alloc: Global,
+    file: &FileOf<'_, Counting, F>,
+) -> Result<bool, AllocError>
+    requires { 0 < file.now }
+{
+    let found = rule_ahead(rt, alloc, file, 0, SHARE)?;
+    let all = given(rt, alloc, file, Ahead::Found(found))?;
+    Ok(all.len() == SHARE)
+}
+
+// What is tried: the messages of a sentinel, and what a lane gets that has one, from which it was dropped, or ahead of which all is found.
 #[derive(Clone, Copy)]
 enum Trial {
     Messages,
     Fed,
     Unfed,
+    Found,
 }
 
 // Whether it holds.
@@ -153,27 +170,29 @@ fn holds<R: Threads + Wait + Sync, F: Deals + Send + Sync>(
         Trial::Messages => are_sent(rt, alloc, shape, &file),
         Trial::Fed => has_all(rt, alloc, shape, &file, true),
         Trial::Unfed => has_all(rt, alloc, shape, &file, false),
+        Trial::Found => has_found(rt, alloc, &file),
     }
 }
 
-// Whether it holds of one lane, and how often a verdict was asked for.
+// Whether it holds of two lanes, and how often a verdict was asked for.
 fn tried<R: Threads + Wait + Sync>(rt: &R, alloc: Global, trial: Trial) -> Option<(bool, u64)> {
-    let shape = Shape::new(1, 1, 1, 16).ok()?;
+    let shape = Shape::new(1, 1, 2, 16).ok()?;
     let verifier = Counting::new();
     let txs = submissions(alloc).ok()?;
     let holds = holds::<R, Brand>(rt, alloc, &shape, txs.as_slice(), &verifier, trial).ok()?;
     Some((holds, verifier.asked.load(Ordering::SeqCst)))
 }
 
-/// Sixty-four submissions come in sixteen messages of four, in order.
+/// Sixty-seven submissions of the second of two lanes come in seventeen messages, in order.
 pub fn come_in_messages<R: Threads + Wait + Sync>(rt: &R, alloc: Global) -> Option<bool> {
     Some(tried(rt, alloc, Trial::Messages)?.0)
 }
 
-/// As many verdicts on sixty-four submissions are asked for where a sentinel sends them to their lane as where it was dropped and the lane asks: none
-/// anew.
+/// As many verdicts on the submissions of a lane are asked for where a sentinel sends them or all processors check them before as where the lane asks:
+/// none anew.
 pub fn asks_none_anew<R: Threads + Wait + Sync>(rt: &R, alloc: Global) -> Option<bool> {
+    let (unfed, asked) = tried(rt, alloc, Trial::Unfed)?;
     let fed = tried(rt, alloc, Trial::Fed)?;
-    let unfed = tried(rt, alloc, Trial::Unfed)?;
-    Some(fed.0 && unfed.0 && fed.1 > 0 && fed.1 == unfed.1)
+    let found = tried(rt, alloc, Trial::Found)?;
+    Some(unfed && asked > 0 && fed == (true, asked) && found == (true, asked))
 }
