@@ -9,9 +9,16 @@ import itertools
 import os
 import subprocess
 
-# The words of a command in a folder beside the files. Ledgers are made in two shapes, in turn: many lanes, each of which makes one call after
-# another, and one lane, which makes the calls of a phase at all shards at once, as it does with the largest batches and fewer lanes than shards.
-SHAPES = {"8 lanes": "--shards 8 --coordinators 4 --lanes 2 --batch 16", "1 lane": "--shards 8 --coordinators 1 --lanes 1 --batch 1024"}
+# The words of a command in a folder beside the files. Ledgers are made in three shapes, in turn: many lanes, each of which makes one call after
+# another; one lane, which makes the calls of a phase at all shards at once, as it does with the largest batches and fewer lanes than shards, and whose
+# submissions all processors check before; and two lanes with sentinels ahead of them.
+SHAPES = {
+    "8 lanes": "--shards 8 --coordinators 4 --lanes 2 --batch 16",
+    "1 lane": "--shards 8 --coordinators 1 --lanes 1 --batch 1024",
+    "2 lanes": "--shards 8 --coordinators 2 --lanes 1 --batch 16",
+}
+# A file has half of so many transactions: fewer than 2,048 for each of two lanes, and more for one.
+COUNT = 8_000
 INIT = {name: f"init {shape} ../mint".split() for name, shape in SHAPES.items()}
 RUN = "run --verdicts ../verdicts ../client-1 ../client-2".split()
 AUDIT = "audit ../mint ../client-1 ../client-2".split()
