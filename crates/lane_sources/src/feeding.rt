@@ -14,7 +14,7 @@ use std::sync::Wait;
 // How many messages a lane's channel holds.
 const MESSAGES: usize = 8;
 
-// From how many submissions of a lane on a message is of several: of one part in so many.
+// A message is of one part in so many of a lane's submissions, where they are as many.
 const PARTS: usize = 16;
 
 /// A feeder that has not begun: the lane that it feeds, and the sending end of its channel. Where it is dropped the lane computes everything

@@ -7,7 +7,7 @@ use cbdc_types::{
 };
 use crossbeam_channel::Receiver;
 use lane_driver::Source;
-use lane_sources::{Ahead, Deals, FileOf, LaneSource, RuledAt, feed, pipe};
+use lane_sources::{Ahead, Deals, Feeder, FileOf, LaneSource, RuledAt, feed, pipe};
 use outside::{OpenGate, Point, When};
 use sentinel::{AllGood, Verifier};
 use std::alloc::{AllocError, Global};
@@ -64,6 +64,22 @@ fn three(alloc: Global) -> Result<Vec<FullTx>, AllocError> {
     Ok(txs)
 }
 
+/// Lets a feeder do its work, or drops it.
+pub(crate) fn feed_or_drop<R: Wait, V: Verifier, F: Deals>(
+    rt: &R,
+    alloc: Global,
+    shape: &Shape,
+    file: &FileOf<'_, V, F>,
+    feeder: Feeder<F>,
+    starts: bool,
+) {
+    if starts {
+        feed(rt, alloc, shape, file, feeder, &OpenGate);
+    } else {
+        drop(feeder);
+    }
+}
+
 // What the sentinel ahead of a lane sends, for which its channel has room; nothing where it is dropped before its first message.
 fn sent<R: Wait, V: Verifier, F: Deals>(
     rt: &R,
@@ -74,11 +90,7 @@ fn sent<R: Wait, V: Verifier, F: Deals>(
     starts: bool,
 ) -> Result<Receiver<Vec<RuledAt<F>>>, AllocError> {
     let (feeder, messages) = pipe(alloc, lane)?;
-    if starts {
-        feed(rt, alloc, shape, file, feeder, &OpenGate);
-    } else {
-        drop(feeder);
-    }
+    feed_or_drop(rt, alloc, shape, file, feeder, starts);
     Ok(messages)
 }
 

@@ -1,11 +1,10 @@
 // Sixty-seven submissions of each of two lanes, which are checked ahead of a lane: by a sentinel on a thread of its own, or by all processors.
 ghost use Rattle.std.specs.Prelude.{◌≡◌, ◌<◌};
 
-use crate::feeding::{given, payment};
+use crate::feeding::{feed_or_drop, given, payment};
 use cbdc_types::{FullTx, Hash, LaneId, Shape};
 use crossbeam_channel::Receiver;
-use lane_sources::{Ahead, Deals, Feeder, FileOf, RuledAt, feed, pipe, rule_ahead};
-use outside::OpenGate;
+use lane_sources::{Ahead, Deals, FileOf, RuledAt, pipe, rule_ahead};
 use sentinel::{Verdict, Verifier};
 use std::alloc::{AllocError, Global};
 use std::marker::Brand;
@@ -77,22 +76,6 @@ fn come_in_order<R: Wait, F: Deals>(rt: &R, messages: Receiver<Vec<RuledAt<F>>>)
         from = from.saturating_add(8);
     }
     messages.recv(rt).is_err()
-}
-
-// Lets a feeder do its work, or drops it.
-fn feed_or_drop<R: Wait, V: Verifier, F: Deals>(
-    rt: &R,
-    alloc: Global,
-    shape: &Shape,
-    file: &FileOf<'_, V, F>,
-    feeder: Feeder<F>,
-    starts: bool,
-) {
-    if starts {
-        feed(rt, alloc, shape, file, feeder, &OpenGate);
-    } else {
-        drop(feeder);
-    }
 }
 
 // Whether the messages of the second lane come as they should, from a sentinel on a thread of its own.
