@@ -86,34 +86,27 @@ pub(crate) fn found_or_now<'a, V: Verifier, F: Deals>(
     Ok(rule_at(alloc, file, place)?.take())
 }
 
-/// What a sentinel makes of so many submissions of a lane from a place on, as far as there are so many, the last one first; or memory ran out.
-pub(crate) fn rule_some<'a, V: Verifier, F: Deals>(
-    alloc: Global,
+// How many submissions of a lane there are from a place on, up to so many.
+fn count_from<'a, V: Verifier, F: Deals>(
     file: &FileOf<'a, V, F>,
     from: usize,
     many: usize,
-) -> Result<Vec<RuledAt<F>>, AllocError> {
-    let lanes = file.lanes();
-    let end = file.txs().len();
-    let mut rulings = Vec::with_capacity(alloc, many)?;
-    let mut place = from;
-    'submissions: for _ in 0..many {
-        if place >= end {
-            break;
-        }
-        rulings.push(rule_at(alloc, file, place)?)?;
-        place += lanes;
-    }
-    rulings.as_mut_slice().reverse();
-    Ok(rulings)
+) -> usize {
+    file.txs()
+        .len()
+        .saturating_sub(from)
+        .div_ceil(file.lanes())
+        .min(many)
 }
 
-// What a sentinel makes of the submission at a place, or nothing past the end.
-fn rule_within<'a, V: Verifier, F: Deals>(
+// What a sentinel makes of a lane's submission number `n` from a place on, from 0. Nobody asks for one past the end: it says there that memory ran out.
+fn rule_nth<'a, V: Verifier, F: Deals>(
     alloc: Global,
     file: &FileOf<'a, V, F>,
-    place: usize,
+    from: usize,
+    n: usize,
 ) -> Result<RuledAt<F>, AllocError> {
+    let place = from.saturating_add(file.lanes().saturating_mul(n));
     if place < file.txs().len() {
         rule_at(alloc, file, place)
     } else {
@@ -121,29 +114,23 @@ fn rule_within<'a, V: Verifier, F: Deals>(
     }
 }
 
-// So many places of a lane from one on, the last one first.
-fn places_from(
+/// What a sentinel makes of so many submissions of a lane from a place on, as far as there are so many, the last one first; or memory ran out.
+pub(crate) fn rule_some<'a, V: Verifier, F: Deals>(
     alloc: Global,
+    file: &FileOf<'a, V, F>,
     from: usize,
-    step: usize,
-    end: usize,
     many: usize,
-) -> Result<Vec<usize>, AllocError> {
-    let mut places = Vec::new(alloc);
-    let mut place = from;
-    'places: for _ in 0..many {
-        if place >= end {
-            break;
-        }
-        places.push(place)?;
-        place = place.saturating_add(step);
+) -> Result<Vec<RuledAt<F>>, AllocError> {
+    let count = count_from(file, from, many);
+    let mut rulings = Vec::with_capacity(alloc, count)?;
+    'submissions: for n in (0..count).rev() {
+        rulings.push(rule_nth(alloc, file, from, n)?)?;
     }
-    places.as_mut_slice().reverse();
-    Ok(places)
+    Ok(rulings)
 }
 
-/// What sentinels make of so many submissions of a lane from a place on, the last one first, in as many threads as there are processors;
-/// or memory ran out.
+/// What sentinels make of so many submissions of a lane from a place on, as far as there are so many, the last one first, in as many threads as
+/// there are processors; or memory ran out.
 pub fn rule_ahead<'a, W: Threads + Sync, V: Verifier + Sync, F: Deals + Send + Sync>(
     rt: &W,
     alloc: Global,
@@ -151,9 +138,9 @@ pub fn rule_ahead<'a, W: Threads + Sync, V: Verifier + Sync, F: Deals + Send + S
     from: usize,
     many: usize,
 ) -> Result<Vec<RuledAt<F>>, AllocError> {
-    let places = places_from(alloc, from, file.lanes(), file.txs().len(), many)?;
-    places
-        .par_iter()
-        .map(|place: &usize| -> Result<RuledAt<F>, AllocError> { rule_within(alloc, file, *place) })
+    (0..count_from(file, from, many))
+        .into_par_iter()
+        .rev()
+        .map(|n: usize| -> Result<RuledAt<F>, AllocError> { rule_nth(alloc, file, from, n) })
         .collect::<Result<Vec<RuledAt<F>>, AllocError>>(rt, alloc)?
 }
