@@ -1,5 +1,5 @@
 -- What is owed to a call, and that its record has its place.
-use Rattle.std.proofs.Common.{◌≡◌, ℕ, suc, ◌+◌, ◌<◌, ◌≤◌, max, Bool, List, length, reverse, refl, ap, sym, ◌∙◌, subst, arith, inl, inr, Some, None, Option, Ok, Err}
+use Rattle.std.proofs.Common.{false, ◌≡◌, ℕ, suc, ◌+◌, ◌<◌, ◌≤◌, max, Bool, List, length, reverse, refl, ap, sym, ◌∙◌, subst, arith, inl, inr, Some, None, Option, Ok, Err}
 use Rattle.std.proofs.lemmas.Bool.{le-ltb, lt-ltb}
 use Rattle.outside.specs.declared.disk.Disk.{Ghosts}
 use Rattle.gate_journal.specs.Shown.{broken_of}
@@ -18,6 +18,8 @@ use Rattle.record_log.specs.declared.log.RecordLog.{RecordLog}
 use Rattle.coord_core.specs.Lanes.{CoordOf, IsCoordWhole, IsOwnLane, CoordAdmits, coord_lane, lane_kept, ahead_in, ahead_of, core_batch}
 use Rattle.coord_core.specs.Stands.{CoordStands}
 use Rattle.node_journal.specs.Nodes.{NodeOf, sight, broken_behind}
+use Rattle.node_journal.specs.Answered.{HasAnswered, one_write}
+use Rattle.node_journal.proofs.Answered.{by_write_ok, by_write_err}
 use Rattle.node_journal.specs.Shown.{shown}
 use Rattle.coord_log.specs.Inside.{largest, IsCoordReady, StandsOn, IsDue}
 use Rattle.coord_core.proofs.Rooms.{all_others}
@@ -156,6 +158,21 @@ pub told_ok : {A D : Type 0} {G : Ghosts D} (memory : Bool) (due : Option ℕ �
 told_ok {A} {D} memory due old new opened flight left now a r is owed told =
     let P : NodeOf D → Type 0 = λ x. Meets memory (due x.broken x.journal) (sight x) (sight (shown new opened left)) x.journal (Ok a) in
     subst P is (meets_ok memory (due (broken_of old.journal) (reverse old.records.items)) a r (sight (shown old opened flight)) (sight (shown new opened left)) (reverse old.records.items) owed told)
+
+-- a call that owed the record that was written, or at which the disk failed, on the coordinator as it was seen
+pub gave_err : {A D : Type 0} {G : Ghosts D} (memory : Bool) (due : Option ℕ → List Record → Due A) (old new : RecordLog D G) (opened : ℕ) (flight left : Option Record) (now : NodeOf D) (a : A) (r : Record) (e : NodeFault)
+    → shown old opened flight ≡ now → due (broken_of old.journal) (reverse old.records.items) ≡ Writes a r → HasAnswered G false (one_write r) (shown old opened flight) (shown new opened left) (Err e)
+    → HasAnswered {A = A} G memory (due now.broken now.journal) now (shown new opened left) (Err e)
+gave_err {A} {D} {G} memory due old new opened flight left now a r e is owed had =
+    let P : NodeOf D → Type 0 = λ x. HasAnswered {A = A} G memory (due x.broken x.journal) x (shown new opened left) (Err e) in
+    subst P is (by_write_err G memory (due (broken_of old.journal) (reverse old.records.items)) (shown old opened flight) (shown new opened left) a r e owed had)
+
+pub gave_ok : {A D : Type 0} {G : Ghosts D} (memory : Bool) (due : Option ℕ → List Record → Due A) (old new : RecordLog D G) (opened : ℕ) (flight left : Option Record) (now : NodeOf D) (a : A) (r : Record) (u : Unit {0})
+    → shown old opened flight ≡ now → due (broken_of old.journal) (reverse old.records.items) ≡ Writes a r → HasAnswered G false (one_write r) (shown old opened flight) (shown new opened left) (Ok u)
+    → HasAnswered G memory (due now.broken now.journal) now (shown new opened left) (Ok a)
+gave_ok {A} {D} {G} memory due old new opened flight left now a r u is owed had =
+    let P : NodeOf D → Type 0 = λ x. HasAnswered G memory (due x.broken x.journal) x (shown new opened left) (Ok a) in
+    subst P is (by_write_ok G memory (due (broken_of old.journal) (reverse old.records.items)) (shown old opened flight) (shown new opened left) a r u owed had)
 
 -- the lane is the lanes' own, and in the phase of the journal
 pub own_lane : {D : Type 0} {G : Ghosts D} (l : RecordLog D G) (c : CoordOf) (opened : ℕ) (flight : Option Record) (now : NodeOf D) (lane : ℕ) → shown l opened flight ≡ now → c.header ≡ l.header → IsOwnLane now.header lane → IsOwnLane c.header lane

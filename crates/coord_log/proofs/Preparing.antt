@@ -19,6 +19,7 @@ use Rattle.cbdc_model.specs.Room.{size_of, compact_size, room_behind_prepare, ke
 use Rattle.cbdc_model.specs.Sights.{Sight, Stays, MeetsFault, IsBrokenSince}
 use Rattle.record_log.specs.Logs.{HasLogRoom, KeepsRoom, IsUntouched}
 use Rattle.record_log.specs.declared.log.RecordLog.{RecordLog}
+use Rattle.node_journal.specs.Nodes.{broken_behind}
 use Rattle.coord_core.specs.Hashes.{AreHashed}
 use Rattle.coord_core.specs.Lanes.{CoordOf, IsCoordWhole, IsOwnLane, CoordAdmits, IsSameButRoom, HasNoLessRoom, no_lane, coord_lane, kept_of, ahead_of, next_core_batch}
 use Rattle.coord_core.specs.Stands.{CoordStands}
@@ -75,6 +76,15 @@ room_refused due old new J used need limit (Broken since) none owed stays = absu
 room_refused due old new J used need limit (Refuses why) none owed stays = absurd none
 room_refused due old new J used need limit (ClockEnd stamp) none owed stays = absurd none
 room_refused due old new J used need limit DiskFault none owed stays = absurd none
+
+-- and none of these faults is the disk's
+pub room_unbroken : (A : Type 0) (used need limit count : ℕ) (before : Option ℕ) (fault : NodeFault) → IsNoRoom used need limit fault → before ≡ broken_behind {A = A} (Err fault) count before
+room_unbroken A used need limit count before (Full u n c) none = refl
+room_unbroken A used need limit count before Memory none = refl
+room_unbroken A used need limit count before (Broken since) none = absurd none
+room_unbroken A used need limit count before (Refuses why) none = absurd none
+room_unbroken A used need limit count before (ClockEnd stamp) none = absurd none
+room_unbroken A used need limit count before DiskFault none = absurd none
 
 compact_le : (t : Compact) → HasShortLists t → compact_size t ≤ 16368
 compact_le t short = omega (arith, short.0, short.1)

@@ -7,13 +7,14 @@ ghost use Rattle.cbdc_model.specs.After.{After, IsJournal};
 ghost use Rattle.cbdc_model.specs.Slots.{slot, Idle, InPrepare, InCommit, InDiscard};
 ghost use Rattle.cbdc_model.specs.Room.{kept_room, need_of};
 ghost use Rattle.cbdc_model.specs.Due.{used_of, open_batch, prepare_due, decide_due, discard_due, done_due};
-ghost use Rattle.cbdc_model.specs.Sights.{Meets, MeetsFault, IsSameNode, IsBrokenSince};
+ghost use Rattle.cbdc_model.specs.Sights.{Meets, MeetsFault, IsBrokenSince};
 ghost use Rattle.coord_core.specs.Phases.{slot_of};
 ghost use Rattle.coord_core.specs.Hashes.{AllNameBatches};
 ghost use Rattle.coord_core.specs.Decided.{ShardsRise, StampsBelow, AreRepliesTo};
 ghost use Rattle.coord_core.specs.Lanes.{IsOwnLane};
 ghost use Rattle.coord_log.specs.Logs.{HasShortLists, commit_due};
-ghost use Rattle.node_journal.specs.Nodes.{sight, HoldsJournal, LeavesBetween, broken_behind};
+ghost use Rattle.node_journal.specs.Nodes.{sight};
+ghost use Rattle.node_journal.specs.Answered.{KeepsNode, HasAnswered};
 ghost use Rattle.coord_log.specs.OpenLanes.{open_lane};
 
 use crate::copying::{outcomes_of, stamp_of, tell, txs_of};
@@ -138,16 +139,9 @@ impl<D: Disk> CoordLog<D> {
         requires short { All HasShortLists txs.now }
 
         // It does what the journal says, or wants memory.
-        ensures meets { Meets true (prepare_due self.old.header.shape self.old.capacity lane txs.now
-            self.old.broken self.old.journal) (sight self.old) (sight self.new) self.old.journal result }
-        ensures broken { self.new.broken ≡ broken_behind result self.new.faults self.old.broken }
-        ensures journal { IsJournal self.new.header self.new.journal }
-        ensures header { self.new.header ≡ self.old.header }
-        ensures limit { self.new.capacity ≡ self.old.capacity }
-        ensures holds { HoldsJournal D.Disk self.old → HoldsJournal D.Disk self.new }
-
-        // A crash at any moment of the call leaves the journal from before it or the one behind it.
-        ensures leaves { HoldsJournal D.Disk self.old → LeavesBetween D.Disk self.old self.new }
+        ensures { HasAnswered D.Disk true
+            (prepare_due self.old.header.shape self.old.capacity lane txs.now
+            self.old.broken self.old.journal) self.old self.new result }
     {
         match self.log.is_broken() {
             Some(since) => return Err(NodeFault::Broken { since }),
@@ -211,15 +205,7 @@ impl<D: Disk> CoordLog<D> {
         ensures bound { IfOk result (λ t. t ≤ 2 ^ 62 + 2 ^ 20) }
         ensures count { OnOk result (length out.new.items
             ≡ length (txs_of self.old.journal (open_batch self.old.journal lane))) }
-        ensures node { IsSameNode (sight self.old) (sight self.new) }
-        ensures broken { self.new.broken ≡ broken_behind result self.new.faults self.old.broken }
-        ensures journal { IsJournal self.new.header self.new.journal }
-        ensures header { self.new.header ≡ self.old.header }
-        ensures limit { self.new.capacity ≡ self.old.capacity }
-        ensures holds { HoldsJournal D.Disk self.old → HoldsJournal D.Disk self.new }
-
-        // A crash at any moment of the call leaves the journal from before it or the one behind it.
-        ensures leaves { HoldsJournal D.Disk self.old → LeavesBetween D.Disk self.old self.new }
+        ensures keeps { KeepsNode D.Disk self.old self.new result }
     {
         match self.log.is_broken() {
             Some(since) => return Err(NodeFault::Broken { since }),
@@ -246,16 +232,9 @@ impl<D: Disk> CoordLog<D> {
         requires own { IsOwnLane self.old.header lane }
         requires committed { (slot self.old.journal lane).phase ≡ InCommit }
         requires cause { cause < 2 ^ 63 }
-        ensures meets { Meets false (discard_due lane cause self.old.broken self.old.journal)
-            (sight self.old) (sight self.new) self.old.journal result }
-        ensures broken { self.new.broken ≡ broken_behind result self.new.faults self.old.broken }
-        ensures journal { IsJournal self.new.header self.new.journal }
-        ensures header { self.new.header ≡ self.old.header }
-        ensures limit { self.new.capacity ≡ self.old.capacity }
-        ensures holds { HoldsJournal D.Disk self.old → HoldsJournal D.Disk self.new }
-
-        // A crash at any moment of the call leaves the journal from before it or the one behind it.
-        ensures leaves { HoldsJournal D.Disk self.old → LeavesBetween D.Disk self.old self.new }
+        ensures { HasAnswered D.Disk false
+            (discard_due lane cause self.old.broken self.old.journal)
+            self.old self.new result }
     {
         match self.log.is_broken() {
             Some(since) => return Err(NodeFault::Broken { since }),
@@ -281,16 +260,9 @@ impl<D: Disk> CoordLog<D> {
         requires own { IsOwnLane self.old.header lane }
         requires discarded { (slot self.old.journal lane).phase ≡ InDiscard }
         requires cause { cause < 2 ^ 63 }
-        ensures meets { Meets false (done_due lane cause self.old.broken self.old.journal)
-            (sight self.old) (sight self.new) self.old.journal result }
-        ensures broken { self.new.broken ≡ broken_behind result self.new.faults self.old.broken }
-        ensures journal { IsJournal self.new.header self.new.journal }
-        ensures header { self.new.header ≡ self.old.header }
-        ensures limit { self.new.capacity ≡ self.old.capacity }
-        ensures holds { HoldsJournal D.Disk self.old → HoldsJournal D.Disk self.new }
-
-        // A crash at any moment of the call leaves the journal from before it or the one behind it.
-        ensures leaves { HoldsJournal D.Disk self.old → LeavesBetween D.Disk self.old self.new }
+        ensures { HasAnswered D.Disk false
+            (done_due lane cause self.old.broken self.old.journal)
+            self.old self.new result }
     {
         match self.log.is_broken() {
             Some(since) => return Err(NodeFault::Broken { since }),

@@ -1,12 +1,10 @@
 // Writing a record, and the room for it.
-ghost use Rattle.std.specs.Prelude.{◌≡◌, ◌+◌, ◌*◌, ◌≤◌, ◌<◌, ◌^◌, ◌++◌, ◌∷◌, ℕ, Option, None, length, reverse, OnOk, OnErr, IfErr, MatchResult};
-ghost use Rattle.gate_journal.specs.Shown.{disk_of, gate_of, broken_of};
-ghost use Rattle.cbdc_model.specs.After.{IsJournal};
+ghost use Rattle.std.specs.Prelude.{◌≡◌, ◌+◌, ◌*◌, ◌≤◌, ◌<◌, ◌^◌, ◌++◌, ◌∷◌, ℕ, false, length, OnOk, OnErr, IfErr};
+ghost use Rattle.gate_journal.specs.Shown.{disk_of, gate_of};
 ghost use Rattle.cbdc_model.specs.Room.{room_behind_prepare};
-ghost use Rattle.cbdc_model.specs.Sights.{Appends, Fails};
 ghost use Rattle.coord_core.specs.Lanes.{IsCoordWhole, kept_of, ahead_of};
 ghost use Rattle.record_log.specs.Logs.{HasLogRoom, KeepsRoom, IsUntouched};
-ghost use Rattle.node_journal.specs.Nodes.{sight, HoldsJournal, LeavesBetween};
+ghost use Rattle.node_journal.specs.Answered.{HasAnswered, one_write};
 ghost use Rattle.node_journal.specs.Shown.{shown};
 ghost use Rattle.coord_log.specs.Inside.{largest, IsCoordSound, IsDue, IsNoRoom};
 
@@ -33,21 +31,10 @@ pub(crate) fn write<D: Disk>(
     next: Record,
 ) -> Result<(), NodeFault>
     requires { IsDue log.old core.old flight.old next }
-    ensures told { (opened : ℕ) → MatchResult result (λ _. Appends (sight (shown log.old opened flight.old))
-        (sight (shown log.new opened flight.new)) (reverse log.old.records.items) next)
-        (λ e. (e ≡ NodeFault.DiskFault) × Fails (sight (shown log.old opened flight.old))
-        (sight (shown log.new opened flight.new)) (reverse log.old.records.items) next) }
     ensures sound { (opened : ℕ) → opened ≤ D.count (disk_of log.old.journal)
         → IsCoordSound log.new core.new opened flight.new }
-    ensures broken { MatchResult result (λ _. broken_of log.new.journal ≡ None)
-        (λ _. broken_of log.new.journal ≡ Option.Some (D.count (disk_of log.new.journal))) }
-    ensures holds { (opened : ℕ) → HoldsJournal D.Disk (shown log.old opened flight.old)
-        → HoldsJournal D.Disk (shown log.new opened flight.new) }
-    ensures leaves { (opened : ℕ) → HoldsJournal D.Disk (shown log.old opened flight.old)
-        → LeavesBetween D.Disk (shown log.old opened flight.old) (shown log.new opened flight.new) }
-    ensures journal { IsJournal log.new.header (reverse log.new.records.items) }
-    ensures header { log.new.header ≡ log.old.header }
-    ensures limit { D.limit (disk_of log.new.journal) ≡ D.limit (disk_of log.old.journal) }
+    ensures answered { (opened : ℕ) → HasAnswered D.Disk false (one_write next)
+        (shown log.old opened flight.old) (shown log.new opened flight.new) result }
 {
     write_next(log, core, flight, next)
 }

@@ -14,8 +14,8 @@ use Rattle.run_laws.proofs.TurnKinds.{prepared_own}
 use Rattle.lane_driver.specs.declared.fault.LaneFault.{LaneFault}
 use Rattle.lane_driver.specs.declared.fault.LaneFaultKind.TheVariants.{Memory as NoMemory}
 use Rattle.ledger_runs.specs.Turning.{lane_phase, IsLaneOf, KeepsLanes}
-use Rattle.ledger_runs.specs.Faults.{GrowBy, IsSomeCauseOf, IsRunCause, IsOpenCause, Nothing, LaneRests, IsLaneUntouched, LaneWaits, RestsOrWaits, AllRestOrWait, RestsSince, AllRestSince}
-use Rattle.ledger_runs.specs.Least.{IsUnbegunForMemory, IsFirstOpenFault}
+use Rattle.ledger_runs.specs.Faults.{GrowBy, IsSomeCauseOf, IsRunCause, IsOpenCause, Nothing, LaneRests, IsLaneUntouched, LaneWaits, RestsOrWaits, AllRestOrWait}
+use Rattle.ledger_runs.specs.Least.{IsFirstOpenFault}
 use Rattle.ledger_runs.proofs.Others.{own_same, slot_same}
 use Rattle.ledger_runs.proofs.Preparing.{same_prepared}
 use Rattle.ledger_runs.proofs.Keeping.{lt_or_eq}
@@ -137,12 +137,3 @@ rests_end K turn E X failed wanting all rests lane inside = rests lane (omega (a
 pub first_cause : (K : Shape) (E X : ℕ → List Record) (failed : ℕ → Type 0) (holds : ℕ → ℕ → Type 0) (e : LaneFault) → IsFirstOpenFault K E X failed holds e → IsRunCause K (λ _. Nothing) E X failed holds e
 first_cause K E X failed holds e (lane, inside, inl (memory, waits), lesser) = subst (λ k. IsSomeCauseOf K (λ _. Nothing) E X failed holds e.node k) (sym memory) tt
 first_cause K E X failed holds e (lane, inside, inr cause, lesser) = cause_any K lane (λ _. Nothing) E X failed holds inside e cause
-
--- whatever came, each lane rests, or it waits where it was
-pub rests_told : (K : Shape) (E X : ℕ → List Record) (failed wanting : ℕ → Type 0) (e : LaneFault) → IsUnbegunForMemory E X e ⊎ AllRestOrWait K E X failed wanting → AllRestSince K E X failed
-rests_told K E X failed wanting e (inl unbegun) = inl unbegun.1
-rests_told K E X failed wanting e (inr all) = inr (λ lane inside. go lane (all lane inside))
-  where
-    go : (lane : ℕ) → RestsOrWaits K lane E X failed (wanting lane) → RestsSince K lane E X failed
-    go lane (inl rests) = inl rests
-    go lane (inr (want, waits)) = inr waits

@@ -157,14 +157,6 @@ RestsOrWaits K lane E X failed wanting = LaneRests K lane X failed ⊎ (wanting 
 abbrev pub AllRestOrWait : Shape → (ℕ → List Record) → (ℕ → List Record) → (ℕ → Type 0) → (ℕ → Type 0) → Type 0
 AllRestOrWait K E X failed wanting = (lane : ℕ) → IsLaneOf K lane → RestsOrWaits K lane E X failed (wanting lane)
 
--- the lane rests or waits, where nothing reports whether memory ran out for it
-abbrev pub RestsSince : Shape → ℕ → (ℕ → List Record) → (ℕ → List Record) → (ℕ → Type 0) → Type 0
-RestsSince K lane E X failed = LaneRests K lane X failed ⊎ LaneWaits K lane E X
-
--- each lane rests or waits so, or nothing was written from journals E to X
-abbrev pub AllRestSince : Shape → (ℕ → List Record) → (ℕ → List Record) → (ℕ → Type 0) → Type 0
-AllRestSince K E X failed = ((n : ℕ) → X n ≡ E n) ⊎ ((lane : ℕ) → IsLaneOf K lane → RestsSince K lane E X failed)
-
 -- each lane that has stopped has its cause
 abbrev pub HaveCauses : Shape → (ℕ → List Record) → (ℕ → List Record) → (ℕ → Type 0) → (ℕ → ℕ → Type 0) → List LaneOf → Type 0
 HaveCauses K E X failed may_hold lanes = EachLane (λ lane x. (e : LaneFault) → x.fault ≡ Some e → IsLaneCause K lane (IsNextPiece K lane x.txs E X) E X failed may_hold e) lanes

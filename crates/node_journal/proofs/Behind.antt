@@ -27,6 +27,10 @@ pub matched : {T E P Q : Type 0} {L : E → Type 0} {A : T → Type 0} {B : E �
 matched (Ok a) p q l f g = f p a
 matched (Err e) p q l f g = g q e l
 
+pub at_result : {T E P Q : Type 0} {L : E → Type 0} (A : Result T E → Type 0) (r : Result T E) → OnOk r P → OnErr r Q → IfErr r L → (P → (a : T) → A (Ok a)) → (Q → (e : E) → L e → A (Err e)) → A r
+at_result A (Ok a) p q l f g = f p a
+at_result A (Err e) p q l f g = g q e l
+
 module _ {D : Type 0} {G : Ghosts D} where
   -- the record is the newest
   pub pushed : (old new : RecordLog D G) (r : Record) → HasKept old new r → reverse new.records.items ≡ r ∷ reverse old.records.items

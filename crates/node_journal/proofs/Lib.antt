@@ -4,3 +4,4 @@ pub mod Kept
 pub mod Stops
 pub mod Playing
 pub mod Behind
+pub mod Answered

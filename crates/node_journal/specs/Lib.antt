@@ -3,3 +3,4 @@ pub mod Shown
 pub mod Opening
 pub mod Opened
 pub mod Writing
+pub mod Answered

@@ -1,5 +1,6 @@
 // Writing a record down, and then taking it in.
-ghost use Rattle.std.specs.Prelude.{◌≡◌, ◌+◌, ◌≤◌, ℕ, None, Some, length, OnOk, OnErr, IfErr};
+ghost use Rattle.std.specs.Prelude.{◌≡◌, ◌+◌, ◌≤◌, ◌∷◌, ℕ, List, None, Some, length, OnOk, OnErr, IfErr};
+ghost use Rattle.cbdc_model.specs.Records.{Record as AnyRecord};
 ghost use Rattle.gate_journal.specs.Shown.{disk_of, gate_of, broken_of};
 ghost use Rattle.record_log.specs.Bodies.{body_of};
 ghost use Rattle.record_log.specs.Logs.{HasLogRoom};
@@ -29,6 +30,7 @@ pub fn write_next<C: Core, D: Disk>(
         ≤ D.limit (disk_of log.old.journal) }
     ensures written { OnOk result (HasKept log.old log.new next × (flight.new ≡ flight.old)
         × C.takes core.old core.new next × (C.header core.new ≡ C.header core.old)) }
+    ensures stands { OnOk result ((J : List AnyRecord) → C.stands core.old J → C.stands core.new (next ∷ J)) }
     ensures failed { OnErr result (HasBroken log.old log.new
         × (flight.new ≡ Some next) × (core.new ≡ core.old)) }
     ensures fault { IfErr result (λ e. e ≡ NodeFault.DiskFault) }

@@ -1,6 +1,6 @@
 -- What a lane's fault answers has its cause.
-use Rattle.std.proofs.Common.{◌≡◌, ◌⊎◌, inl, inr, ℕ, ◌+◌, ◌<◌, ◌≤◌, List, length, reverse, Option, Some, None, sym, ◌∙◌, subst}
-use Rattle.std.specs.Prelude.{Result, Ok, Err, IfErr}
+use Rattle.std.proofs.Common.{◌≡◌, ◌⊎◌, inl, inr, ℕ, ◌+◌, ◌<◌, ◌≤◌, List, length, reverse, Option, Some, None, sym, ap, ◌∙◌, subst}
+use Rattle.std.specs.Prelude.{Result, Ok, Err, IfOk, IfErr}
 use Rattle.outside.specs.Counts.{Rose}
 use Rattle.outside.specs.declared.disk.Disk.{Ghosts}
 use Rattle.cbdc_types.specs.declared.answer.Answer.{Answer}
@@ -9,6 +9,7 @@ use Rattle.cbdc_model.specs.Records.{Shape, Header, Batch, Compact, Record, Row,
 use Rattle.cbdc_model.specs.Coins.{FullTx}
 use Rattle.cbdc_model.specs.Lanes.{IsEnd}
 use Rattle.lane_driver.specs.declared.fault.LaneFault.{LaneFault}
+use Rattle.recovery.specs.declared.resumed.ResumedBatch.{ResumedBatch}
 use Rattle.lane_driver.specs.declared.fault.LaneFaultKind.{LaneFaultKind}
 use Rattle.lane_driver.specs.declared.fault.LaneFaultKind.TheVariants.{DiskFault as DiskStopped, Full as NoRoom, ClockEnd as NoStamp, Memory as NoMemory}
 use Rattle.node_journal.specs.Nodes.{NodeOf}
@@ -17,7 +18,7 @@ use Rattle.rack_ledgers.specs.Ledgers.{ByPlace, AreOpened}
 use Rattle.rack_ledgers.specs.Caused.{listed_journals as lent_journals, AreCaused}
 use Rattle.rack_ledgers.proofs.CausedTold.{told_history}
 use Rattle.ledger_runs.specs.Turning.{IsLaneOf}
-use Rattle.ledger_runs.specs.Faults.{IsCauseOf, IsSomeCauseOf, IsRunCause, HaveFailed, MayHoldBytes, Nothing, RestsSince, AllRestSince}
+use Rattle.ledger_runs.specs.Faults.{IsCauseOf, IsSomeCauseOf, IsRunCause, HaveFailed, MayHoldBytes, Nothing}
 use Rattle.ledger_runs.specs.Least.{IsLeastOpen}
 use Rattle.file_runs.specs.Ledgers.{IsLedger, node_journals, flights_of, faults_of, opened_of, capacity_of, HaveCheckedJournals, AreStored, AreQuiet}
 use Rattle.rack_laws.specs.Shown.{OfShown, HoldsEach}
@@ -26,9 +27,11 @@ use Rattle.cbdc_model.specs.Ranges.{node_count}
 use Rattle.rack_runs.proofs.Behind.{are_quiet, is_ledger, none_fly, keeps_flights, holds_each, rooms_each, told_stored, may_hold, have_risen}
 use Rattle.rack_runs.specs.Kinds.{answer_at, answer_to, IsLaneAnswer, MayComeNext}
 use Rattle.rack_runs.specs.Endings.{IsLeastAnswer}
+use Rattle.rack_runs.specs.Resting.{RestsBehind, AllRestBehind}
 use Rattle.rack_runs.specs.Runs.{IsCutShort, KeepsFlights, IsLaneFault, DiskMayHold, RoseAt, TookLedger}
-use Rattle.rack_runs.specs.Works.{Deed, FitsBatch, BeginsWork, EndsWork, LeavesAll, AllBadly, AreSeen, work_turns}
+use Rattle.rack_runs.specs.Works.{Deed, FitsBatch, BeginsWork, EndsWork, LeavesAll, AllWell, AllBadly, AreSeen, work_turns}
 use Rattle.rack_runs.proofs.Checking.{same_journals}
+use Rattle.rack_runs.proofs.Resting.{idle_rest, tell_rest}
 use Rattle.rack_runs.proofs.Wanted.{wanted_inside, wants_there, stays_caused}
 
 -- the cause of a fault is that of its answer
@@ -43,14 +46,21 @@ answered K next E X failed holds e h = go e.fault h
     go NoMemory h = tt
 
 -- a work that a lane's fault ended, or for which memory ran out: its answer has its cause, and is the least lane's
-pub came_badly : {T Done : Type 0} (d : Deed Done) (K : Shape) (E X : ℕ → List Record) (failed : ℕ → Type 0) (holds : ℕ → ℕ → Type 0) (told : Result T Answer) (came : Result Done LaneFault)
-    → IfErr told (λ a. (a ≡ answers.Memory) ⊎ ((e : LaneFault) × (came ≡ Err e) × (a ≡ answer_to e))) → IfErr came (AllBadly d K E X failed holds)
-    → IfErr told (λ a. IsLaneAnswer K (d.next K E X) E X failed holds a × IsLeastAnswer (EndsWork d K E X failed holds) a)
-came_badly d K E X failed holds (Ok t) came is badly = tt
-came_badly d K E X failed holds (Err a) came (inl memory) badly = (subst (λ x. IsLaneAnswer K (d.next K E X) E X failed holds x) (sym memory) tt, inl memory)
-came_badly d K E X failed holds (Err a) came (inr (e, err, is)) badly =
-    let b : AllBadly d K E X failed holds e = subst (λ o. IfErr o (AllBadly d K E X failed holds)) err badly in
-    (subst (λ x. IsLaneAnswer K (d.next K E X) E X failed holds x) (sym is) (answered K (d.next K E X) E X failed holds e b.cause), inr (e, is, b.ends))
+pub came_badly : {T Done : Type 0} (d : Deed Done) (K : Shape) (E X : ℕ → List Record) (failed : ℕ → Type 0) (holds : ℕ → ℕ → Type 0) (told : Result T Answer) (resumed : List ResumedBatch) (came : Result Done LaneFault)
+    → IfErr told (λ a. (a ≡ answers.Memory) ⊎ ((e : LaneFault) × (came ≡ Err e) × (a ≡ answer_to e))) → IfOk came (AllWell d K E X resumed) → IfErr came (AllBadly d K E X failed holds)
+    → IfErr told (λ a. IsLaneAnswer K (d.next K E X) E X failed holds a × IsLeastAnswer (EndsWork d K E X failed holds) a × AllRestBehind K E X failed (a ≡ answers.Memory))
+came_badly d K E X failed holds (Ok t) resumed came is well badly = tt
+came_badly {Done = Done} d K E X failed holds (Err a) resumed came (inl memory) well badly = (subst (λ x. IsLaneAnswer K (d.next K E X) E X failed holds x) (sym memory) tt, inl memory, go came well badly)
+  where
+    go : (c : Result Done LaneFault) → IfOk c (AllWell d K E X resumed) → IfErr c (AllBadly d K E X failed holds) → AllRestBehind K E X failed (a ≡ answers.Memory)
+    go (Ok x) all b = idle_rest K E X failed (a ≡ answers.Memory) all.well.idle
+    go (Err e) all b = tell_rest K E X failed (e.fault ≡ NoMemory) (a ≡ answers.Memory) (λ _. memory) b.rests
+came_badly d K E X failed holds (Err a) resumed came (inr (e, err, is)) well badly =
+    let b : AllBadly d K E X failed holds e = subst (λ o. IfErr o (AllBadly d K E X failed holds)) err badly in (
+      subst (λ x. IsLaneAnswer K (d.next K E X) E X failed holds x) (sym is) (answered K (d.next K E X) E X failed holds e b.cause),
+      inr (e, is, b.ends),
+      tell_rest K E X failed (e.fault ≡ NoMemory) (a ≡ answers.Memory) (λ memory. is ∙ ap (answer_at e.node) memory) b.rests,
+    )
 
 -- ---- by what is known of the nodes of the ledger otherwise
 
@@ -89,11 +99,11 @@ module _ (K : Shape) (failed fails : ℕ → Type 0) (holds held : ℕ → ℕ �
   open_by I J e (inr (lane, lt, inl waits, lesser)) = inr (lane, lt, inl waits, lesser)
   open_by I J e (inr (lane, lt, inr cause, lesser)) = inr (lane, lt, inr (cause_by lane Nothing I J lt e.node e.fault cause), lesser)
 
-  rest_by : (E X : ℕ → List Record) → AllRestSince K E X failed → AllRestSince K E X fails
-  rest_by E X (inl still) = inl still
-  rest_by E X (inr all) = inr (λ lane inside. go lane (all lane inside))
+  rest_by : (E X : ℕ → List Record) (memory : Type 0) → AllRestBehind K E X failed memory → AllRestBehind K E X fails memory
+  rest_by E X memory (inl still) = inl still
+  rest_by E X memory (inr all) = inr (λ lane inside. go lane (all lane inside))
     where
-      go : (lane : ℕ) → RestsSince K lane E X failed → RestsSince K lane E X fails
+      go : (lane : ℕ) → RestsBehind K lane E X failed memory → RestsBehind K lane E X fails memory
       go lane (inl (inl before)) = inl (inl before)
       go lane (inl (inr (node, failure))) = inl (inr (node, record { inside = failure.inside; asked = failure.asked; did = failed_on node failure.inside failure.did }))
       go lane (inr waits) = inr waits
@@ -207,10 +217,11 @@ module _ {D : Type 0} (device : Ghosts D) (held back : ℕ → Option D) (h g : 
       (HaveFailed (opened_of h.shape logs shards) (faults_of h.shape now after)) (MayHoldBytes (capacity_of h.shape logs shards)) a
       → IsLeastAnswer (EndsWork d h.shape (node_journals h.shape logs shards) (node_journals h.shape now after)
       (HaveFailed (opened_of h.shape logs shards) (faults_of h.shape now after)) (MayHoldBytes (capacity_of h.shape logs shards))) a
+      → AllRestBehind h.shape (node_journals h.shape logs shards) (node_journals h.shape now after) (HaveFailed (opened_of h.shape logs shards) (faults_of h.shape now after)) (a ≡ answers.Memory)
       → AllHaveRoom device held h.shape (node_journals h.shape logs shards) → ((n : ℕ) → n < node_count h.shape → SameRoom device (held n) (back n)) → HaveCheckedJournals h.shape now after
       → OfShown device held (IsCutShort device back d.handed (node_journals h.shape now after)) → ((n : ℕ) → node_count h.shape ≤ n → back n ≡ held n)
       → IsLaneFault device (record { held = held; faults = before }) (record { held = back; faults = behind }) (work_turns d) a
-  lane_fault d fits leaves flown a cause least room same_room checked kept spared =
+  lane_fault d fits leaves flown a cause least rests room same_room checked kept spared =
       let K : Shape = h.shape in
       let E : ℕ → List Record = node_journals h.shape logs shards in
       let X : ℕ → List Record = node_journals h.shape now after in
@@ -240,7 +251,7 @@ module _ {D : Type 0} (device : Ghosts D) (held back : ℕ → Option D) (h g : 
         may_come = subst (λ L. MayComeNext K h.genesis (d.next K L X) L X) entry
             (wants_there device h g logs now shards after (is_ledger device held h logs shards are) is shape checked (d.next K E X) fits);
         least = subst (λ L. IsLeastAnswer (EndsWork d K L X Rises Holds) a) entry (least_by K failed Rises holds Holds risen may d E X a least);
-        rests = subst (λ L. AllRestSince K L X Rises) entry (rest_by K failed Rises holds Holds risen may E X leaves.rests);
+        rests = subst (λ L. AllRestBehind K L X Rises (a ≡ answers.Memory)) entry (rest_by K failed Rises holds Holds risen may E X (a ≡ answers.Memory) rests);
         room = subst (λ L. AllHaveRoom device held K L) entry room;
         same_room = same_room;
         rooms = rooms_back;

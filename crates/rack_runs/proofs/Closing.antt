@@ -133,12 +133,12 @@ module _ {D Done : Type 0} (device : Ghosts D) (held : ℕ → Option D) (h g : 
         }
     done (Err a) fault same unspent fits =
         let told : Result (Told Done) Answer = Err a in
-        let bad = came_badly deed h.shape E X failed holds told came fault badly in
+        let bad = came_badly deed h.shape E X failed holds told resumed came fault well badly in
         record {
           caused = tt;
           ended = tt;
           stopped = inr (lane_fault device held back h g logs now shards after are caused is shape logs_back shards_back stored seen before behind logs_since shards_since logs_counted shards_counted
-              deed (fits h.shape E X) leaves flown a bad.0 bad.1 room same_room checked
+              deed (fits h.shape E X) leaves flown a bad.0 bad.1 bad.2 room same_room checked
               (cut_short device held back h g logs now shards after deed are is shape logs_back shards_back stored leaves.keeps leaves.flies seen)
               spared);
         }

@@ -2,6 +2,7 @@ pub mod Lent
 pub mod Ledgers
 pub mod Unspent
 pub mod Checking
+pub mod Resting
 pub mod Answering
 pub mod Flown
 pub mod Wanted

@@ -7,15 +7,15 @@ use Rattle.cbdc_model.specs.Records.{Shape, Compact, Record}
 use Rattle.ledger_laws.proofs.Cuts.{end_self, end_trans}
 use Rattle.run_laws.proofs.NewBatches.{open_batches}
 use Rattle.lane_driver.specs.declared.fault.LaneFault.{LaneFault}
+use Rattle.lane_driver.specs.declared.fault.LaneFaultKind.TheVariants.{Memory as NoMemory}
 use Rattle.recovery.specs.declared.resumed.ResumedBatch.{ResumedBatch}
 use Rattle.ledger_runs.specs.Turning.{IsLaneOf, OfKept, StaysKept}
 use Rattle.ledger_runs.specs.Flying.{FliesOn, Launches}
 use Rattle.ledger_runs.specs.Telling.{SamePrepared}
-use Rattle.ledger_runs.specs.Faults.{TakesInOrder, HaveFailed, MayHoldBytes, Nothing}
+use Rattle.ledger_runs.specs.Faults.{TakesInOrder, HaveFailed, MayHoldBytes, Nothing, LanesRest}
 use Rattle.ledger_runs.proofs.Faulting.{run_moves}
 use Rattle.ledger_runs.proofs.Keeping.{ledger_on}
 use Rattle.ledger_runs.proofs.Launching.{launches_by, launches_on}
-use Rattle.ledger_runs.proofs.Onward.{rests_told}
 use Rattle.file_runs.specs.Ledgers.{LedgerOf, ledger_journals, ledger_flights, ledger_faults, ledger_opened, ledger_capacity}
 use Rattle.file_runs.specs.Runs.{joined}
 use Rattle.file_runs.proofs.Filing.{kept_more}
@@ -24,6 +24,7 @@ use Rattle.file_runs.proofs.Whole.{when_whole, of_whole, of_fault}
 use Rattle.rack_runs.specs.Resuming.{HasResumed}
 use Rattle.rack_runs.specs.Works.{Deed, IsBehind, IsOpenOnly, LeavesWork, WorkEndsWell, EndsBadly, HasWorked, LeavesAll, AllWell, AllBadly, HasRunWork}
 use Rattle.rack_runs.proofs.Lent.{on_ok_by, if_ok_by, if_err_by}
+use Rattle.rack_runs.proofs.Resting.{rest_all, rests_behind}
 
 -- where nothing was prepared newly, all new records of kept journals are of batches that were open
 pub only_open : (K : Shape) (E M : ℕ → List Record) → IsWithinLimits K → SamePrepared K E M → OfKept K E (StaysKept K E M) → IsOpenOnly K E M
@@ -46,14 +47,14 @@ module _ {Done : Type 0} (d : Deed Done) (K : Shape) (E M X : ℕ → List Recor
         record { grows = λ n. end_trans (E n) (M n) (X n) (a.grows n) (b.grows n); kept = b.kept };
     flies = λ mint submissions kept may. w.flies mint submissions (behind.keeps mint submissions kept).kept (flies mint submissions kept may);
     launches = launches_on K (λ _. Nothing) (d.next K M X) (d.next K E X) E M X F G L (λ lane txs inside still none. absurd none) (λ lane txs inside is. w.since E behind lane txs inside is) launches w.launches;
-    rests = inr (λ lane inside. inl (w.rests lane inside));
     begun = λ limits. (inr (w.begun limits E behind), (M, order, inr (behind.idle, w.grows)));
   }
 
   -- and its fault is one of all
   badly_on : (opens counts holds : ℕ → ℕ) (e : LaneFault) → ((lane : ℕ) (txs : List Compact) → IsLaneOf K lane → d.next K M X lane txs → d.next K E X lane txs)
-      → EndsBadly d K M X (HaveFailed opens counts) (MayHoldBytes holds) e → AllBadly d K E X (HaveFailed opens counts) (MayHoldBytes holds) e
-  badly_on opens counts holds e since b = record {
+      → LanesRest K X (HaveFailed opens counts) → EndsBadly d K M X (HaveFailed opens counts) (MayHoldBytes holds) e → AllBadly d K E X (HaveFailed opens counts) (MayHoldBytes holds) e
+  badly_on opens counts holds e since rests b = record {
+    rests = rest_all K E X (HaveFailed opens counts) (e.fault ≡ NoMemory) rests;
     cause = run_moves K (d.next K M X) (d.next K E X) M E X (HaveFailed opens counts) (HaveFailed opens counts) (MayHoldBytes holds) (MayHoldBytes holds) behind.grows since (λ n did. did) (λ n c may. may) e b.cause;
     ends = inr (
       M,
@@ -87,7 +88,6 @@ module _ {D Done : Type 0} (device : Ghosts D) (d : Deed Done) where
               record { grows = a.grows; kept = kept_more K mint submissions (joined d.handed) M a.kept };
           flies = λ mint submissions kept may. may_more K mint submissions (joined d.handed) M G (r.flies mint submissions kept may);
           launches = launches_by K (λ _. Nothing) (d.next K E M) E M F G (λ lane txs inside none. absurd none) r.launches;
-          rests = rests_told K E M failed (λ _. Unit {0}) e (of_fault _ came e is r.rests);
           begun = λ limits. (inl (only_open K E M limits r.prepares r.keeps), (M, r.order, inl (λ n. refl)));
         };
         well = tt;
@@ -95,6 +95,7 @@ module _ {D Done : Type 0} (device : Ghosts D) (d : Deed Done) where
           cause = run_moves K (λ _. Nothing) (d.next K E M) E E M failed failed holds holds (λ n. end_self (E n)) (λ lane txs inside none. absurd none) (λ n did. did) (λ n c may. may) e
               (of_fault _ came e is r.fault);
           ends = inl (r.prepares, of_fault _ came e is r.least);
+          rests = rests_behind K E M failed holds e (of_fault _ came e is r.least) (of_fault _ came e is r.rests);
         };
       }
 
@@ -130,5 +131,5 @@ module _ {D Done : Type 0} (device : Ghosts D) (d : Deed Done) where
         well = if_ok_by (WorkEndsWell d middle.header.shape M X) (AllWell d K E X rs.items) did w.well
             (λ a ends. record { middle = M; behind = behind; batches = of_whole _ came rs is r.told; well = subst (λ k. WorkEndsWell d k M X a) same ends });
         badly = if_err_by (EndsBadly d middle.header.shape M X (HaveFailed opens counts) (MayHoldBytes holds)) (AllBadly d K E X (HaveFailed opens counts) (MayHoldBytes holds)) did
-            (λ e ends. badly_on d K E M X (HaveFailed opens counts) behind opens counts holds e (leaves.since E behind) (subst (λ k. EndsBadly d k M X (HaveFailed opens counts) (MayHoldBytes holds) e) same ends)) w.badly;
+            (λ e ends. badly_on d K E M X (HaveFailed opens counts) behind opens counts holds e (leaves.since E behind) leaves.rests (subst (λ k. EndsBadly d k M X (HaveFailed opens counts) (MayHoldBytes holds) e) same ends)) w.badly;
       }

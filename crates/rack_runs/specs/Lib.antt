@@ -1,5 +1,6 @@
 pub mod Kinds
 pub mod Endings
+pub mod Resting
 pub mod Runs
 pub mod Telling
 pub mod Stops

@@ -3,6 +3,7 @@ use Rattle.std.specs.Prelude.{◌≤◌, ◌≡◌, ◌⊎◌, ℕ, ◌<◌, Boo
 use Rattle.outside.specs.Counts.{Rose}
 use Rattle.outside.specs.declared.disk.Disk.{Ghosts}
 use Rattle.cbdc_types.specs.declared.answer.Answer.{Answer}
+use Rattle.cbdc_types.specs.declared.answer.Answer.TheVariants as answers
 use Rattle.cbdc_model.specs.Records.{Shape, Batch, Compact, Record, Prepare, journal}
 use Rattle.cbdc_model.specs.Coins.{Output, FullTx}
 use Rattle.cbdc_model.specs.Clean.{Clean}
@@ -21,13 +22,13 @@ use Rattle.rack_ledgers.specs.Racked.{Disks, OfTold, SameRoom}
 use Rattle.rack_ledgers.specs.Caused.{IsCausedLedger}
 use Rattle.rack_ledgers.specs.RefusalLaws.{AllTell}
 use Rattle.ledger_runs.specs.Turning.{IsLaneOf, OfKept}
-use Rattle.ledger_runs.specs.Faults.{AllRestSince}
 use Rattle.ledger_runs.specs.Least.{IsLeastOpen}
 use Rattle.ledger_runs.specs.Pieces.{HasPreparedPieces}
 use Rattle.file_runs.specs.Runs.{joined, HaveBegunFiles, IsFilesPiece}
 use Rattle.file_runs.specs.Endings.{HasBegunFirst}
 use Rattle.rack_runs.specs.Kinds.{IsLaneAnswer, MayComeNext, StaysCaused}
 use Rattle.rack_runs.specs.Endings.{EndsRun, IsInOrder, IsLeastAnswer}
+use Rattle.rack_runs.specs.Resting.{AllRestBehind}
 
 -- journals that have grown at their ends from those at entry, and are kept
 pub record IsGrown (K : Shape) (mint : List Output) (submissions : List FullTx) (E X : ℕ → List Record) : Type 0 where
@@ -142,9 +143,9 @@ pub record IsLaneFault {D : Type 0} (device : Ghosts D) (before after : Disks D)
   pub may_come : MayComeNext ledger.shape ledger.genesis (turns.next ledger.shape (entry_journals ledger) exit) (entry_journals ledger) exit
   -- the fault is that of the least lane that met one
   pub least : IsLeastAnswer (turns.ends ledger.shape (entry_journals ledger) exit (RoseAt before after) (DiskMayHold device before)) answer
-  -- nothing was written, or each lane is between batches, or its batch lacks a Lock, or the disk of a node that it asks has failed, or its batch was
-  -- prepared and is so still, because memory ran out
-  pub rests : AllRestSince ledger.shape (entry_journals ledger) exit (RoseAt before after)
+  -- each lane is between batches, or its batch lacks a Lock, or the disk of a node that it asks has failed; or its batch was prepared and is so still,
+  -- and the answer is that memory ran out, or a lesser lane has its batch open still; or that is the answer and nothing was written
+  pub rests : AllRestBehind ledger.shape (entry_journals ledger) exit (RoseAt before after) (answer ≡ answers.Memory)
   -- each disk of the ledger had room for its journal and for what was kept for the batches open there; in each place there is as much room as there
   -- was, and so for its journal at exit
   pub room : AllHaveRoom device before.held ledger.shape (entry_journals ledger)

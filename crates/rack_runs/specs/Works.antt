@@ -13,12 +13,13 @@ use Rattle.cbdc_model.specs.Headline.{Headline}
 use Rattle.cbdc_model.specs.Waves.{IsResumed}
 use Rattle.node_journal.specs.Nodes.{NodeOf}
 use Rattle.lane_driver.specs.declared.fault.LaneFault.{LaneFault}
+use Rattle.lane_driver.specs.declared.fault.LaneFaultKind.TheVariants.{Memory as NoMemory}
 use Rattle.recovery.specs.declared.resumed.ResumedBatch.{ResumedBatch}
 use Rattle.ledger_runs.specs.Turning.{IsLaneOf, OfKept, StaysKept}
 use Rattle.ledger_runs.specs.Flying.{Launches}
 use Rattle.ledger_runs.specs.Telling.{SamePrepared, TellResumed}
 use Rattle.ledger_runs.specs.Least.{IsLeastOpen}
-use Rattle.ledger_runs.specs.Faults.{IsRunCause, HaveFailed, MayHoldBytes, LanesRest, AllRestSince}
+use Rattle.ledger_runs.specs.Faults.{IsRunCause, HaveFailed, MayHoldBytes, LanesRest}
 use Rattle.file_runs.specs.Ledgers.{LedgerOf, ledger_journals, ledger_flights, ledger_faults, ledger_opened, ledger_capacity, IsChecked, IsLedgerQuiet, KeepsLedgerOf}
 use Rattle.file_runs.specs.Runs.{joined, FliesWith}
 use Rattle.rack_ledgers.specs.Racked.{Disks}
@@ -31,6 +32,7 @@ use Rattle.cbdc_model.specs.Ranges.{node_count}
 use Rattle.printed_lines.specs.Unspent.{IsUnspentCount}
 use Rattle.rack_runs.specs.Kinds.{FliesBroken}
 use Rattle.rack_runs.specs.Endings.{IsInOrder}
+use Rattle.rack_runs.specs.Resting.{AllRestBehind}
 use Rattle.rack_runs.specs.Runs.{IsGrown, TookLedger, AddsOpen, Turns}
 use Rattle.rack_runs.specs.Stops.{WhyNoTurns}
 use Rattle.rack_runs.specs.declared.told.Told.{Told}
@@ -136,7 +138,6 @@ pub record LeavesAll {Done : Type 0} (d : Deed Done) (K : Shape) (E X : ℕ → 
   pub keeps : OfKept K E (λ mint submissions. StaysKept K E X mint (submissions ++ joined d.handed))
   pub flies : OfKept K E (FliesWith K (joined d.handed) E X before after)
   pub launches : Launches K (d.next K E X) E X before after
-  pub rests : AllRestSince K E X failed
   pub begun : IsWithinLimits K → BeginsWork d K E X
 
 -- all came through: the batches that were open, and what was done behind them
@@ -150,6 +151,7 @@ pub record AllWell {Done : Type 0} (d : Deed Done) (K : Shape) (E X : ℕ → Li
 pub record AllBadly {Done : Type 0} (d : Deed Done) (K : Shape) (E X : ℕ → List Record) (failed : ℕ → Type 0) (may_hold : ℕ → ℕ → Type 0) (e : LaneFault) : Type 0 where
   pub cause : IsRunCause K (d.next K E X) E X failed may_hold e
   pub ends : EndsWork d K E X failed may_hold e
+  pub rests : AllRestBehind K E X failed (e.fault ≡ NoMemory)
 
 -- The open batches of a ledger were brought to their end, and a work was done: what the ledger is behind it, and the result.
 pub record HasRunWork {D Done : Type 0} (device : Ghosts D) (d : Deed Done)

@@ -24,8 +24,9 @@
 //!   waves of the first of the files are at their end, and all records behind those are of batches that were not prepared then and that the next file
 //!   alone has begun. The journals of whatever kept ledger the rack showed have grown at their ends and are kept, each by its disk, with one record
 //!   more or without and with room for what is kept for its open batches; whatever a crash leaves of the disks opens to kept journals too, which
-//!   those at entry begin, with room for them and for what is kept for the batches open there; at the end nothing was written, or each lane is idle,
-//!   or its batch lacks a Lock, or the disk of a node that it asks has failed, or its batch was prepared and is so still, because memory ran out; and
+//!   those at entry begin, with room for them and for what is kept for the batches open there; at the end each lane is idle, or its batch lacks a
+//!   Lock, or the disk of a node that it asks has failed; or its batch was prepared and is so still because memory ran out, and that is the answer, or
+//!   a lesser lane has its batch open still; or that is the answer, and nothing was written; and
 //!   the fault is that of the least lane that met one, by its cause as of `run_files`: it came as the open batches were brought to their end, and all
 //!   lesser lanes are idle (where memory ran out that lane is prepared still, or nothing at all was done); or behind that a file, of which each
 //!   lesser lane has run all, as `run_files` says.

@@ -1,5 +1,5 @@
 -- A shard's parts stay a shard's behind a record.
-use Rattle.std.proofs.Common.{◌≡◌, ℕ, ◌+◌, ◌*◌, ◌≤◌, List, ◌∷◌, length, reverse, Option, Some, None, refl, sym, ◌∙◌, ap, subst, arith}
+use Rattle.std.proofs.Common.{◌≡◌, Bool, Ok, Err, ℕ, ◌+◌, ◌*◌, ◌≤◌, List, ◌∷◌, length, reverse, Option, Some, None, refl, sym, ◌∙◌, ap, subst, arith}
 use Rattle.std.specs.Prelude.{IfSome}
 use Rattle.std.proofs.lemmas.List.Sums.{sum_by-cons}
 use Rattle.cbdc_types.specs.Limits.{IsWithinLimits}
@@ -8,7 +8,7 @@ use Rattle.cbdc_model.specs.Grammar.{IsShard}
 use Rattle.cbdc_model.specs.After.{After, IsJournal}
 use Rattle.cbdc_model.specs.Room.{kept_room, size_of, need_of}
 use Rattle.cbdc_model.specs.Due.{used_of}
-use Rattle.cbdc_model.specs.Sights.{IsBrokenSince, Stays, Appends, Fails}
+use Rattle.cbdc_model.specs.Sights.{IsBrokenSince, Stays}
 use Rattle.outside.specs.declared.disk.Disk.{Ghosts}
 use Rattle.gate_journal.specs.Shown.{disk_of, gate_of, broken_of}
 use Rattle.record_log.specs.Logs.{HasLogRoom}
@@ -16,7 +16,12 @@ use Rattle.record_log.proofs.LogSizes.{size_is}
 use Rattle.shard_core.specs.declared.core_state.ShardCore.{ShardCore}
 use Rattle.shard_core.specs.Stands.{ShardStands, IsSameState}
 use Rattle.shard_node.specs.declared.parts.Parts.{Parts}
-use Rattle.node_journal.specs.Nodes.{sight}
+use Rattle.cbdc_types.specs.declared.calls.NodeFault.{NodeFault}
+use Rattle.cbdc_types.specs.declared.calls.NodeFault.TheVariants.{DiskFault}
+use Rattle.cbdc_model.specs.Due.{Due, Writes}
+use Rattle.node_journal.specs.Nodes.{NodeOf, sight, HoldsJournal, LeavesBetween}
+use Rattle.node_journal.specs.Answered.{HasAnswered}
+use Rattle.node_journal.proofs.Answered.{answered_wrote, answered_failed}
 use Rattle.shard_node.specs.Parts.{HaveDecisions, HasRecords, IsShardOf, HasWritten, HasFailedAt, journal_of_parts, view_of}
 use Rattle.shard_core.proofs.Same.{stands_same}
 use Rattle.node_journal.proofs.Journals.{journal_goes_on}
@@ -124,8 +129,16 @@ module _ {D : Type 0} {G : Ghosts D} where
   pub parts_stay : (p : Parts D G) → Stays (sight (view_of p)) (sight (view_of p)) (journal_of_parts p)
   parts_stay p = record { node = record { header = refl; opened = refl; capacity = refl; later = omega arith }; seen = refl; flight = refl }
 
-  pub parts_append : (p new : Parts D G) (r : Record) → HasWritten p new r → Appends (sight (view_of p)) (sight (view_of new)) (journal_of_parts p) r
-  parts_append p new r w = grew p.log new.log p.opened new.opened p.flight new.flight r w.log w.opened w.flight
+  -- a call that wrote its record, once what it needs was taken, which isn't seen
+  pub call_wrote : {A : Type 0} (memory : Bool) (due : Due A) (a : A) (p q new : Parts D G) (r : Record) → due ≡ Writes a r → view_of q ≡ view_of p → broken_of q.log.journal ≡ None → HasWritten q new r → IsShardOf new
+      → (HoldsJournal G (view_of q) → HoldsJournal G (view_of new)) → (HoldsJournal G (view_of q) → LeavesBetween G (view_of q) (view_of new)) → HasAnswered G memory due (view_of p) (view_of new) (Ok a)
+  call_wrote memory due a p q new r owes seen whole w is holds leaves =
+      subst (λ (v : NodeOf D). HasAnswered G memory due v (view_of new) (Ok a)) seen
+      (answered_wrote G memory due (view_of q) (view_of new) a r owes (grew q.log new.log q.opened new.opened q.flight new.flight r w.log w.opened w.flight) (w.log.broken ∙ sym whole) is.journal holds leaves)
 
-  pub parts_fail : (p new : Parts D G) (r : Record) → HasFailedAt p new r → Fails (sight (view_of p)) (sight (view_of new)) (journal_of_parts p) r
-  parts_fail p new r f = broke p.log new.log p.opened new.opened p.flight new.flight r f.log f.opened f.flight
+  -- one at whose record the disk failed
+  pub call_failed : {A : Type 0} (memory : Bool) (due : Due A) (a : A) (p q new : Parts D G) (r : Record) (fault : NodeFault) → fault ≡ DiskFault → due ≡ Writes a r → view_of q ≡ view_of p → HasFailedAt q new r → IsShardOf new
+      → (HoldsJournal G (view_of q) → HoldsJournal G (view_of new)) → (HoldsJournal G (view_of q) → LeavesBetween G (view_of q) (view_of new)) → HasAnswered G memory due (view_of p) (view_of new) (Err fault)
+  call_failed memory due a p q new r fault e owes seen f is holds leaves =
+      subst (λ (v : NodeOf D). HasAnswered G memory due v (view_of new) (Err fault)) seen
+      (answered_failed G memory due (view_of q) (view_of new) a r fault e owes (broke q.log new.log q.opened new.opened q.flight new.flight r f.log f.opened f.flight) f.log.broken is.journal holds leaves)

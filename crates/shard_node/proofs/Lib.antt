@@ -6,4 +6,3 @@ pub mod Owed
 pub mod Stamps
 pub mod Locks
 pub mod Opens
-pub mod Later

@@ -1,12 +1,11 @@
 -- Lock: the room and the memory for its batch are taken first.
-use Rattle.std.proofs.Common.{◌≡◌, ◌≢◌, inr, ℕ, ◌+◌, ◌-◌, ◌*◌, ◌/◌, ◌^◌, ◌≤◌, ◌<◌, min, Bool, true, List, [], ◌∷◌, length, reverse, vec_capacity, Option, Some, None, Ok, Err, sym, ◌∙◌, ap, subst, arith}
+use Rattle.std.proofs.Common.{◌≡◌, ◌≢◌, ℕ, ◌+◌, ◌-◌, ◌*◌, ◌/◌, ◌^◌, ◌≤◌, ◌<◌, min, Bool, List, [], ◌∷◌, length, reverse, vec_capacity, Option, Some, None, Err, sym, ◌∙◌, ap, subst, arith}
 use Rattle.std.specs.Global.{Vec}
 use Rattle.std.specs.Prelude.{slice_get, IfSome}
 use Rattle.std.proofs.lemmas.List.Sums.{sum_by-cons}
 use Rattle.cbdc_types.specs.declared.calls.LockCall.{LockCall}
 use Rattle.cbdc_types.specs.declared.calls.Replied.{Replied}
-use Rattle.cbdc_types.specs.declared.calls.NodeFault.{NodeFault}
-use Rattle.cbdc_types.specs.declared.calls.NodeFault.TheVariants.{DiskFault, Full}
+use Rattle.cbdc_types.specs.declared.calls.NodeFault.TheVariants.{Full}
 use Rattle.cbdc_model.specs.Records.{Header, Record, Answered, Lock}
 use Rattle.cbdc_model.specs.Slots.{slot, Idle, InLock}
 use Rattle.cbdc_types.specs.Limits.{IsWithinLimits}
@@ -16,7 +15,7 @@ use Rattle.cbdc_model.specs.Replies.{answered, entries, replies}
 use Rattle.cbdc_model.specs.Room.{kept_room, size_of, need_of}
 use Rattle.cbdc_model.specs.Due.{lock_due, lock_record, used_of, Answers, Writes}
 use Rattle.cbdc_model.specs.Next.{Append, next_lock, next_stamp}
-use Rattle.cbdc_model.specs.Sights.{IsBrokenSince, Meets, MeetsFault, Appends, Fails}
+use Rattle.cbdc_model.specs.Sights.{IsBrokenSince}
 use Rattle.outside.specs.declared.disk.Disk.{Ghosts}
 use Rattle.gate_journal.specs.Shown.{disk_of, gate_of, broken_of}
 use Rattle.record_log.specs.Bodies.{body_of}
@@ -29,15 +28,13 @@ use Rattle.shard_core.proofs.Applies.{Yes, No, same_nat}
 use Rattle.shard_core.proofs.Follow.{answered_same}
 use Rattle.shard_node.specs.declared.parts.Parts.{Parts}
 use Rattle.cbdc_model.specs.Calls.{IsLockCall}
-use Rattle.node_journal.specs.Nodes.{NodeOf, sight}
-use Rattle.shard_node.specs.Parts.{HaveDecisions, HasRecords, IsShardOf, HasWritten, HasFailedAt, IsLockOf, journal_of_parts, view_of}
+use Rattle.shard_node.specs.Parts.{HaveDecisions, HasRecords, IsShardOf, HasWritten, HasFailedAt, IsLockOf, journal_of_parts}
 use Rattle.shard_node.proofs.Lanes.{IsLockedWith, same_room, same_lock, past_lock, own_lock, locked_room, room_idle}
 use Rattle.shard_node.proofs.Rooms.{kept_moves}
 use Rattle.shard_node.proofs.Follows.{LockFollows, lock_appends, lock_after, length_answered}
 use Rattle.node_journal.proofs.Journals.{in_grammar}
 use Rattle.node_journal.proofs.Kept.{kept_small}
-use Rattle.node_journal.proofs.Leaving.{shown_same}
-use Rattle.shard_node.proofs.Keeps.{parts_standing, written_is_shard, failed, parts_append, parts_fail}
+use Rattle.shard_node.proofs.Keeps.{parts_standing, written_is_shard, failed}
 use Rattle.shard_node.proofs.Owed.{lock_writes, lock_full}
 
 -- the Lock that was made is the one that is owed
@@ -174,8 +171,8 @@ module _ {D : Type 0} {G : Ghosts D} where
               failed mid new N (parts_standing mid (taken_shard log memory t)) (subst (λ (x : Record). HasFailedAt mid new x) next_is f) after
               (omega (arith, total, need_is, needed, ap used_of same, ap G.limit t.untouched.disk))
 
-          due : lock_due p.log.header.shape (G.limit (disk_of p.log.journal)) c None (journal_of_parts p) ≡ Writes r (lock_record (journal_of_parts p) c)
-          due = lock_writes p.log.header.shape (G.limit (disk_of p.log.journal)) c (journal_of_parts p) r planned early (omega (arith, total, need_is))
+          pub lock_owes : lock_due p.log.header.shape (G.limit (disk_of p.log.journal)) c None (journal_of_parts p) ≡ Writes r next
+          lock_owes = lock_writes p.log.header.shape (G.limit (disk_of p.log.journal)) c (journal_of_parts p) r planned early (omega (arith, total, need_is)) ∙ ap (λ (x : Record). Writes r x) (sym next_is)
 
           pub lock_wrote : (new : Parts D G) → HasWritten {D = D} {G = G} (record { log = log; core = p.core; decisions = memory; flight = p.flight; opened = p.opened }) new next → IsShardOf new
           lock_wrote new w =
@@ -208,33 +205,3 @@ module _ {D : Type 0} {G : Ghosts D} where
               (subst (λ (l : List Record). HaveDecisions (N ∷ l) memory.items) (sym same) decisions) ((76 + len + kept) / 34 + 1)
               (record { records = omega (arith, room.records); body = omega (arith, room.body, enough); row = omega (arith, room.row, enough) })
               (omega (arith, keeps, len_is, kept_is, kept_now)) sound.landed
-
-          pub lock_done : (new : Parts D G) → HasWritten {D = D} {G = G} (record { log = log; core = p.core; decisions = memory; flight = p.flight; opened = p.opened }) new next
-              → Meets true (lock_due p.log.header.shape (G.limit (disk_of p.log.journal)) c None (journal_of_parts p)) (sight (view_of p)) (sight (view_of new)) (journal_of_parts p) (Ok r)
-          lock_done new w =
-              let mid : Parts D G = record { log = log; core = p.core; decisions = memory; flight = p.flight; opened = p.opened } in
-              let N : Record = lock_record (journal_of_parts p) c in
-              let w2 : HasWritten mid new N = subst (λ (x : Record). HasWritten mid new x) next_is w in
-              let same : reverse log.records.items ≡ journal_of_parts p = ap reverse t.records in
-              inr (
-                N,
-                due,
-                subst (λ (v : NodeOf D). Appends (sight v) (sight (view_of new)) (journal_of_parts p) N) (shown_same p.log log p.opened p.flight t.untouched t.records t.header)
-                    (subst (λ (j : List Record). Appends (sight (view_of mid)) (sight (view_of new)) j N) same (parts_append mid new N w2)),
-              )
-
-          pub lock_failed : (new : Parts D G) (fault : NodeFault) → fault ≡ DiskFault → HasFailedAt {D = D} {G = G} (record { log = log; core = p.core; decisions = memory; flight = p.flight; opened = p.opened }) new next
-              → Meets true (lock_due p.log.header.shape (G.limit (disk_of p.log.journal)) c None (journal_of_parts p)) (sight (view_of p)) (sight (view_of new)) (journal_of_parts p) (Err fault)
-          lock_failed new fault e f =
-              let mid : Parts D G = record { log = log; core = p.core; decisions = memory; flight = p.flight; opened = p.opened } in
-              let N : Record = lock_record (journal_of_parts p) c in
-              let f2 : HasFailedAt mid new N = subst (λ (x : Record). HasFailedAt mid new x) next_is f in
-              let same : reverse log.records.items ≡ journal_of_parts p = ap reverse t.records in
-              let told : MeetsFault true (lock_due p.log.header.shape (G.limit (disk_of p.log.journal)) c None (journal_of_parts p)) (sight (view_of p)) (sight (view_of new)) (journal_of_parts p) DiskFault = (
-                r,
-                N,
-                due,
-                subst (λ (v : NodeOf D). Fails (sight v) (sight (view_of new)) (journal_of_parts p) N) (shown_same p.log log p.opened p.flight t.untouched t.records t.header)
-                    (subst (λ (j : List Record). Fails (sight (view_of mid)) (sight (view_of new)) j N) same (parts_fail mid new N f2)),
-              ) in
-              subst (λ (x : NodeFault). MeetsFault true (lock_due p.log.header.shape (G.limit (disk_of p.log.journal)) c None (journal_of_parts p)) (sight (view_of p)) (sight (view_of new)) (journal_of_parts p) x) (sym e) told

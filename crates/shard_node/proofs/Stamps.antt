@@ -1,18 +1,15 @@
 -- Finish and Forget: the room and the memory that the Lock took are there.
-use Rattle.std.proofs.Common.{◌≡◌, ◌≢◌, inr, ℕ, ◌+◌, ◌-◌, ◌*◌, ◌^◌, ◌≤◌, Bool, false, List, ◌∷◌, length, vec_capacity, Some, None, Ok, Err, sym, ◌∙◌, ap, subst, arith}
+use Rattle.std.proofs.Common.{◌≡◌, ◌≢◌, ℕ, ◌+◌, ◌-◌, ◌*◌, ◌^◌, ◌≤◌, Bool, List, ◌∷◌, length, vec_capacity, Some, None, sym, ◌∙◌, ap, subst, arith}
 use Rattle.std.specs.Global.{Vec}
 use Rattle.std.specs.Prelude.{slice_get}
 use Rattle.std.proofs.lemmas.List.Sums.{sum_by-cons}
 use Rattle.cbdc_types.specs.declared.calls.FinishCall.{FinishCall}
 use Rattle.cbdc_types.specs.declared.calls.ForgetCall.{ForgetCall}
-use Rattle.cbdc_types.specs.declared.calls.NodeFault.{NodeFault}
-use Rattle.cbdc_types.specs.declared.calls.NodeFault.TheVariants.{DiskFault}
 use Rattle.cbdc_model.specs.Records.{Header, Record, lock_of, Finish, Forget}
 use Rattle.cbdc_model.specs.After.{After}
 use Rattle.cbdc_model.specs.Room.{kept_room, size_of}
-use Rattle.cbdc_model.specs.Due.{finish_due, forget_due}
+use Rattle.cbdc_model.specs.Due.{Writes, finish_due, forget_due}
 use Rattle.cbdc_model.specs.Next.{Append, next_finish, next_forget}
-use Rattle.cbdc_model.specs.Sights.{Meets, MeetsFault}
 use Rattle.outside.specs.declared.disk.Disk.{Ghosts}
 use Rattle.gate_journal.specs.Shown.{disk_of, gate_of, broken_of}
 use Rattle.record_log.specs.Bodies.{body_of}
@@ -22,12 +19,11 @@ use Rattle.record_log.proofs.LogSizes.{size_is}
 use Rattle.shard_core.proofs.Applies.{Yes, No, same_nat}
 use Rattle.shard_node.specs.declared.parts.Parts.{Parts}
 use Rattle.cbdc_model.specs.Calls.{IsFinishCall, IsForgetCall}
-use Rattle.node_journal.specs.Nodes.{sight}
-use Rattle.shard_node.specs.Parts.{HasRecords, IsShardOf, HasWritten, HasFailedAt, journal_of_parts, view_of}
+use Rattle.shard_node.specs.Parts.{HasRecords, IsShardOf, HasWritten, HasFailedAt, journal_of_parts}
 use Rattle.shard_node.proofs.Lanes.{IsLockedWith, same_room, same_lock, past_finish, past_forget, own_finish, own_forget, room_locked, room_finished, finished_room, forgotten_room}
 use Rattle.shard_node.proofs.Rooms.{kept_moves}
 use Rattle.shard_node.proofs.Follows.{FinishFollows, ForgetFollows, finish_appends, finish_after, fits_length, forget_appends, forget_after}
-use Rattle.shard_node.proofs.Keeps.{parts_standing, written_is_shard, failed, parts_append, parts_fail}
+use Rattle.shard_node.proofs.Keeps.{parts_standing, written_is_shard, failed}
 use Rattle.shard_node.proofs.Owed.{finish_writes, forget_writes}
 
 -- what a Finish and a Forget leave to be kept
@@ -102,16 +98,8 @@ module _ {D : Type 0} {G : Ghosts D} where
         (record { header = is.header; stands = is.stands; journal = is.journal; shard = is.shard; limits = is.limits; lanes = len ∙ is.lanes; opened = is.opened; room = is.room }) f finish_fits
         (let sound = is.sound whole in omega (arith, sound.used, finish_room, finish_size))
 
-    pub finish_done : (memory : Vec (Vec Bool)) (new : Parts D G) → HasWritten (record p { decisions = memory }) new (Finish t c.batch c.decisions)
-        → Meets false (finish_due c None (journal_of_parts p)) (sight (view_of p)) (sight (view_of new)) (journal_of_parts p) (Ok t)
-    finish_done memory new w = inr (Finish t c.batch c.decisions, finish_writes c (journal_of_parts p) t planned finish_next.is early, parts_append (record p { decisions = memory }) new (Finish t c.batch c.decisions) w)
-
-    pub finish_failed : (memory : Vec (Vec Bool)) (new : Parts D G) (fault : NodeFault) → fault ≡ DiskFault → HasFailedAt (record p { decisions = memory }) new (Finish t c.batch c.decisions)
-        → Meets false (finish_due c None (journal_of_parts p)) (sight (view_of p)) (sight (view_of new)) (journal_of_parts p) (Err fault)
-    finish_failed memory new fault e f =
-        let told : MeetsFault false (finish_due c None (journal_of_parts p)) (sight (view_of p)) (sight (view_of new)) (journal_of_parts p) DiskFault
-        = (t, Finish t c.batch c.decisions, finish_writes c (journal_of_parts p) t planned finish_next.is early, parts_fail (record p { decisions = memory }) new (Finish t c.batch c.decisions) f) in
-        subst (λ (x : NodeFault). MeetsFault false (finish_due c None (journal_of_parts p)) (sight (view_of p)) (sight (view_of new)) (journal_of_parts p) x) (sym e) told
+    pub finish_owes : finish_due c None (journal_of_parts p) ≡ Writes t (Finish t c.batch c.decisions)
+    finish_owes = finish_writes c (journal_of_parts p) t planned finish_next.is early
 
   -- ---- Forget
 
@@ -149,13 +137,5 @@ module _ {D : Type 0} {G : Ghosts D} where
     pub forget_left : (new : Parts D G) → HasFailedAt p new (Forget t c.batch) → IsShardOf new
     forget_left new f = failed p new (Forget t c.batch) (parts_standing p is) f forget_fits (let sound = is.sound whole in omega (arith, sound.used, forget_room, forget_size))
 
-    pub forget_done : (new : Parts D G) → HasWritten p new (Forget t c.batch)
-        → Meets false (forget_due c None (journal_of_parts p)) (sight (view_of p)) (sight (view_of new)) (journal_of_parts p) (Ok t)
-    forget_done new w = inr (Forget t c.batch, forget_writes c (journal_of_parts p) t planned forget_next.is early, parts_append p new (Forget t c.batch) w)
-
-    pub forget_failed : (new : Parts D G) (fault : NodeFault) → fault ≡ DiskFault → HasFailedAt p new (Forget t c.batch)
-        → Meets false (forget_due c None (journal_of_parts p)) (sight (view_of p)) (sight (view_of new)) (journal_of_parts p) (Err fault)
-    forget_failed new fault e f =
-        let told : MeetsFault false (forget_due c None (journal_of_parts p)) (sight (view_of p)) (sight (view_of new)) (journal_of_parts p) DiskFault
-        = (t, Forget t c.batch, forget_writes c (journal_of_parts p) t planned forget_next.is early, parts_fail p new (Forget t c.batch) f) in
-        subst (λ (x : NodeFault). MeetsFault false (forget_due c None (journal_of_parts p)) (sight (view_of p)) (sight (view_of new)) (journal_of_parts p) x) (sym e) told
+    pub forget_owes : forget_due c None (journal_of_parts p) ≡ Writes t (Forget t c.batch)
+    forget_owes = forget_writes c (journal_of_parts p) t planned forget_next.is early

@@ -4,12 +4,11 @@ ghost use Rattle.std.specs.Global.{Vec as GhostVec};
 ghost use Rattle.gate_journal.specs.Shown.{disk_of, broken_of};
 ghost use Rattle.cbdc_model.specs.Due.{lock_due};
 ghost use Rattle.cbdc_model.specs.Next.{next_lock, Append};
-ghost use Rattle.cbdc_model.specs.Sights.{Meets};
 ghost use Rattle.record_log.specs.Logs.{HasLogRoom, KeepsRoom, IsUntouched};
 ghost use Rattle.shard_core.specs.Plans.{core_replies};
 ghost use Rattle.shard_core.specs.Stands.{IsLockReady, IsLaneFree};
 ghost use Rattle.cbdc_model.specs.Calls.{IsLockCall};
-ghost use Rattle.node_journal.specs.Nodes.{sight, HoldsJournal, LeavesBetween, broken_behind};
+ghost use Rattle.node_journal.specs.Answered.{HasAnswered};
 ghost use Rattle.shard_node.specs.Parts.{IsShardOf, IsLockOf, journal_of_parts, view_of};
 
 use crate::parts::Parts;
@@ -88,14 +87,9 @@ fn append_lock<D: Disk>(
     requires ready { IsLockReady parts.old.core call.now.part replied.replies }
     requires free { IsLaneFree parts.old.core call.now.batch.lane }
     ensures shard { IsShardOf parts.new }
-    ensures meets { Meets true (lock_due parts.old.log.header.shape
+    ensures answered { HasAnswered D.Disk true (lock_due parts.old.log.header.shape
         (D.limit (disk_of parts.old.log.journal)) call.now None (journal_of_parts parts.old))
-        (sight (view_of parts.old)) (sight (view_of parts.new)) (journal_of_parts parts.old) result }
-    ensures broken { broken_of parts.new.log.journal
-        ≡ broken_behind result (D.count (disk_of parts.new.log.journal)) None }
-    ensures holds { HoldsJournal D.Disk (view_of parts.old) → HoldsJournal D.Disk (view_of parts.new) }
-    ensures leaves { HoldsJournal D.Disk (view_of parts.old)
-        → LeavesBetween D.Disk (view_of parts.old) (view_of parts.new) }
+        (view_of parts.old) (view_of parts.new) result }
 {
     let stamp = replied.stamp;
     if stamp.0 > LAST_LOCK {
@@ -143,14 +137,10 @@ pub(crate) fn lock_parts<D: Disk>(
     requires shard { IsShardOf parts.old }
     requires call { IsLockCall parts.old.log.header call.now }
     ensures shard { IsShardOf parts.new }
-    ensures meets { Meets true (lock_due parts.old.log.header.shape (D.limit (disk_of parts.old.log.journal))
-        call.now (broken_of parts.old.log.journal) (journal_of_parts parts.old))
-        (sight (view_of parts.old)) (sight (view_of parts.new)) (journal_of_parts parts.old) result }
-    ensures broken { broken_of parts.new.log.journal
-        ≡ broken_behind result (D.count (disk_of parts.new.log.journal)) (broken_of parts.old.log.journal) }
-    ensures holds { HoldsJournal D.Disk (view_of parts.old) → HoldsJournal D.Disk (view_of parts.new) }
-    ensures leaves { HoldsJournal D.Disk (view_of parts.old)
-        → LeavesBetween D.Disk (view_of parts.old) (view_of parts.new) }
+    ensures answered { HasAnswered D.Disk true (lock_due parts.old.log.header.shape
+        (D.limit (disk_of parts.old.log.journal)) call.now
+        (broken_of parts.old.log.journal) (journal_of_parts parts.old))
+        (view_of parts.old) (view_of parts.new) result }
 {
     if let Some(since) = parts.log.is_broken() {
         return Err(NodeFault::Broken { since });

@@ -2,7 +2,7 @@
 ghost use Rattle.std.specs.Prelude.{◌≡◌, ◌↔◌, ◌+◌, ◌≤◌, true, false, None, IsTrue, IsSome, IfSome, reverse};
 ghost use Rattle.cbdc_model.specs.Due.{used_of, lock_due, finish_due, forget_due};
 ghost use Rattle.cbdc_model.specs.Room.{kept_room, need_of};
-ghost use Rattle.cbdc_model.specs.Sights.{Meets, IsBrokenSince};
+ghost use Rattle.cbdc_model.specs.Sights.{IsBrokenSince};
 ghost use Rattle.cbdc_model.specs.After.{After, IsJournal};
 ghost use Rattle.cbdc_model.specs.Grammar.{IsShard};
 ghost use Rattle.cbdc_model.specs.Status.{status};
@@ -10,7 +10,7 @@ ghost use Rattle.cbdc_model.specs.Fates.{fate};
 ghost use Rattle.shard_core.specs.Counts.{CountsUnspent};
 ghost use Rattle.shard_core.specs.Remembers.{told_fate};
 ghost use Rattle.cbdc_model.specs.Calls.{IsLockCall, IsFinishCall, IsForgetCall};
-ghost use Rattle.node_journal.specs.Nodes.{sight, HoldsJournal, LeavesBetween, broken_behind};
+ghost use Rattle.node_journal.specs.Answered.{HasAnswered};
 
 use crate::locking::lock_parts;
 use crate::parts::Parts;
@@ -58,16 +58,8 @@ impl<D: Disk> ShardNode<D> {
     /// Out of memory: before its first write; the shard's journal is as before.
     pub fn lock(&mut self, call: &LockCall) -> Result<Replied, NodeFault>
         requires { IsLockCall self.old.header call.now }
-        ensures meets { Meets true (lock_due self.old.header.shape self.old.capacity call.now
-            self.old.broken self.old.journal) (sight self.old) (sight self.new) self.old.journal result }
-        ensures broken { self.new.broken ≡ broken_behind result self.new.faults self.old.broken }
-        ensures later { self.old.faults ≤ self.new.faults }
-        ensures header { self.new.header ≡ self.old.header }
-        ensures journal { IsJournal self.new.header self.new.journal }
-        ensures holds { HoldsJournal D.Disk self.old → HoldsJournal D.Disk self.new }
-
-        // A crash at any moment of the call leaves the journal from before it or the one behind it.
-        ensures leaves { HoldsJournal D.Disk self.old → LeavesBetween D.Disk self.old self.new }
+        ensures { HasAnswered D.Disk true (lock_due self.old.header.shape self.old.capacity call.now
+            self.old.broken self.old.journal) self.old self.new result }
     {
         lock_parts(self.alloc, &mut self.parts, call)
     }
@@ -77,16 +69,8 @@ impl<D: Disk> ShardNode<D> {
     /// Out of memory: never.
     pub fn finish(&mut self, call: &FinishCall) -> Result<Stamp, NodeFault>
         requires { IsFinishCall self.old.header call.now }
-        ensures meets { Meets false (finish_due call.now self.old.broken self.old.journal)
-            (sight self.old) (sight self.new) self.old.journal result }
-        ensures broken { self.new.broken ≡ broken_behind result self.new.faults self.old.broken }
-        ensures later { self.old.faults ≤ self.new.faults }
-        ensures header { self.new.header ≡ self.old.header }
-        ensures journal { IsJournal self.new.header self.new.journal }
-        ensures holds { HoldsJournal D.Disk self.old → HoldsJournal D.Disk self.new }
-
-        // A crash at any moment of the call leaves the journal from before it or the one behind it.
-        ensures leaves { HoldsJournal D.Disk self.old → LeavesBetween D.Disk self.old self.new }
+        ensures { HasAnswered D.Disk false (finish_due call.now self.old.broken self.old.journal)
+            self.old self.new result }
     {
         finish_parts(self.alloc, &mut self.parts, call)
     }
@@ -96,16 +80,8 @@ impl<D: Disk> ShardNode<D> {
     /// Out of memory: never.
     pub fn forget(&mut self, call: &ForgetCall) -> Result<Stamp, NodeFault>
         requires { IsForgetCall self.old.header call.now }
-        ensures meets { Meets false (forget_due call.now self.old.broken self.old.journal)
-            (sight self.old) (sight self.new) self.old.journal result }
-        ensures broken { self.new.broken ≡ broken_behind result self.new.faults self.old.broken }
-        ensures later { self.old.faults ≤ self.new.faults }
-        ensures header { self.new.header ≡ self.old.header }
-        ensures journal { IsJournal self.new.header self.new.journal }
-        ensures holds { HoldsJournal D.Disk self.old → HoldsJournal D.Disk self.new }
-
-        // A crash at any moment of the call leaves the journal from before it or the one behind it.
-        ensures leaves { HoldsJournal D.Disk self.old → LeavesBetween D.Disk self.old self.new }
+        ensures { HasAnswered D.Disk false (forget_due call.now self.old.broken self.old.journal)
+            self.old self.new result }
     {
         forget_parts(&mut self.parts, call)
     }

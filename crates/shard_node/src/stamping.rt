@@ -1,14 +1,13 @@
 // Finish and Forget: their room and memory were taken by the Lock.
 ghost use Rattle.std.specs.Prelude.{◌≡◌, ◌≢◌, ◌≤◌, ◌<◌, ℕ, Bool, false, None, Some, length, vec_capacity, slice_get};
 ghost use Rattle.std.specs.Global.{Vec as GhostVec};
-ghost use Rattle.gate_journal.specs.Shown.{disk_of, broken_of};
+ghost use Rattle.gate_journal.specs.Shown.{broken_of};
 ghost use Rattle.cbdc_model.specs.Due.{finish_due, forget_due};
 ghost use Rattle.cbdc_model.specs.Next.{next_finish, next_forget, Append};
-ghost use Rattle.cbdc_model.specs.Sights.{Meets};
 ghost use Rattle.shard_core.specs.Admitted.{IsFinishable};
 ghost use Rattle.shard_core.specs.Stands.{IsLanePast};
 ghost use Rattle.cbdc_model.specs.Calls.{IsFinishCall, IsForgetCall};
-ghost use Rattle.node_journal.specs.Nodes.{sight, HoldsJournal, LeavesBetween, broken_behind};
+ghost use Rattle.node_journal.specs.Answered.{HasAnswered};
 ghost use Rattle.shard_node.specs.Parts.{IsShardOf, journal_of_parts, view_of};
 
 use crate::parts::Parts;
@@ -57,13 +56,8 @@ fn append_finish<D: Disk>(
         ≡ Append stamp }
     requires locked { IsFinishable parts.old.core call.now.batch call.now.decisions }
     ensures shard { IsShardOf parts.new }
-    ensures meets { Meets false (finish_due call.now None (journal_of_parts parts.old))
-        (sight (view_of parts.old)) (sight (view_of parts.new)) (journal_of_parts parts.old) result }
-    ensures broken { broken_of parts.new.log.journal
-        ≡ broken_behind result (D.count (disk_of parts.new.log.journal)) None }
-    ensures holds { HoldsJournal D.Disk (view_of parts.old) → HoldsJournal D.Disk (view_of parts.new) }
-    ensures leaves { HoldsJournal D.Disk (view_of parts.old)
-        → LeavesBetween D.Disk (view_of parts.old) (view_of parts.new) }
+    ensures answered { HasAnswered D.Disk false (finish_due call.now None (journal_of_parts parts.old))
+        (view_of parts.old) (view_of parts.new) result }
 {
     if stamp.0 > LAST_STAMP {
         return Err(NodeFault::ClockEnd { stamp });
@@ -97,13 +91,8 @@ fn append_forget<D: Disk>(
     requires next { next_forget (journal_of_parts parts.old) call.now.batch call.now.cause ≡ Append stamp }
     requires done { IsLanePast parts.old.core call.now.batch.lane }
     ensures shard { IsShardOf parts.new }
-    ensures meets { Meets false (forget_due call.now None (journal_of_parts parts.old))
-        (sight (view_of parts.old)) (sight (view_of parts.new)) (journal_of_parts parts.old) result }
-    ensures broken { broken_of parts.new.log.journal
-        ≡ broken_behind result (D.count (disk_of parts.new.log.journal)) None }
-    ensures holds { HoldsJournal D.Disk (view_of parts.old) → HoldsJournal D.Disk (view_of parts.new) }
-    ensures leaves { HoldsJournal D.Disk (view_of parts.old)
-        → LeavesBetween D.Disk (view_of parts.old) (view_of parts.new) }
+    ensures answered { HasAnswered D.Disk false (forget_due call.now None (journal_of_parts parts.old))
+        (view_of parts.old) (view_of parts.new) result }
 {
     if stamp.0 > LAST_STAMP {
         return Err(NodeFault::ClockEnd { stamp });
@@ -127,14 +116,9 @@ pub(crate) fn finish_parts<D: Disk>(
     requires shard { IsShardOf parts.old }
     requires call { IsFinishCall parts.old.log.header call.now }
     ensures shard { IsShardOf parts.new }
-    ensures meets { Meets false
+    ensures answered { HasAnswered D.Disk false
         (finish_due call.now (broken_of parts.old.log.journal) (journal_of_parts parts.old))
-        (sight (view_of parts.old)) (sight (view_of parts.new)) (journal_of_parts parts.old) result }
-    ensures broken { broken_of parts.new.log.journal
-        ≡ broken_behind result (D.count (disk_of parts.new.log.journal)) (broken_of parts.old.log.journal) }
-    ensures holds { HoldsJournal D.Disk (view_of parts.old) → HoldsJournal D.Disk (view_of parts.new) }
-    ensures leaves { HoldsJournal D.Disk (view_of parts.old)
-        → LeavesBetween D.Disk (view_of parts.old) (view_of parts.new) }
+        (view_of parts.old) (view_of parts.new) result }
 {
     if let Some(since) = parts.log.is_broken() {
         return Err(NodeFault::Broken { since });
@@ -154,14 +138,9 @@ pub(crate) fn forget_parts<D: Disk>(
     requires shard { IsShardOf parts.old }
     requires call { IsForgetCall parts.old.log.header call.now }
     ensures shard { IsShardOf parts.new }
-    ensures meets { Meets false
+    ensures answered { HasAnswered D.Disk false
         (forget_due call.now (broken_of parts.old.log.journal) (journal_of_parts parts.old))
-        (sight (view_of parts.old)) (sight (view_of parts.new)) (journal_of_parts parts.old) result }
-    ensures broken { broken_of parts.new.log.journal
-        ≡ broken_behind result (D.count (disk_of parts.new.log.journal)) (broken_of parts.old.log.journal) }
-    ensures holds { HoldsJournal D.Disk (view_of parts.old) → HoldsJournal D.Disk (view_of parts.new) }
-    ensures leaves { HoldsJournal D.Disk (view_of parts.old)
-        → LeavesBetween D.Disk (view_of parts.old) (view_of parts.new) }
+        (view_of parts.old) (view_of parts.new) result }
 {
     if let Some(since) = parts.log.is_broken() {
         return Err(NodeFault::Broken { since });

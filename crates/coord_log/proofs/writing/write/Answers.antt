@@ -1,5 +1,8 @@
-use Rattle.std.proofs.Common.{refl, ◌∙◌, arith}
-use Rattle.node_journal.proofs.Behind.{shown_appends, shown_fails, by_result, matched}
+use Rattle.std.proofs.Common.{false, refl, sym, ◌∙◌, arith}
+use Rattle.node_journal.specs.Answered.{HasAnswered, one_write}
+use Rattle.node_journal.specs.Shown.{shown}
+use Rattle.node_journal.proofs.Behind.{shown_appends, shown_fails, by_result, at_result}
+use Rattle.node_journal.proofs.Answered.{answered_wrote, answered_failed}
 use Rattle.coord_log.proofs.Written.{own_memory, own_room, sound_after, sound_broken}
 use Rattle.coord_log.proofs.writing.write.Goals as goal
 
@@ -9,12 +12,6 @@ write_next-requires-clause-memory g c = own_memory c.args.log.now c.args.core.no
 pub write_next-requires-clause-room : goal.write_next-requires-clause-room
 write_next-requires-clause-room g c = own_room c.args.log.now c.args.core.now c.args.flight.now c.args.next c.requires
 
-pub returns-clause-told : goal.returns-clause-told
-returns-clause-told g c = λ opened.
-    let w = c.write_next in
-    matched w.result w.ensures.written w.ensures.failed w.ensures.fault (λ written _. shown_appends c.args.log.now w.new.log opened opened c.args.flight.now w.new.flight c.args.next written.0 refl written.1)
-    (λ failed e is. (is, shown_fails c.args.log.now w.new.log opened opened c.args.flight.now w.new.flight c.args.next failed.0 refl failed.1))
-
 pub returns-clause-sound : goal.returns-clause-sound
 returns-clause-sound g c = λ opened since.
     let w = c.write_next in
@@ -22,20 +19,17 @@ returns-clause-sound g c = λ opened since.
     (λ written. sound_after c.args.log.now w.new.log c.args.core.now w.new.core c.args.flight.now w.new.flight c.args.next opened c.requires since written.0 (written.1 ∙ c.requires.none_left) written.2)
     (λ failed. sound_broken c.args.log.now w.new.log c.args.core.now w.new.core c.args.flight.now w.new.flight c.args.next opened c.requires since failed.0 failed.1 failed.2)
 
-pub returns-clause-journal : goal.returns-clause-journal
-returns-clause-journal g c =
+pub returns-clause-answered : goal.returns-clause-answered
+returns-clause-answered g c = λ opened.
     let w = c.write_next in
-    by_result w.result w.ensures.written w.ensures.failed
-    (λ written. (sound_after c.args.log.now w.new.log c.args.core.now w.new.core c.args.flight.now w.new.flight c.args.next 0 c.requires (omega arith) written.0 (written.1 ∙ c.requires.none_left) written.2).on.journal)
-    (λ failed. (sound_broken c.args.log.now w.new.log c.args.core.now w.new.core c.args.flight.now w.new.flight c.args.next 0 c.requires (omega arith) failed.0 failed.1 failed.2).on.journal)
-
-pub returns-clause-broken : goal.returns-clause-broken
-returns-clause-broken g c =
-    let w = c.write_next in
-    matched w.result w.ensures.written w.ensures.failed w.ensures.fault (λ written _. written.0.broken) (λ failed _ _. failed.0.broken)
-
-pub returns-clause-header : goal.returns-clause-header
-returns-clause-header g c = by_result c.write_next.result c.write_next.ensures.written c.write_next.ensures.failed (λ written. written.0.header) (λ failed. failed.0.header)
-
-pub returns-clause-limit : goal.returns-clause-limit
-returns-clause-limit g c = by_result c.write_next.result c.write_next.ensures.written c.write_next.ensures.failed (λ written. written.0.limit) (λ failed. failed.0.limit)
+    let old = shown c.args.log.now opened c.args.flight.now in
+    let new = shown w.new.log opened w.new.flight in
+    at_result (λ r. HasAnswered g.D.Disk false (one_write c.args.next) old new r) w.result w.ensures.written w.ensures.failed w.ensures.fault
+    (λ written u.
+    let sound = sound_after c.args.log.now w.new.log c.args.core.now w.new.core c.args.flight.now w.new.flight c.args.next 0 c.requires (omega arith) written.0 (written.1 ∙ c.requires.none_left) written.2 in
+    answered_wrote g.D.Disk false (one_write c.args.next) old new u c.args.next refl (shown_appends c.args.log.now w.new.log opened opened c.args.flight.now w.new.flight c.args.next written.0 refl written.1)
+    (written.0.broken ∙ sym c.requires.whole) sound.on.journal (w.ensures.holds opened) (w.ensures.leaves opened))
+    (λ failed fault is.
+    let sound = sound_broken c.args.log.now w.new.log c.args.core.now w.new.core c.args.flight.now w.new.flight c.args.next 0 c.requires (omega arith) failed.0 failed.1 failed.2 in
+    answered_failed g.D.Disk false (one_write c.args.next) old new tt c.args.next fault is refl (shown_fails c.args.log.now w.new.log opened opened c.args.flight.now w.new.flight c.args.next failed.0 refl failed.1)
+    failed.0.broken sound.on.journal (w.ensures.holds opened) (w.ensures.leaves opened))

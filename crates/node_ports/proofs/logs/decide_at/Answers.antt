@@ -25,11 +25,11 @@ decide-answer-requires-clause-named g c =
 
 pub returns-clause-told : goal.returns-clause-told
 returns-clause-told g c =
-    decide_told c.args.lane c.args.replies.now c.args.log.now.broken (sight c.args.log.now) (sight c.decide-answer.new.self) c.decide-answer.result c.requires.replies c.decide-answer.ensures.meets c.decide-answer.ensures.journal c.header-header.ensures.since_opened c.header-header.ensures.since_broken c.header-header.ensures.landed c.header-header.ensures.unbroken
+    decide_told c.args.lane c.args.replies.now c.args.log.now.broken (sight c.args.log.now) (sight c.decide-answer.new.self) c.decide-answer.result c.requires.replies c.decide-answer.ensures.meets c.decide-answer.ensures.keeps.journal c.header-header.ensures.since_opened c.header-header.ensures.since_broken c.header-header.ensures.landed c.header-header.ensures.unbroken
 
 pub returns-clause-fault : goal.returns-clause-fault
 returns-clause-fault g c =
-    decide_fault c.args.lane c.args.replies.now c.args.log.now.broken (sight c.args.log.now) (sight c.decide-answer.new.self) c.decide-answer.result c.decide-answer.ensures.fault c.decide-answer.ensures.journal c.header-header.ensures.since_opened c.header-header.ensures.since_broken c.header-header.ensures.landed c.header-header.ensures.unbroken
+    decide_fault c.args.lane c.args.replies.now c.args.log.now.broken (sight c.args.log.now) (sight c.decide-answer.new.self) c.decide-answer.result c.decide-answer.ensures.fault c.decide-answer.ensures.keeps.journal c.header-header.ensures.since_opened c.header-header.ensures.since_broken c.header-header.ensures.landed c.header-header.ensures.unbroken
 
 pub returns-clause-stamp : goal.returns-clause-stamp
 returns-clause-stamp g c =
@@ -53,17 +53,17 @@ returns-clause-others g c =
 
 pub returns-clause-node : goal.returns-clause-node
 returns-clause-node g c =
-    still_decided false c.args.log.now.broken (λ r. commit_due c.args.log.now.header.shape c.args.replies.now r None c.args.log.now.journal) (sight c.args.log.now) (sight c.decide-answer.new.self) c.decide-answer.result c.decide-answer.ensures.node c.decide-answer.ensures.fault c.decide-answer.ensures.whole c.header-header.ensures.landed
+    still_decided false c.args.log.now.broken (λ r. commit_due c.args.log.now.header.shape c.args.replies.now r None c.args.log.now.journal) (sight c.args.log.now) (sight c.decide-answer.new.self) c.decide-answer.result c.decide-answer.ensures.keeps.node c.decide-answer.ensures.fault c.decide-answer.ensures.whole c.header-header.ensures.landed
 
 pub returns-clause-later : goal.returns-clause-later
 returns-clause-later g c =
-    c.decide-answer.ensures.node.later
+    c.decide-answer.ensures.keeps.node.later
 
 pub returns-clause-holds : goal.returns-clause-holds
 returns-clause-holds g c =
-    λ h. record { journal = c.decide-answer.ensures.journal; held = c.decide-answer.ensures.holds h.held }
+    λ h. record { journal = c.decide-answer.ensures.keeps.journal; held = c.decide-answer.ensures.keeps.holds h.held }
 
 pub returns-clause-moves : goal.returns-clause-moves
 returns-clause-moves g c =
     decided_moves c.args.lane c.args.log.now.header.shape c.args.replies.now (sight c.args.log.now) (sight c.decide-answer.new.self) c.args.log.now.broken c.decide-answer.new.self.broken c.decide-answer.new.out.items
-    c.header-header.ensures.landed c.header-after.ensures.landed c.decide-answer.ensures.own c.decide-answer.result c.decide-answer.ensures.appended c.decide-answer.ensures.whole c.decide-answer.ensures.broken c.decide-answer.ensures.fault
+    c.header-header.ensures.landed c.header-after.ensures.landed c.decide-answer.ensures.own c.decide-answer.result c.decide-answer.ensures.appended c.decide-answer.ensures.whole c.decide-answer.ensures.keeps.broken c.decide-answer.ensures.fault

@@ -11,7 +11,7 @@ discard-requires-clause-own g c =
 
 pub returns-clause-told : goal.returns-clause-told
 returns-clause-told g c =
-    told_alone c.args.lane false (discard_due c.args.lane c.args.cause) c.args.log.now.broken (sight c.args.log.now) (sight c.discard.new.self) c.discard.result c.discard.ensures.meets c.discard.ensures.journal c.header-header.ensures.since_opened c.header-header.ensures.since_broken c.header-header.ensures.landed c.header-header.ensures.unbroken
+    told_alone c.args.lane false (discard_due c.args.lane c.args.cause) c.args.log.now.broken (sight c.args.log.now) (sight c.discard.new.self) c.discard.result c.discard.ensures.meets c.discard.ensures.keeps.journal c.header-header.ensures.since_opened c.header-header.ensures.since_broken c.header-header.ensures.landed c.header-header.ensures.unbroken
 
 pub returns-clause-stamp : goal.returns-clause-stamp
 returns-clause-stamp g c =
@@ -35,4 +35,4 @@ returns-clause-later g c =
 
 pub returns-clause-holds : goal.returns-clause-holds
 returns-clause-holds g c =
-    λ h. record { journal = c.discard.ensures.journal; held = c.discard.ensures.holds h.held }
+    λ h. record { journal = c.discard.ensures.keeps.journal; held = c.discard.ensures.keeps.holds h.held }

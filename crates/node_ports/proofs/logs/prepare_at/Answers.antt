@@ -26,11 +26,11 @@ prepare-requires-clause-short g c =
 
 pub returns-clause-told : goal.returns-clause-told
 returns-clause-told g c =
-    told_alone c.args.lane true (prepare_due c.args.log.now.header.shape c.args.log.now.capacity c.args.lane c.args.txs.now) c.args.log.now.broken (sight c.args.log.now) (sight c.prepare.new.self) c.prepare.result c.prepare.ensures.meets c.prepare.ensures.journal c.header-header.ensures.since_opened c.header-header.ensures.since_broken c.header-header.ensures.landed c.header-header.ensures.unbroken
+    told_alone c.args.lane true (prepare_due c.args.log.now.header.shape c.args.log.now.capacity c.args.lane c.args.txs.now) c.args.log.now.broken (sight c.args.log.now) (sight c.prepare.new.self) c.prepare.result c.prepare.ensures.meets c.prepare.ensures.keeps.journal c.header-header.ensures.since_opened c.header-header.ensures.since_broken c.header-header.ensures.landed c.header-header.ensures.unbroken
 
 pub returns-clause-prepared : goal.returns-clause-prepared
 returns-clause-prepared g c =
-    prepare_named c.args.lane c.args.txs.now c.args.log.now.broken (sight c.args.log.now) (sight c.prepare.new.self) c.prepare.result c.prepare.ensures.meets c.prepare.ensures.journal
+    prepare_named c.args.lane c.args.txs.now c.args.log.now.broken (sight c.args.log.now) (sight c.prepare.new.self) c.prepare.result c.prepare.ensures.meets c.prepare.ensures.keeps.journal
 
 pub returns-clause-phase : goal.returns-clause-phase
 returns-clause-phase g c =
@@ -54,4 +54,4 @@ returns-clause-later g c =
 
 pub returns-clause-holds : goal.returns-clause-holds
 returns-clause-holds g c =
-    λ h. record { journal = c.prepare.ensures.journal; held = c.prepare.ensures.holds h.held }
+    λ h. record { journal = c.prepare.ensures.keeps.journal; held = c.prepare.ensures.keeps.holds h.held }

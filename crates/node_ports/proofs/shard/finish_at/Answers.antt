@@ -8,11 +8,11 @@ use Rattle.node_ports.proofs.shard.finish_at.Goals as goal
 
 pub returns-clause-answer : goal.returns-clause-answer
 returns-clause-answer g c =
-    told_alone c.args.call.now.batch.lane false (finish_due c.args.call.now) c.args.node.now.broken (sight c.args.node.now) (sight c.finish.new.self) c.finish.result c.finish.ensures.meets c.finish.ensures.journal c.header-header.ensures.since_opened c.header-header.ensures.since_broken c.header-header.ensures.landed c.header-header.ensures.unbroken
+    told_alone c.args.call.now.batch.lane false (finish_due c.args.call.now) c.args.node.now.broken (sight c.args.node.now) (sight c.finish.new.self) c.finish.result c.finish.ensures.meets c.finish.ensures.keeps.journal c.header-header.ensures.since_opened c.header-header.ensures.since_broken c.header-header.ensures.landed c.header-header.ensures.unbroken
 
 pub returns-clause-told : goal.returns-clause-told
 returns-clause-told g c =
-    finish_stamp c.args.call.now (sight c.args.node.now) (sight c.finish.new.self) c.finish.result (told_alone c.args.call.now.batch.lane false (finish_due c.args.call.now) c.args.node.now.broken (sight c.args.node.now) (sight c.finish.new.self) c.finish.result c.finish.ensures.meets c.finish.ensures.journal c.header-header.ensures.since_opened c.header-header.ensures.since_broken c.header-header.ensures.landed c.header-header.ensures.unbroken) c.finish.ensures.journal
+    finish_stamp c.args.call.now (sight c.args.node.now) (sight c.finish.new.self) c.finish.result (told_alone c.args.call.now.batch.lane false (finish_due c.args.call.now) c.args.node.now.broken (sight c.args.node.now) (sight c.finish.new.self) c.finish.result c.finish.ensures.meets c.finish.ensures.keeps.journal c.header-header.ensures.since_opened c.header-header.ensures.since_broken c.header-header.ensures.landed c.header-header.ensures.unbroken) c.finish.ensures.keeps.journal
 
 pub returns-clause-node : goal.returns-clause-node
 returns-clause-node g c =
@@ -20,8 +20,8 @@ returns-clause-node g c =
 
 pub returns-clause-later : goal.returns-clause-later
 returns-clause-later g c =
-    c.finish.ensures.later
+    c.finish.ensures.keeps.node.later
 
 pub returns-clause-holds : goal.returns-clause-holds
 returns-clause-holds g c =
-    λ h. record { journal = c.finish.ensures.journal; held = c.finish.ensures.holds h.held }
+    λ h. record { journal = c.finish.ensures.keeps.journal; held = c.finish.ensures.keeps.holds h.held }

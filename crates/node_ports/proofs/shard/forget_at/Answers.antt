@@ -8,11 +8,11 @@ use Rattle.node_ports.proofs.shard.forget_at.Goals as goal
 
 pub returns-clause-answer : goal.returns-clause-answer
 returns-clause-answer g c =
-    told_alone c.args.call.now.batch.lane false (forget_due c.args.call.now) c.args.node.now.broken (sight c.args.node.now) (sight c.forget.new.self) c.forget.result c.forget.ensures.meets c.forget.ensures.journal c.header-header.ensures.since_opened c.header-header.ensures.since_broken c.header-header.ensures.landed c.header-header.ensures.unbroken
+    told_alone c.args.call.now.batch.lane false (forget_due c.args.call.now) c.args.node.now.broken (sight c.args.node.now) (sight c.forget.new.self) c.forget.result c.forget.ensures.meets c.forget.ensures.keeps.journal c.header-header.ensures.since_opened c.header-header.ensures.since_broken c.header-header.ensures.landed c.header-header.ensures.unbroken
 
 pub returns-clause-told : goal.returns-clause-told
 returns-clause-told g c =
-    forget_stamp c.args.call.now (sight c.args.node.now) (sight c.forget.new.self) c.forget.result (told_alone c.args.call.now.batch.lane false (forget_due c.args.call.now) c.args.node.now.broken (sight c.args.node.now) (sight c.forget.new.self) c.forget.result c.forget.ensures.meets c.forget.ensures.journal c.header-header.ensures.since_opened c.header-header.ensures.since_broken c.header-header.ensures.landed c.header-header.ensures.unbroken) c.forget.ensures.journal
+    forget_stamp c.args.call.now (sight c.args.node.now) (sight c.forget.new.self) c.forget.result (told_alone c.args.call.now.batch.lane false (forget_due c.args.call.now) c.args.node.now.broken (sight c.args.node.now) (sight c.forget.new.self) c.forget.result c.forget.ensures.meets c.forget.ensures.keeps.journal c.header-header.ensures.since_opened c.header-header.ensures.since_broken c.header-header.ensures.landed c.header-header.ensures.unbroken) c.forget.ensures.keeps.journal
 
 pub returns-clause-node : goal.returns-clause-node
 returns-clause-node g c =
@@ -20,8 +20,8 @@ returns-clause-node g c =
 
 pub returns-clause-later : goal.returns-clause-later
 returns-clause-later g c =
-    c.forget.ensures.later
+    c.forget.ensures.keeps.node.later
 
 pub returns-clause-holds : goal.returns-clause-holds
 returns-clause-holds g c =
-    λ h. record { journal = c.forget.ensures.journal; held = c.forget.ensures.holds h.held }
+    λ h. record { journal = c.forget.ensures.keeps.journal; held = c.forget.ensures.keeps.holds h.held }

@@ -1,7 +1,8 @@
-use Rattle.std.proofs.Common.{◌≡◌, ◌∙◌, arith}
-use Rattle.shard_node.proofs.Stamps.{finish_decisions, finish_memory, finish_room, finish_wrote, finish_done, finish_left, finish_failed}
-use Rattle.shard_node.specs.Parts.{view_of}
-use Rattle.node_journal.proofs.Leaving.{leaves_as_it_was}
+use Rattle.std.proofs.Common.{◌≡◌, ◌∙◌, false, None, refl, reverse, arith}
+use Rattle.cbdc_model.specs.Records.{Finish}
+use Rattle.cbdc_model.specs.Due.{finish_due}
+use Rattle.shard_node.proofs.Stamps.{finish_decisions, finish_memory, finish_room, finish_wrote, finish_left, finish_owes}
+use Rattle.shard_node.proofs.Keeps.{call_wrote, call_failed}
 use Rattle.shard_node.proofs.stamping.append_finish.Goals as goal
 
 pub take_decisions-decisions-requires-clause-room : goal.take_decisions-decisions-requires-clause-room
@@ -23,27 +24,24 @@ returns-in-Ok-clause-shard g c =
     finish_wrote c.args.parts.now c.args.call.now c.args.stamp c.requires.shard c.requires.call c.requires.whole c.requires.next (omega arith) c.take_decisions-decisions.new.memory c.write.new.parts (rw same at c.in-Ok.ensures.written)
     c.take_decisions-decisions.ensures.lanes c.take_decisions-decisions.ensures.others
 
-pub returns-in-Ok-clause-meets : goal.returns-in-Ok-clause-meets
-returns-in-Ok-clause-meets g c =
-    let same : c.take_decisions-decisions.result ≡ c.args.call.now.decisions = c.take_decisions-decisions.ensures.value ∙ c.as_slice.ensures in
-    finish_done c.args.parts.now c.args.call.now c.args.stamp c.requires.shard c.requires.call c.requires.whole c.requires.next (omega arith) c.take_decisions-decisions.new.memory c.write.new.parts (rw same at c.in-Ok.ensures.written)
-
 pub returns-in-Err-clause-shard : goal.returns-in-Err-clause-shard
 returns-in-Err-clause-shard g c =
     let same : c.take_decisions-decisions.result ≡ c.args.call.now.decisions = c.take_decisions-decisions.ensures.value ∙ c.as_slice.ensures in
     finish_left c.args.parts.now c.args.call.now c.args.stamp c.requires.shard c.requires.call c.requires.whole c.requires.next (omega arith) c.take_decisions-decisions.new.memory c.write.new.parts (rw same at c.in-Err.ensures.failed)
     c.take_decisions-decisions.ensures.lanes
 
-pub returns-in-Err-clause-meets : goal.returns-in-Err-clause-meets
-returns-in-Err-clause-meets g c =
+pub returns-in-Ok-clause-answered : goal.returns-in-Ok-clause-answered
+returns-in-Ok-clause-answered g c =
     let same : c.take_decisions-decisions.result ≡ c.args.call.now.decisions = c.take_decisions-decisions.ensures.value ∙ c.as_slice.ensures in
-    finish_failed c.args.parts.now c.args.call.now c.args.stamp c.requires.shard c.requires.call c.requires.whole c.requires.next (omega arith) c.take_decisions-decisions.new.memory c.write.new.parts c.in-Err.fault c.in-Err.ensures.fault (rw same at c.in-Err.ensures.failed)
+    let written = rw same at c.in-Ok.ensures.written in
+    call_wrote false (finish_due c.args.call.now None (reverse c.args.parts.now.log.records.items)) c.args.stamp c.args.parts.now (record c.args.parts.now { decisions = c.take_decisions-decisions.new.memory }) c.write.new.parts (Finish c.args.stamp c.args.call.now.batch c.args.call.now.decisions) (finish_owes c.args.parts.now c.args.call.now c.args.stamp c.requires.shard c.requires.call c.requires.whole c.requires.next (omega arith)) refl c.requires.whole written
+    (finish_wrote c.args.parts.now c.args.call.now c.args.stamp c.requires.shard c.requires.call c.requires.whole c.requires.next (omega arith) c.take_decisions-decisions.new.memory c.write.new.parts written c.take_decisions-decisions.ensures.lanes c.take_decisions-decisions.ensures.others)
+    c.write.ensures.holds c.write.ensures.leaves
 
-pub returns-then-stamp-gt-LAST_STAMP-clause-leaves : goal.returns-then-stamp-gt-LAST_STAMP-clause-leaves
-returns-then-stamp-gt-LAST_STAMP-clause-leaves g c = leaves_as_it_was g.D.Disk (view_of c.args.parts.now) (g.met.D.Disk.only_now c.args.parts.now.log.journal.disk)
-
-pub returns-in-Ok-clause-leaves : goal.returns-in-Ok-clause-leaves
-returns-in-Ok-clause-leaves g c = c.write.ensures.leaves
-
-pub returns-in-Err-clause-leaves : goal.returns-in-Err-clause-leaves
-returns-in-Err-clause-leaves g c = c.write.ensures.leaves
+pub returns-in-Err-clause-answered : goal.returns-in-Err-clause-answered
+returns-in-Err-clause-answered g c =
+    let same : c.take_decisions-decisions.result ≡ c.args.call.now.decisions = c.take_decisions-decisions.ensures.value ∙ c.as_slice.ensures in
+    let failed = rw same at c.in-Err.ensures.failed in
+    call_failed false (finish_due c.args.call.now None (reverse c.args.parts.now.log.records.items)) c.args.stamp c.args.parts.now (record c.args.parts.now { decisions = c.take_decisions-decisions.new.memory }) c.write.new.parts (Finish c.args.stamp c.args.call.now.batch c.args.call.now.decisions) c.in-Err.fault c.in-Err.ensures.fault (finish_owes c.args.parts.now c.args.call.now c.args.stamp c.requires.shard c.requires.call c.requires.whole c.requires.next (omega arith)) refl failed
+    (finish_left c.args.parts.now c.args.call.now c.args.stamp c.requires.shard c.requires.call c.requires.whole c.requires.next (omega arith) c.take_decisions-decisions.new.memory c.write.new.parts failed c.take_decisions-decisions.ensures.lanes)
+    c.write.ensures.holds c.write.ensures.leaves

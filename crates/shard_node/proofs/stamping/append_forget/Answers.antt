@@ -1,7 +1,8 @@
-use Rattle.std.proofs.Common.{arith}
-use Rattle.shard_node.proofs.Stamps.{forget_memory, forget_room, forget_wrote, forget_done, forget_left, forget_failed}
-use Rattle.shard_node.specs.Parts.{view_of}
-use Rattle.node_journal.proofs.Leaving.{leaves_as_it_was}
+use Rattle.std.proofs.Common.{false, None, refl, reverse, arith}
+use Rattle.cbdc_model.specs.Records.{Forget}
+use Rattle.cbdc_model.specs.Due.{forget_due}
+use Rattle.shard_node.proofs.Stamps.{forget_memory, forget_room, forget_wrote, forget_left, forget_owes}
+use Rattle.shard_node.proofs.Keeps.{call_wrote, call_failed}
 use Rattle.shard_node.proofs.stamping.append_forget.Goals as goal
 
 pub write-requires-clause-memory : goal.write-requires-clause-memory
@@ -13,20 +14,17 @@ write-requires-clause-room g c = forget_room c.args.parts.now c.args.call.now c.
 pub returns-in-Ok-clause-shard : goal.returns-in-Ok-clause-shard
 returns-in-Ok-clause-shard g c = forget_wrote c.args.parts.now c.args.call.now c.args.stamp c.requires.shard c.requires.call c.requires.whole c.requires.next (omega arith) c.write.new.parts c.in-Ok.ensures.written
 
-pub returns-in-Ok-clause-meets : goal.returns-in-Ok-clause-meets
-returns-in-Ok-clause-meets g c = forget_done c.args.parts.now c.args.call.now c.args.stamp c.requires.shard c.requires.call c.requires.whole c.requires.next (omega arith) c.write.new.parts c.in-Ok.ensures.written
-
 pub returns-in-Err-clause-shard : goal.returns-in-Err-clause-shard
 returns-in-Err-clause-shard g c = forget_left c.args.parts.now c.args.call.now c.args.stamp c.requires.shard c.requires.call c.requires.whole c.requires.next (omega arith) c.write.new.parts c.in-Err.ensures.failed
 
-pub returns-in-Err-clause-meets : goal.returns-in-Err-clause-meets
-returns-in-Err-clause-meets g c = forget_failed c.args.parts.now c.args.call.now c.args.stamp c.requires.shard c.requires.call c.requires.whole c.requires.next (omega arith) c.write.new.parts c.in-Err.fault c.in-Err.ensures.fault c.in-Err.ensures.failed
+pub returns-in-Ok-clause-answered : goal.returns-in-Ok-clause-answered
+returns-in-Ok-clause-answered g c =
+    call_wrote false (forget_due c.args.call.now None (reverse c.args.parts.now.log.records.items)) c.args.stamp c.args.parts.now c.args.parts.now c.write.new.parts (Forget c.args.stamp c.args.call.now.batch) (forget_owes c.args.parts.now c.args.call.now c.args.stamp c.requires.shard c.requires.call c.requires.whole c.requires.next (omega arith)) refl c.requires.whole c.in-Ok.ensures.written
+    (forget_wrote c.args.parts.now c.args.call.now c.args.stamp c.requires.shard c.requires.call c.requires.whole c.requires.next (omega arith) c.write.new.parts c.in-Ok.ensures.written)
+    c.write.ensures.holds c.write.ensures.leaves
 
-pub returns-then-stamp-gt-LAST_STAMP-clause-leaves : goal.returns-then-stamp-gt-LAST_STAMP-clause-leaves
-returns-then-stamp-gt-LAST_STAMP-clause-leaves g c = leaves_as_it_was g.D.Disk (view_of c.args.parts.now) (g.met.D.Disk.only_now c.args.parts.now.log.journal.disk)
-
-pub returns-in-Ok-clause-leaves : goal.returns-in-Ok-clause-leaves
-returns-in-Ok-clause-leaves g c = c.write.ensures.leaves
-
-pub returns-in-Err-clause-leaves : goal.returns-in-Err-clause-leaves
-returns-in-Err-clause-leaves g c = c.write.ensures.leaves
+pub returns-in-Err-clause-answered : goal.returns-in-Err-clause-answered
+returns-in-Err-clause-answered g c =
+    call_failed false (forget_due c.args.call.now None (reverse c.args.parts.now.log.records.items)) c.args.stamp c.args.parts.now c.args.parts.now c.write.new.parts (Forget c.args.stamp c.args.call.now.batch) c.in-Err.fault c.in-Err.ensures.fault (forget_owes c.args.parts.now c.args.call.now c.args.stamp c.requires.shard c.requires.call c.requires.whole c.requires.next (omega arith)) refl c.in-Err.ensures.failed
+    (forget_left c.args.parts.now c.args.call.now c.args.stamp c.requires.shard c.requires.call c.requires.whole c.requires.next (omega arith) c.write.new.parts c.in-Err.ensures.failed)
+    c.write.ensures.holds c.write.ensures.leaves

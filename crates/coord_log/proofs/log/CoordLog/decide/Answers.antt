@@ -1,5 +1,5 @@
 use Rattle.std.proofs.lemmas.Grind.{common_steps}
-use Rattle.std.proofs.Common.{◌≡◌, true, ◌≤◌, ◌<◌, ◌∷◌, [], Err, ℕ, List, suc, refl, ap, sym, ◌∙◌, subst, arith, length, reverse, None, Some, false}
+use Rattle.std.proofs.Common.{◌≡◌, true, ◌≤◌, ◌<◌, ◌∷◌, [], Err, List, suc, refl, ap, sym, ◌∙◌, subst, arith, length, reverse, None, Some, false, Ok}
 use Rattle.std.specs.Prelude.{All}
 use Rattle.gate_journal.specs.Shown.{broken_of}
 use Rattle.cbdc_types.specs.declared.calls.NodeFault.TheVariants.{Broken, ClockEnd}
@@ -7,7 +7,6 @@ use Rattle.cbdc_model.specs.Records.{Header, Record, Outcome, is_in_lane, txs_of
 use Rattle.cbdc_model.specs.Grammar.{IsOutcome}
 use Rattle.cbdc_model.specs.Slots.{InPrepare}
 use Rattle.cbdc_model.specs.Due.{Answers, last_late, open_batch, decide_due}
-use Rattle.cbdc_model.specs.Sights.{IsSameNode}
 use Rattle.std.proofs.lemmas.List.{length-map}
 use Rattle.coord_core.specs.Masks.{mask_of}
 use Rattle.coord_core.proofs.Walks.{length-combined}
@@ -15,12 +14,13 @@ use Rattle.coord_core.specs.Decided.{latest_reply, combined_outcomes, AreReplies
 use Rattle.coord_core.specs.Hashes.{AllNameBatches}
 use Rattle.coord_core.specs.Lanes.{IsOwnLane, coord_lane, core_batch}
 use Rattle.coord_log.specs.Logs.{commit_due}
-use Rattle.node_journal.specs.Nodes.{NodeOf, sight, HoldsJournal, LeavesBetween}
+use Rattle.node_journal.specs.Nodes.{NodeOf}
 use Rattle.node_journal.specs.Shown.{shown}
-use Rattle.coord_log.proofs.Owed.{told_ok, told_err, breaks_err, own_lane, own_phase, core_batch_is}
+use Rattle.coord_log.proofs.Owed.{told_ok, told_err, own_lane, own_phase, core_batch_is}
 use Rattle.coord_log.proofs.Deciding.{commit_owed, commit_late, decide_owed, decide_late, decide_ready, told_is}
-use Rattle.node_journal.proofs.Leaving.{leaves_as_it_was}
 use Rattle.coord_log.proofs.Flying.{is_itself, kept_own, flown_own}
+use Rattle.node_journal.specs.Answered.{KeepsNode}
+use Rattle.node_journal.proofs.Answered.{was_written, was_failed, keeps_ok, keeps_err}
 use Rattle.coord_log.proofs.log.CoordLog.decide.Goals as goal
 
 pub write-requires : goal.write-requires
@@ -69,10 +69,7 @@ returns-in-Err-clause-meets g c = λ are.
     c.commit_stamp-stamp.result c.decide-next.result c.in-Err.fault c.self.view_is
     (decide_owed core c.args.self.now.header.shape _ _ c.args.lane c.commit_stamp-stamp.result c.decide-next.result c.args.replies.now shape sound.on.stands own whole phase c.commit_stamp-stamp.ensures.value
     (omega (arith, c.stamp.view_is, c.if-stamp-gt-LAST_STAMP.false)) c.decide-next.ensures.decided are')
-    (c.in-Err.ensures.told c.self.inside.opened)
-
-pub returns-in-Err-clause-broken : goal.returns-in-Err-clause-broken
-returns-in-Err-clause-broken g c = breaks_err ℕ c.in-Err.fault _ _ _ (c.in-Err.ensures.told c.self.inside.opened).0 c.in-Err.ensures.broken
+    (was_failed g.D.Disk _ _ c.decide-next.result c.in-Err.fault (c.in-Err.ensures.answered c.self.inside.opened))
 
 pub returns-clause-meets : goal.returns-clause-meets
 returns-clause-meets g c = λ are.
@@ -89,7 +86,7 @@ returns-clause-meets g c = λ are.
     c.commit_stamp-stamp.result c.decide-next.result c.self.view_is
     (decide_owed core c.args.self.now.header.shape _ _ c.args.lane c.commit_stamp-stamp.result c.decide-next.result c.args.replies.now shape sound.on.stands own whole phase c.commit_stamp-stamp.ensures.value
     (omega (arith, c.stamp.view_is, c.if-stamp-gt-LAST_STAMP.false)) c.decide-next.ensures.decided are')
-    (c.in-Ok.ensures.told c.self.inside.opened)
+    (was_written g.D.Disk _ _ c.decide-next.result tt (c.in-Ok.ensures.answered c.self.inside.opened))
 
 pub returns-clause-appended : goal.returns-clause-appended
 returns-clause-appended g c =
@@ -101,14 +98,8 @@ returns-clause-appended g c =
     c.decide-next.ensures.«record» ∙ ap (λ t. Commit t (core_batch c.self.inside.core c.args.lane) (combined_outcomes (coord_lane c.self.inside.core c.args.lane).masks c.args.replies.now)) (sym c.commit_stamp-stamp.ensures.value) in
     let is = told_is c.decide-next.result c.commit_stamp-stamp.result (core_batch c.self.inside.core c.args.lane) (open_batch (reverse c.self.inside.log.records.items) c.args.lane) os c.tell.new.out.items
     made (core_batch_is core (reverse c.self.inside.log.records.items) c.args.lane c.self.invariant.on.stands own) c.tell.ensures in
-    (c.in-Ok.ensures.told c.self.inside.opened).seen ∙ ap (λ x. x ∷ reverse c.self.inside.log.records.items) is
+    (was_written g.D.Disk _ _ c.decide-next.result tt (c.in-Ok.ensures.answered c.self.inside.opened)).seen ∙ ap (λ x. x ∷ reverse c.self.inside.log.records.items) is
     ∙ ap (λ x. Commit c.commit_stamp-stamp.result (open_batch x c.args.lane) c.tell.new.out.items ∷ x) journal
-
-pub returns-in-Err-clause-node : goal.returns-in-Err-clause-node
-returns-in-Err-clause-node g c = let P : NodeOf g.row.D.Denot → Type 0 = λ x. IsSameNode (sight x) (sight (shown c.write.new.log c.self.inside.opened c.write.new.flight)) in subst P c.self.view_is (c.in-Err.ensures.told c.self.inside.opened).1.node
-
-pub returns-clause-node : goal.returns-clause-node
-returns-clause-node g c = let P : NodeOf g.row.D.Denot → Type 0 = λ x. IsSameNode (sight x) (sight (shown c.write.new.log c.self.inside.opened c.write.new.flight)) in subst P c.self.view_is (c.in-Ok.ensures.told c.self.inside.opened).node
 
 pub returns-clause-count : goal.returns-clause-count
 returns-clause-count g c =
@@ -151,29 +142,11 @@ returns-in-Err-clause-fault g c =
           c.commit_stamp-stamp.result c.decide-next.result c.in-Err.fault c.self.view_is
           (commit_owed c.self.inside.core c.args.self.now.header.shape _ _ c.commit_stamp-stamp.result c.decide-next.result c.args.replies.now sound.on.stands whole c.requires.rising c.commit_stamp-stamp.ensures.value
           (omega (arith, c.stamp.view_is, c.if-stamp-gt-LAST_STAMP.false)))
-          (c.in-Err.ensures.told c.self.inside.opened),
+          (was_failed g.D.Disk _ _ c.decide-next.result c.in-Err.fault (c.in-Err.ensures.answered c.self.inside.opened)),
     )
 
 pub returns-in-Err-clause-as_before : goal.returns-in-Err-clause-as_before
-returns-in-Err-clause-as_before g c = (c.in-Err.ensures.told c.self.inside.opened).1.seen ∙ ap (λ x. x.journal) c.self.view_is
-
-pub returns-in-Some-clause-leaves : goal.returns-in-Some-clause-leaves
-returns-in-Some-clause-leaves g c = leaves_as_it_was g.D.Disk c.args.self.now (g.met.D.Disk.only_now c.args.self.now.disk)
-
-pub returns-then-stamp-gt-LAST_STAMP-clause-leaves : goal.returns-then-stamp-gt-LAST_STAMP-clause-leaves
-returns-then-stamp-gt-LAST_STAMP-clause-leaves g c = leaves_as_it_was g.D.Disk c.args.self.now (g.met.D.Disk.only_now c.args.self.now.disk)
-
-pub returns-in-Err-clause-leaves : goal.returns-in-Err-clause-leaves
-returns-in-Err-clause-leaves g c =
-    let P : NodeOf g.row.D.Denot → Type 0 = λ x. HoldsJournal g.D.Disk x
-    → LeavesBetween g.D.Disk x (shown c.write.new.log c.self.inside.opened c.write.new.flight) in
-    subst P c.self.view_is (c.write.ensures.leaves c.self.inside.opened)
-
-pub returns-clause-leaves : goal.returns-clause-leaves
-returns-clause-leaves g c =
-    let P : NodeOf g.row.D.Denot → Type 0 = λ x. HoldsJournal g.D.Disk x
-    → LeavesBetween g.D.Disk x (shown c.write.new.log c.self.inside.opened c.write.new.flight) in
-    subst P c.self.view_is (c.write.ensures.leaves c.self.inside.opened)
+returns-in-Err-clause-as_before g c = (was_failed g.D.Disk _ _ c.decide-next.result c.in-Err.fault (c.in-Err.ensures.answered c.self.inside.opened)).1.seen ∙ ap (λ x. x.journal) c.self.view_is
 
 pub returns-in-Some-clause-own : goal.returns-in-Some-clause-own
 returns-in-Some-clause-own g c = kept_own c.args.lane c.args.self.now.flight c.args.self.now.flight refl
@@ -183,29 +156,21 @@ returns-then-stamp-gt-LAST_STAMP-clause-own g c = kept_own c.args.lane c.args.se
 
 pub returns-in-Err-clause-own : goal.returns-in-Err-clause-own
 returns-in-Err-clause-own g c =
-    flown_own c.args.lane c.args.self.now.flight c.write.new.flight c.decide-next.result (c.in-Err.ensures.told c.self.inside.opened).1.flight
+    flown_own c.args.lane c.args.self.now.flight c.write.new.flight c.decide-next.result (was_failed g.D.Disk _ _ c.decide-next.result c.in-Err.fault (c.in-Err.ensures.answered c.self.inside.opened)).1.flight
     (subst (λ r. is_in_lane c.args.lane r ≡ true) (sym c.decide-next.ensures.«record») (is_itself c.args.lane))
 
 pub returns-clause-own : goal.returns-clause-own
-returns-clause-own g c = kept_own c.args.lane c.args.self.now.flight c.write.new.flight ((c.in-Ok.ensures.told c.self.inside.opened).flight ∙ ap (λ x. x.flight) c.self.view_is)
+returns-clause-own g c = kept_own c.args.lane c.args.self.now.flight c.write.new.flight ((was_written g.D.Disk _ _ c.decide-next.result tt (c.in-Ok.ensures.answered c.self.inside.opened)).flight ∙ ap (λ x. x.flight) c.self.view_is)
 
 pub tell-requires : goal.tell-requires
 tell-requires g c = grind (arith, common_steps)
 
-pub returns-in-Err-clause-holds : goal.returns-in-Err-clause-holds
-returns-in-Err-clause-holds g c =
-    let P : NodeOf g.row.D.Denot → Type 0 = λ x. HoldsJournal g.D.Disk x
-    → HoldsJournal g.D.Disk (shown c.write.new.log c.self.inside.opened c.write.new.flight) in
-    subst P c.self.view_is (c.write.ensures.holds c.self.inside.opened)
+pub returns-in-Err-clause-keeps : goal.returns-in-Err-clause-keeps
+returns-in-Err-clause-keeps g c =
+    let new = shown c.write.new.log c.self.inside.opened c.write.new.flight in
+    subst (λ x. KeepsNode g.D.Disk x new (Err c.in-Err.fault)) c.self.view_is (keeps_err g.D.Disk _ new c.in-Err.fault (c.in-Err.ensures.answered c.self.inside.opened).keeps)
 
-pub returns-in-Err-clause-limit : goal.returns-in-Err-clause-limit
-returns-in-Err-clause-limit g c = c.write.ensures.limit ∙ ap (λ x. x.capacity) c.self.view_is
-
-pub returns-clause-holds : goal.returns-clause-holds
-returns-clause-holds g c =
-    let P : NodeOf g.row.D.Denot → Type 0 = λ x. HoldsJournal g.D.Disk x
-    → HoldsJournal g.D.Disk (shown c.write.new.log c.self.inside.opened c.write.new.flight) in
-    subst P c.self.view_is (c.write.ensures.holds c.self.inside.opened)
-
-pub returns-clause-limit : goal.returns-clause-limit
-returns-clause-limit g c = c.write.ensures.limit ∙ ap (λ x. x.capacity) c.self.view_is
+pub returns-clause-keeps : goal.returns-clause-keeps
+returns-clause-keeps g c =
+    let new = shown c.write.new.log c.self.inside.opened c.write.new.flight in
+    subst (λ x. KeepsNode g.D.Disk x new (Ok c.commit_stamp-stamp.result)) c.self.view_is (keeps_ok g.D.Disk _ new tt c.commit_stamp-stamp.result (c.in-Ok.ensures.answered c.self.inside.opened).keeps)

@@ -1,13 +1,10 @@
-use Rattle.std.proofs.Common.{◌≡◌, ◌≤◌, ℕ, suc, max, ap, sym, ◌∙◌, subst, arith, None, false}
+use Rattle.std.proofs.Common.{◌≡◌, ◌≤◌, suc, max, sym, ◌∙◌, subst, arith, None, false}
 use Rattle.gate_journal.specs.Shown.{broken_of}
 use Rattle.cbdc_model.specs.Due.{last_late, done_due}
 use Rattle.cbdc_model.specs.Slots.{InDiscard}
 use Rattle.coord_core.specs.Lanes.{CoordOf, CoordAdmits, IsOwnLane}
-use Rattle.node_journal.specs.Nodes.{NodeOf, HoldsJournal, LeavesBetween}
-use Rattle.node_journal.specs.Shown.{shown}
 use Rattle.coord_log.specs.Inside.{IsDue}
-use Rattle.coord_log.proofs.Owed.{told_ok, told_err, breaks_err, own_lane, own_phase, done_owed, done_ready}
-use Rattle.node_journal.proofs.Leaving.{leaves_as_it_was}
+use Rattle.coord_log.proofs.Owed.{gave_ok, gave_err, own_lane, own_phase, done_owed, done_ready}
 use Rattle.coord_log.proofs.log.CoordLog.done.Goals as goal
 
 pub write-requires : goal.write-requires
@@ -26,65 +23,26 @@ write-requires g c =
     (done_ready l core c.self.inside.flight c.args.lane (suc (max c.self.inside.core.last c.args.cause)) c.done-next.result c.after-stamp.ensures.whole sound.on whole (sound.ready whole) own phase (omega arith) late
     c.done-next.ensures.«record» next)
 
-pub returns-in-Err-clause-meets : goal.returns-in-Err-clause-meets
-returns-in-Err-clause-meets g c =
+pub returns-in-Err : goal.returns-in-Err
+returns-in-Err g c =
     let l = c.self.inside.log in
     let core = c.self.inside.core in
     let whole : broken_of c.self.inside.log.journal ≡ None = sym c.is_broken.ensures ∙ c.in-None.is in
     let own : IsOwnLane c.self.inside.core.header c.args.lane = own_lane l core c.self.inside.opened c.self.inside.flight c.args.self.now c.args.lane c.self.view_is c.self.invariant.on.header c.requires.own in
-    told_err false (λ broken J. done_due c.args.lane c.args.cause broken J) l c.write.new.log c.self.inside.opened c.self.inside.flight c.write.new.flight c.args.self.now c.after-stamp.result c.done-next.result c.in-Err.fault
+    gave_err false (λ broken J. done_due c.args.lane c.args.cause broken J) l c.write.new.log c.self.inside.opened c.self.inside.flight c.write.new.flight c.args.self.now c.after-stamp.result c.done-next.result c.in-Err.fault
     c.self.view_is
     (done_owed core _ _ c.args.lane c.args.cause c.after-stamp.result c.done-next.result c.self.invariant.on.stands own whole c.after-stamp.ensures.value
     (omega (arith, c.stamp.view_is, c.if-stamp-gt-LAST_STAMP.false)) c.done-next.ensures.«record»)
-    (c.in-Err.ensures.told c.self.inside.opened)
+    (c.in-Err.ensures.answered c.self.inside.opened)
 
-pub returns-in-Err-clause-broken : goal.returns-in-Err-clause-broken
-returns-in-Err-clause-broken g c = breaks_err ℕ c.in-Err.fault _ _ _ (c.in-Err.ensures.told c.self.inside.opened).0 c.in-Err.ensures.broken
-
-pub returns-clause-meets : goal.returns-clause-meets
-returns-clause-meets g c =
+pub returns : goal.returns
+returns g c =
     let l = c.self.inside.log in
     let core = c.self.inside.core in
     let whole : broken_of c.self.inside.log.journal ≡ None = sym c.is_broken.ensures ∙ c.in-None.is in
     let own : IsOwnLane c.self.inside.core.header c.args.lane = own_lane l core c.self.inside.opened c.self.inside.flight c.args.self.now c.args.lane c.self.view_is c.self.invariant.on.header c.requires.own in
-    told_ok false (λ broken J. done_due c.args.lane c.args.cause broken J) l c.write.new.log c.self.inside.opened c.self.inside.flight c.write.new.flight c.args.self.now c.after-stamp.result c.done-next.result
+    gave_ok false (λ broken J. done_due c.args.lane c.args.cause broken J) l c.write.new.log c.self.inside.opened c.self.inside.flight c.write.new.flight c.args.self.now c.after-stamp.result c.done-next.result tt
     c.self.view_is
     (done_owed core _ _ c.args.lane c.args.cause c.after-stamp.result c.done-next.result c.self.invariant.on.stands own whole c.after-stamp.ensures.value
     (omega (arith, c.stamp.view_is, c.if-stamp-gt-LAST_STAMP.false)) c.done-next.ensures.«record»)
-    (c.in-Ok.ensures.told c.self.inside.opened)
-
-pub returns-in-Some-clause-leaves : goal.returns-in-Some-clause-leaves
-returns-in-Some-clause-leaves g c = leaves_as_it_was g.D.Disk c.args.self.now (g.met.D.Disk.only_now c.args.self.now.disk)
-
-pub returns-then-stamp-gt-LAST_STAMP-clause-leaves : goal.returns-then-stamp-gt-LAST_STAMP-clause-leaves
-returns-then-stamp-gt-LAST_STAMP-clause-leaves g c = leaves_as_it_was g.D.Disk c.args.self.now (g.met.D.Disk.only_now c.args.self.now.disk)
-
-pub returns-in-Err-clause-leaves : goal.returns-in-Err-clause-leaves
-returns-in-Err-clause-leaves g c =
-    let P : NodeOf g.row.D.Denot → Type 0 = λ x. HoldsJournal g.D.Disk x
-    → LeavesBetween g.D.Disk x (shown c.write.new.log c.self.inside.opened c.write.new.flight) in
-    subst P c.self.view_is (c.write.ensures.leaves c.self.inside.opened)
-
-pub returns-clause-leaves : goal.returns-clause-leaves
-returns-clause-leaves g c =
-    let P : NodeOf g.row.D.Denot → Type 0 = λ x. HoldsJournal g.D.Disk x
-    → LeavesBetween g.D.Disk x (shown c.write.new.log c.self.inside.opened c.write.new.flight) in
-    subst P c.self.view_is (c.write.ensures.leaves c.self.inside.opened)
-
-pub returns-in-Err-clause-holds : goal.returns-in-Err-clause-holds
-returns-in-Err-clause-holds g c =
-    let P : NodeOf g.row.D.Denot → Type 0 = λ x. HoldsJournal g.D.Disk x
-    → HoldsJournal g.D.Disk (shown c.write.new.log c.self.inside.opened c.write.new.flight) in
-    subst P c.self.view_is (c.write.ensures.holds c.self.inside.opened)
-
-pub returns-in-Err-clause-limit : goal.returns-in-Err-clause-limit
-returns-in-Err-clause-limit g c = c.write.ensures.limit ∙ ap (λ x. x.capacity) c.self.view_is
-
-pub returns-clause-holds : goal.returns-clause-holds
-returns-clause-holds g c =
-    let P : NodeOf g.row.D.Denot → Type 0 = λ x. HoldsJournal g.D.Disk x
-    → HoldsJournal g.D.Disk (shown c.write.new.log c.self.inside.opened c.write.new.flight) in
-    subst P c.self.view_is (c.write.ensures.holds c.self.inside.opened)
-
-pub returns-clause-limit : goal.returns-clause-limit
-returns-clause-limit g c = c.write.ensures.limit ∙ ap (λ x. x.capacity) c.self.view_is
+    (c.in-Ok.ensures.answered c.self.inside.opened)

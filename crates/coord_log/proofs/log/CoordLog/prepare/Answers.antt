@@ -7,12 +7,13 @@ use Rattle.cbdc_types.specs.declared.calls.NodeFault.TheVariants.{Full}
 use Rattle.cbdc_model.specs.Due.{Answers, Writes, last_early, prepare_due}
 use Rattle.cbdc_model.specs.Sights.{Stays}
 use Rattle.coord_core.specs.Lanes.{IsOwnLane, kept_of, next_core_batch}
-use Rattle.node_journal.specs.Nodes.{NodeOf, sight, HoldsJournal, LeavesBetween}
+use Rattle.node_journal.specs.Nodes.{NodeOf, sight, HoldsJournal}
 use Rattle.node_journal.specs.Shown.{shown}
-use Rattle.coord_log.proofs.Owed.{told_ok, told_err, breaks_err, own_lane}
-use Rattle.coord_log.proofs.Preparing.{Prepares, sound_kept, room_refused, exact_size, prepare_small, prepare_ready, prepare_owed, prepare_full}
+use Rattle.coord_log.proofs.Owed.{gave_ok, gave_err, own_lane}
+use Rattle.coord_log.proofs.Preparing.{Prepares, sound_kept, room_refused, room_unbroken, exact_size, prepare_small, prepare_ready, prepare_owed, prepare_full}
 use Rattle.node_journal.proofs.Leaving.{shown_same}
-use Rattle.node_journal.proofs.Leaving.{leaves_as_it_was, leaves_as_seen}
+use Rattle.node_journal.proofs.Leaving.{leaves_as_seen}
+use Rattle.node_journal.proofs.Answered.{answered}
 use Rattle.coord_log.proofs.log.CoordLog.prepare.Goals as goal
 
 pub make_room-requires-clause-size : goal.make_room-requires-clause-size
@@ -29,8 +30,8 @@ invariant_of-self-in-Err g c =
     sound_kept c.self.inside.log c.make_room.new.log c.self.inside.core c.prepare.new.self c.self.inside.opened c.self.inside.flight c.make_room.ensures.untouched c.make_room.ensures.records c.make_room.ensures.header
     c.make_room.ensures.keeps c.prepare.ensures.same c.prepare.ensures.grown c.self.invariant
 
-pub returns-in-Err-clause-meets : goal.returns-in-Err-clause-meets
-returns-in-Err-clause-meets g c =
+pub returns-in-Err : goal.returns-in-Err
+returns-in-Err g c =
     let shape : c.args.self.now.header ≡ c.self.inside.log.header = ap (λ x. x.header) (sym c.self.view_is) in
     let B : Header → Type 0 = λ h. length c.args.txs.now ≤ h.shape.batch in
     let count : length c.args.txs.now ≤ c.self.inside.log.header.shape.batch = subst B shape c.requires.limit in
@@ -63,11 +64,18 @@ returns-in-Err-clause-meets g c =
     let need = c.size_of_record.result + room_behind_prepare (length c.args.txs.now) + kept_of c.prepare.new.self.lanes in
     let O : NodeOf g.row.D.Denot → Type 0 = λ x. prepare_due c.args.self.now.header.shape c.args.self.now.capacity c.args.lane c.args.txs.now x.broken x.journal
     ≡ Answers (Err (Full (gate_of c.self.inside.log.journal + 1) (c.size_of_record.result + room_behind_prepare (length c.args.txs.now) + kept_of c.prepare.new.self.lanes) (g.D.Disk.limit (disk_of c.self.inside.log.journal)))) in
-    room_refused _ _ _ _ used need (g.D.Disk.limit (disk_of c.self.inside.log.journal)) c.in-Err.fault c.in-Err.ensures.refusal
+    let meets = room_refused _ _ _ _ used need (g.D.Disk.limit (disk_of c.self.inside.log.journal)) c.in-Err.fault c.in-Err.ensures.refusal
     (λ lt. subst O c.self.view_is
     (prepare_full c.self.inside.core c.prepare.new.self c.args.self.now.header.shape _ _ c.args.self.now.capacity c.args.lane c.size_of_record.result used c.in-Prepare.stamp c.in-Prepare.batch c.args.txs.now c.in-Prepare.txs c.in-Ok.next p
     (omega (arith, lt, limit)) ∙ ap (λ x. Answers (Err (Full used need x))) (sym limit)))
-    stays
+    stays in
+    let kept =
+    sound_kept c.self.inside.log c.make_room.new.log c.self.inside.core c.prepare.new.self c.self.inside.opened c.self.inside.flight c.make_room.ensures.untouched c.make_room.ensures.records c.make_room.ensures.header
+    c.make_room.ensures.keeps c.prepare.ensures.same c.prepare.ensures.grown c.self.invariant in
+    let left = shown c.make_room.new.log c.self.inside.opened c.self.inside.flight in
+    answered {A = Batch × ℕ} g.D.Disk true (prepare_due c.args.self.now.header.shape c.args.self.now.capacity c.args.lane c.args.txs.now c.args.self.now.broken c.args.self.now.journal) c.args.self.now left (Err c.in-Err.fault) meets
+    (ap (λ x. x.broken) now ∙ room_unbroken (Batch × ℕ) used need (g.D.Disk.limit (disk_of c.self.inside.log.journal)) left.faults c.args.self.now.broken c.in-Err.fault c.in-Err.ensures.refusal)
+    kept.on.journal (λ h. let H : NodeOf g.row.D.Denot → Type 0 = λ x. HoldsJournal g.D.Disk x in subst H (sym now) h) (leaves_as_seen g.D.Disk c.args.self.now left now (g.met.D.Disk.only_now c.args.self.now.disk))
 
 pub write-requires : goal.write-requires
 write-requires g c =
@@ -91,8 +99,8 @@ write-requires g c =
 pub invariant_of-self-in-Err-write : goal.invariant_of-self-in-Err-write
 invariant_of-self-in-Err-write g c = c.write.ensures.sound c.self.inside.opened (rw c.make_room.ensures.untouched.disk c.self.invariant.since_opened)
 
-pub returns-in-Err-write-clause-meets : goal.returns-in-Err-write-clause-meets
-returns-in-Err-write-clause-meets g c =
+pub returns-in-Err-write : goal.returns-in-Err-write
+returns-in-Err-write g c =
     let shape : c.args.self.now.header ≡ c.self.inside.log.header = ap (λ x. x.header) (sym c.self.view_is) in
     let B : Header → Type 0 = λ h. length c.args.txs.now ≤ h.shape.batch in
     let count : length c.args.txs.now ≤ c.self.inside.log.header.shape.batch = subst B shape c.requires.limit in
@@ -122,17 +130,14 @@ returns-in-Err-write-clause-meets g c =
     let owed = prepare_owed c.self.inside.core c.prepare.new.self c.args.self.now.header.shape (reverse c.self.inside.log.records.items) (broken_of c.self.inside.log.journal) c.args.self.now.capacity c.args.lane c.size_of_record.result
     (gate_of c.self.inside.log.journal + 1) c.in-Prepare.stamp c.in-Prepare.batch c.args.txs.now c.in-Prepare.txs c.in-Ok.next p (omega (arith, limit, c.in-Ok-make_room.ensures.space)) in
     let O : NodeOf g.row.D.Denot → Type 0 = λ x. prepare_due c.args.self.now.header.shape c.args.self.now.capacity c.args.lane c.args.txs.now x.broken x.journal ≡ Writes (c.in-Prepare.batch, c.in-Prepare.stamp) c.in-Ok.next in
-    told_err true (λ broken J. prepare_due c.args.self.now.header.shape c.args.self.now.capacity c.args.lane c.args.txs.now broken J) c.make_room.new.log c.write.new.log c.self.inside.opened c.self.inside.flight c.write.new.flight
-    c.args.self.now (c.in-Prepare.batch, c.in-Prepare.stamp) c.in-Ok.next c.in-Err-write.fault now (subst O (c.self.view_is ∙ sym now) owed) (c.in-Err-write.ensures.told c.self.inside.opened)
-
-pub returns-in-Err-write-clause-broken : goal.returns-in-Err-write-clause-broken
-returns-in-Err-write-clause-broken g c = breaks_err (Batch × ℕ) c.in-Err-write.fault _ _ _ (c.in-Err-write.ensures.told c.self.inside.opened).0 c.in-Err-write.ensures.broken
+    gave_err true (λ broken J. prepare_due c.args.self.now.header.shape c.args.self.now.capacity c.args.lane c.args.txs.now broken J) c.make_room.new.log c.write.new.log c.self.inside.opened c.self.inside.flight c.write.new.flight
+    c.args.self.now (c.in-Prepare.batch, c.in-Prepare.stamp) c.in-Ok.next c.in-Err-write.fault now (subst O (c.self.view_is ∙ sym now) owed) (c.in-Err-write.ensures.answered c.self.inside.opened)
 
 pub invariant_of-self-2 : goal.invariant_of-self-2
 invariant_of-self-2 g c = c.write.ensures.sound c.self.inside.opened (rw c.make_room.ensures.untouched.disk c.self.invariant.since_opened)
 
-pub returns-clause-meets : goal.returns-clause-meets
-returns-clause-meets g c =
+pub returns : goal.returns
+returns g c =
     let shape : c.args.self.now.header ≡ c.self.inside.log.header = ap (λ x. x.header) (sym c.self.view_is) in
     let B : Header → Type 0 = λ h. length c.args.txs.now ≤ h.shape.batch in
     let count : length c.args.txs.now ≤ c.self.inside.log.header.shape.batch = subst B shape c.requires.limit in
@@ -162,61 +167,5 @@ returns-clause-meets g c =
     let owed = prepare_owed c.self.inside.core c.prepare.new.self c.args.self.now.header.shape (reverse c.self.inside.log.records.items) (broken_of c.self.inside.log.journal) c.args.self.now.capacity c.args.lane c.size_of_record.result
     (gate_of c.self.inside.log.journal + 1) c.in-Prepare.stamp c.in-Prepare.batch c.args.txs.now c.in-Prepare.txs c.in-Ok.next p (omega (arith, limit, c.in-Ok-make_room.ensures.space)) in
     let O : NodeOf g.row.D.Denot → Type 0 = λ x. prepare_due c.args.self.now.header.shape c.args.self.now.capacity c.args.lane c.args.txs.now x.broken x.journal ≡ Writes (c.in-Prepare.batch, c.in-Prepare.stamp) c.in-Ok.next in
-    told_ok true (λ broken J. prepare_due c.args.self.now.header.shape c.args.self.now.capacity c.args.lane c.args.txs.now broken J) c.make_room.new.log c.write.new.log c.self.inside.opened c.self.inside.flight c.write.new.flight
-    c.args.self.now (c.in-Prepare.batch, c.in-Prepare.stamp) c.in-Ok.next now (subst O (c.self.view_is ∙ sym now) owed) (c.in-Ok-write.ensures.told c.self.inside.opened)
-
-pub returns-in-Some-clause-leaves : goal.returns-in-Some-clause-leaves
-returns-in-Some-clause-leaves g c = leaves_as_it_was g.D.Disk c.args.self.now (g.met.D.Disk.only_now c.args.self.now.disk)
-
-pub returns-then-stamp-gt-LAST_PREPARE-clause-leaves : goal.returns-then-stamp-gt-LAST_PREPARE-clause-leaves
-returns-then-stamp-gt-LAST_PREPARE-clause-leaves g c = leaves_as_seen g.D.Disk c.args.self.now _ c.self.view_is (g.met.D.Disk.only_now c.args.self.now.disk)
-
-pub returns-in-Err-clause-leaves : goal.returns-in-Err-clause-leaves
-returns-in-Err-clause-leaves g c =
-    let now : shown c.make_room.new.log c.self.inside.opened c.self.inside.flight ≡ c.args.self.now =
-    shown_same c.self.inside.log c.make_room.new.log c.self.inside.opened c.self.inside.flight c.make_room.ensures.untouched c.make_room.ensures.records c.make_room.ensures.header ∙ c.self.view_is in
-    leaves_as_seen g.D.Disk c.args.self.now (shown c.make_room.new.log c.self.inside.opened c.self.inside.flight) now (g.met.D.Disk.only_now c.args.self.now.disk)
-
-pub returns-in-Err-write-clause-leaves : goal.returns-in-Err-write-clause-leaves
-returns-in-Err-write-clause-leaves g c =
-    let now : shown c.make_room.new.log c.self.inside.opened c.self.inside.flight ≡ c.args.self.now =
-    shown_same c.self.inside.log c.make_room.new.log c.self.inside.opened c.self.inside.flight c.make_room.ensures.untouched c.make_room.ensures.records c.make_room.ensures.header ∙ c.self.view_is in
-    let P : NodeOf g.row.D.Denot → Type 0 = λ x. HoldsJournal g.D.Disk x
-    → LeavesBetween g.D.Disk x (shown c.write.new.log c.self.inside.opened c.write.new.flight) in
-    subst P now (c.write.ensures.leaves c.self.inside.opened)
-
-pub returns-clause-leaves : goal.returns-clause-leaves
-returns-clause-leaves g c =
-    let now : shown c.make_room.new.log c.self.inside.opened c.self.inside.flight ≡ c.args.self.now =
-    shown_same c.self.inside.log c.make_room.new.log c.self.inside.opened c.self.inside.flight c.make_room.ensures.untouched c.make_room.ensures.records c.make_room.ensures.header ∙ c.self.view_is in
-    let P : NodeOf g.row.D.Denot → Type 0 = λ x. HoldsJournal g.D.Disk x
-    → LeavesBetween g.D.Disk x (shown c.write.new.log c.self.inside.opened c.write.new.flight) in
-    subst P now (c.write.ensures.leaves c.self.inside.opened)
-
-pub returns-in-Err-write-clause-holds : goal.returns-in-Err-write-clause-holds
-returns-in-Err-write-clause-holds g c =
-    let now : shown c.make_room.new.log c.self.inside.opened c.self.inside.flight ≡ c.args.self.now =
-    shown_same c.self.inside.log c.make_room.new.log c.self.inside.opened c.self.inside.flight c.make_room.ensures.untouched c.make_room.ensures.records c.make_room.ensures.header ∙ c.self.view_is in
-    let P : NodeOf g.row.D.Denot → Type 0 = λ x. HoldsJournal g.D.Disk x
-    → HoldsJournal g.D.Disk (shown c.write.new.log c.self.inside.opened c.write.new.flight) in
-    subst P now (c.write.ensures.holds c.self.inside.opened)
-
-pub returns-in-Err-write-clause-limit : goal.returns-in-Err-write-clause-limit
-returns-in-Err-write-clause-limit g c =
-    let now : shown c.make_room.new.log c.self.inside.opened c.self.inside.flight ≡ c.args.self.now =
-    shown_same c.self.inside.log c.make_room.new.log c.self.inside.opened c.self.inside.flight c.make_room.ensures.untouched c.make_room.ensures.records c.make_room.ensures.header ∙ c.self.view_is in
-    c.write.ensures.limit ∙ ap (λ x. x.capacity) now
-
-pub returns-clause-holds : goal.returns-clause-holds
-returns-clause-holds g c =
-    let now : shown c.make_room.new.log c.self.inside.opened c.self.inside.flight ≡ c.args.self.now =
-    shown_same c.self.inside.log c.make_room.new.log c.self.inside.opened c.self.inside.flight c.make_room.ensures.untouched c.make_room.ensures.records c.make_room.ensures.header ∙ c.self.view_is in
-    let P : NodeOf g.row.D.Denot → Type 0 = λ x. HoldsJournal g.D.Disk x
-    → HoldsJournal g.D.Disk (shown c.write.new.log c.self.inside.opened c.write.new.flight) in
-    subst P now (c.write.ensures.holds c.self.inside.opened)
-
-pub returns-clause-limit : goal.returns-clause-limit
-returns-clause-limit g c =
-    let now : shown c.make_room.new.log c.self.inside.opened c.self.inside.flight ≡ c.args.self.now =
-    shown_same c.self.inside.log c.make_room.new.log c.self.inside.opened c.self.inside.flight c.make_room.ensures.untouched c.make_room.ensures.records c.make_room.ensures.header ∙ c.self.view_is in
-    c.write.ensures.limit ∙ ap (λ x. x.capacity) now
+    gave_ok true (λ broken J. prepare_due c.args.self.now.header.shape c.args.self.now.capacity c.args.lane c.args.txs.now broken J) c.make_room.new.log c.write.new.log c.self.inside.opened c.self.inside.flight c.write.new.flight
+    c.args.self.now (c.in-Prepare.batch, c.in-Prepare.stamp) c.in-Ok.next tt now (subst O (c.self.view_is ∙ sym now) owed) (c.in-Ok-write.ensures.answered c.self.inside.opened)
