@@ -5,8 +5,10 @@ ghost use Rattle.command_answers.specs.Scene.{no_output, scene};
 ghost use Rattle.rack_ledgers.specs.Racked.{AreDisksBack, disks_in};
 ghost use Rattle.file_runs.specs.Runs.{joined as all_joined};
 ghost use Rattle.printed_lines.specs.Reports.{audit_lines};
-ghost use Rattle.command_answers.specs.Causes.{IsReadOrNodeFault, IsAnswerToRequest, HasToldCause, IsWell};
-ghost use Rattle.audit_command.specs.Audits.{AuditPlace, AuditRose, WasAudited, DidAudit, WhyUnaudited, WhyNoAudit};
+ghost use Rattle.command_answers.specs.Causes.{IsReadOrNodeFault, IsAnswerToRequest, IsWell};
+ghost use Rattle.audit_command.specs.Audits.{AuditPlace, AuditRose, WasAudited, WhyUnaudited};
+ghost use Rattle.audit_command.specs.Promises.{audit_promise, audit_needs};
+ghost use Rattle.command_answers.specs.Promises.{HasKept};
 ghost use Rattle.command_answers.specs.Texts.{IsPrinted, IsSilent};
 ghost use Rattle.line_text.specs.Lines.{Text};
 ghost use Rattle.command_answers.specs.Left.{IsBeforeDisks};
@@ -116,20 +118,11 @@ pub fn audit<W: Threads + Sync, I: Inbox, R: Rack, O: Sink>(
 where
     R::Disk: Send,
     requires { (n : ℕ) → R.can_take rack.old n }
-    ensures cause { IsAnswerToRequest (AuditPlace mint.now clients.now)
-        (AuditRose (I.count inbox.old) (I.count inbox.new) mint.now clients.now)
-        (Rose (O.count out.old) (O.count out.new)) result }
-    ensures did { IsWell result → DidAudit R.Disk.Disk (I.file inbox.old)
-        (disks_in R.Rack rack.old) (disks_in R.Rack rack.new)
-        (IsPrinted (O.taken out.old) (O.taken out.new) result) mint.now clients.now }
-    ensures why { let before = scene I.Inbox R.Rack O.Sink inbox.old rack.old out.old in
-        let after = scene I.Inbox R.Rack O.Sink inbox.new rack.new out.new in
-        HasToldCause (WhyNoAudit R.Disk.Disk before after mint.now clients.now) result }
-    ensures silent { IsSilent (O.taken out.old) (O.taken out.new) result }
-    ensures written_later { O.count out.old ≤ O.count out.new }
-    ensures untouched { IsBeforeDisks result → rack.new ≡ rack.old }
-    ensures left { AreDisksBack R.Disk.Disk (disks_in R.Rack rack.old) (disks_in R.Rack rack.new) }
-    ensures files { (name : Text) → I.file inbox.new name ≡ I.file inbox.old name }
+    ensures kept { HasKept (audit_needs mint.now clients.now)
+        (audit_promise R.Disk.Disk mint.now clients.now)
+        (scene I.Inbox R.Rack O.Sink inbox.old rack.old out.old)
+        (scene I.Inbox R.Rack O.Sink inbox.new rack.new out.new)
+        (rack.new ≡ rack.old) (inbox.new ≡ inbox.old) result }
     ensures back { (n : ℕ) → R.can_take rack.new n }
 {
     match audit_all(rt, alloc, mint, clients, inbox, rack) {

@@ -4,3 +4,4 @@ pub mod Silent
 pub mod Refusals
 pub mod Results
 pub mod Parts
+pub mod Kept

@@ -18,6 +18,10 @@ OneRose before now files place = (k : ℕ) × (file : FileWord) × (slice_get fi
 abbrev pub OnePlace : List FileWord → ℕ → Type 0
 OnePlace files place = (k : ℕ) × (file : FileWord) × (slice_get files k ≡ Some file) × (place ≡ file.place)
 
+-- one of these files has this place and this name
+abbrev pub OneNamed : List FileWord → ℕ → Text → Type 0
+OneNamed files place name = (k : ℕ) × (file : FileWord) × (slice_get files k ≡ Some file) × (place ≡ file.place) × (name ≡ file.name.now)
+
 -- reading and the work at the nodes: neither words nor the output are at fault, a bad file has a place, and a fault of reading has its cause
 abbrev pub IsReadOrNodeFault : (ℕ → Type 0) → (ℕ → Type 0) → Answer → Type 0
 IsReadOrNodeFault place read answers.Ok = ⊥

@@ -27,6 +27,16 @@ scene inbox_of rack_of output_of inbox rack output = record {
   print_faults = output_of.count output;
 }
 
+-- the scene of files that tell this, this rack and this output: of a command that reads none
+abbrev pub scene_with : {R D O : Type 0} → (Text → Option (List ℕ)) → (Text → ℕ) → RackGhosts R D → SinkGhosts O → R → O → Scene D
+scene_with file faults rack_of output_of rack output = record {
+  file = file;
+  file_faults = faults;
+  disks = disks_in rack_of rack;
+  printed = output_of.taken output;
+  print_faults = output_of.count output;
+}
+
 -- an output that tells nothing and never fails: for the scene of a part of the work that prints nothing
 abbrev pub no_output : SinkGhosts (Unit {0})
 no_output = record { taken = λ o. None; count = λ o. 0 }

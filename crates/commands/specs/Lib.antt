@@ -1,3 +1,4 @@
+pub mod Promises
 pub mod Causes
 pub mod Texts
 pub mod Outcomes

@@ -9,12 +9,10 @@ use Rattle.cbdc_model.specs.Lanes.{IsEnd}
 use Rattle.cbdc_model.specs.World.{KeptJournals}
 use Rattle.command_line.specs.Asked.{WordsAskFor}
 use Rattle.requests.specs.declared.Request.{Request}
-use Rattle.requests.specs.declared.Request.TheVariants.{Run}
-use Rattle.input_files.specs.Contents.{AreRead}
-use Rattle.file_runs.specs.Runs.{joined}
 use Rattle.record_log.specs.Held.{OpensTo}
 use Rattle.rack_ledgers.specs.Racked.{OfTold}
 use Rattle.command_answers.specs.Scene.{Scene}
+use Rattle.commands.specs.Promises.{needs_of}
 use Rattle.rack_laws.specs.Shown.{AreImagesLeft, OfShown, OpenTo}
 use Rattle.cbdc_model.specs.Ranges.{node_count}
 
@@ -41,8 +39,7 @@ GrowsWhatever device before now K mint submissions E =
 
 -- the transactions of all client files that are to be run
 abbrev pub AreToRun : (Text → Option (List ℕ)) → Request → List FullTx → Type 0
-AreToRun files (Run verdicts clients options) txs = (handed : List (List FullTx)) × AreRead files 0 clients.items handed × (txs ≡ joined handed)
-AreToRun files other txs = ⊥
+AreToRun files r = (needs_of r).hands_in files
 
 -- whatever a crash leaves of the ledger is kept, with the transactions that were to be run, or with none besides
 pub record Survives {D : Type 0} (device : Ghosts D) (before after : Scene D) (words : List Text) (K : Shape) (mint : List Output)

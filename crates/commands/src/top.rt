@@ -5,15 +5,17 @@ ghost use Rattle.command_answers.specs.Texts.{IsPrinted, IsSilent};
 ghost use Rattle.command_line.specs.Asked.{AreWordsRefused, WordsAskFor};
 ghost use Rattle.command_line.specs.Words.{texts};
 ghost use Rattle.requests.specs.declared.Request.{Request as Asked};
-ghost use Rattle.commands.specs.Causes.{IsAnswerToWords, NamedRose, RequestPlace, RequestRose, AskedName, OneNamed, RequestNames};
+ghost use Rattle.commands.specs.Causes.{IsAnswerToWords, NamedRose, RequestPlace, AskedName, OneNamed, RequestNames};
+ghost use Rattle.commands.specs.Promises.{promise_of, needs_of};
+ghost use Rattle.command_answers.specs.Promises.{HasKept};
 ghost use Rattle.command_answers.specs.Causes.{IsAnswerToRequest, HasToldCause, IsWell, OnePlace};
 ghost use Rattle.commands.specs.Complete.{IsUnhindered};
 ghost use Rattle.commands.specs.Exact.{IsEndedLater, IsExact};
 ghost use Rattle.commands.specs.Sizes.{IsSized};
-ghost use Rattle.commands.specs.Outcomes.{AskedDid, AskedWhy, Did, Why};
+ghost use Rattle.commands.specs.Outcomes.{AskedDid, AskedWhy};
 ghost use Rattle.command_answers.specs.Scene.{scene};
 ghost use Rattle.command_answers.specs.Left.{IsBeforeDisks};
-ghost use Rattle.commands.specs.Left.{AskedLeaves, IsOfNoFile, IsOfNoRack, RequestLeaves};
+ghost use Rattle.commands.specs.Left.{AskedLeaves, IsOfNoFile, IsOfNoRack};
 ghost use Rattle.commands.specs.Spared.{AreBadOr};
 ghost use Rattle.commands.specs.Survival.{StaysKeptWhatever};
 ghost use Rattle.line_text.specs.Lines.{Text};
@@ -128,25 +130,10 @@ where
     requires all { (n : ℕ) → R.can_take rack.old n }
     requires sized { IsSized request.now }
     ensures back { (n : ℕ) → R.can_take rack.new n }
-    ensures cause { IsAnswerToRequest (RequestPlace request.now)
-        (RequestRose request.now (I.count inbox.old) (I.count inbox.new))
-        (Rose (O.count out.old) (O.count out.new)) result }
-    ensures did { let before = scene I.Inbox R.Rack O.Sink inbox.old rack.old out.old in
-        let after = scene I.Inbox R.Rack O.Sink inbox.new rack.new out.new in
-        IsWell result → Did R.Disk.Disk before after request.now result }
-    ensures why { let before = scene I.Inbox R.Rack O.Sink inbox.old rack.old out.old in
-        let after = scene I.Inbox R.Rack O.Sink inbox.new rack.new out.new in
-        HasToldCause (Why R.Disk.Disk before after request.now) result }
-    ensures untouched { IsBeforeDisks result → rack.new ≡ rack.old }
-    ensures spared { IsOfNoRack request.now → rack.new ≡ rack.old }
-    ensures unread { IsOfNoFile request.now → inbox.new ≡ inbox.old }
-    ensures inbox { (name : Text) → I.file inbox.new name ≡ I.file inbox.old name }
-    ensures left { let before = scene I.Inbox R.Rack O.Sink inbox.old rack.old out.old in
-        let after = scene I.Inbox R.Rack O.Sink inbox.new rack.new out.new in
-        (IsWell result → ⊥)
-        → (rack.new ≡ rack.old) ⊎ RequestLeaves R.Disk.Disk before after request.now result }
-    ensures silent { IsSilent (O.taken out.old) (O.taken out.new) result }
-    ensures written_later { O.count out.old ≤ O.count out.new }
+    ensures kept { HasKept (needs_of request.now) (promise_of R.Disk.Disk request.now)
+        (scene I.Inbox R.Rack O.Sink inbox.old rack.old out.old)
+        (scene I.Inbox R.Rack O.Sink inbox.new rack.new out.new)
+        (rack.new ≡ rack.old) (inbox.new ≡ inbox.old) result }
 {
     match request {
         Request::Init { shape, mint } => init(alloc, shape, mint, inbox, rack, out),

@@ -1,11 +1,10 @@
 -- The cause of a fault that ends a file's wave, or the files.
-use Rattle.std.proofs.Common.{◌≡◌, inl, ℕ, ◌*◌, ◌<◌, List, length, take, get_or, refl, subst, arith, Option, Some, None}
+use Rattle.std.proofs.Common.{◌≡◌, inl, ℕ, ◌*◌, List, length, refl, subst, arith, Option, Some, None}
 use Rattle.std.specs.Prelude.{slice_get}
 use Rattle.std.proofs.lemmas.Option.{slice_get_within}
 use Rattle.cbdc_model.specs.Records.{Shape, Compact, Record}
 use Rattle.cbdc_model.specs.Coins.{FullTx}
 use Rattle.cbdc_model.specs.Waves.{sent_to}
-use Rattle.cbdc_model.specs.Lanes.{IsEnd}
 use Rattle.ledger_laws.proofs.Cuts.{end_self}
 use Rattle.submissions.specs.Checks.{VerdictsOf}
 use Rattle.lane_driver.specs.declared.fault.LaneFault.{LaneFault}
@@ -15,10 +14,9 @@ use Rattle.ledger_runs.specs.Faults.{IsRunCause, HaveCauses, LaneRests, LanesRes
 use Rattle.ledger_runs.specs.Least.{RunTheirs}
 use Rattle.ledger_runs.specs.Lanes.{LaneOf}
 use Rattle.ledger_runs.proofs.WaveKeeping.{at_place}
-use Rattle.ledger_runs.proofs.Faulting.{cause_since, cause_any, run_moves, rests_by}
-use Rattle.file_runs.proofs.Sending.{sent_is, sent_from}
-use Rattle.file_runs.specs.Runs.{AreLanesOf, HavePreparedFile, HavePreparedFiles, IsSentPiece, IsFilesPiece, HaveBegunFile}
-use Rattle.file_runs.proofs.Pieces.{files_piece}
+use Rattle.ledger_runs.proofs.Faulting.{cause_since, cause_any, rests_by}
+use Rattle.file_runs.proofs.Sending.{sent_is}
+use Rattle.file_runs.specs.Runs.{AreLanesOf, HavePreparedFile, IsSentPiece, HaveBegunFile}
 
 -- the next piece of what a lane got is that of what the file sends it
 pub sent_piece : (K : Shape) (verdicts : VerdictsOf) (file : List FullTx) (lanes after : List LaneOf) (I J : ℕ → List Record)
@@ -63,12 +61,3 @@ pub file_begun : (K : Shape) (verdicts : VerdictsOf) (file : List FullTx) (lanes
 file_begun K verdicts file lanes after I J count are keeps have lane inside sound tells =
     let x : (x : LaneOf) × (slice_get after lane ≡ Some x) = at_place after lane (omega (arith, inside, count)) in
     subst (λ all. HasBegun K lane all I J) (keeps (sent_to K sound file) (λ l y t. sent_is K verdicts file lanes are sound tells l y t) lane x.0 x.1) (have lane x.0 x.1)
-
--- a fault of one of the files
-pub files_cause : (K H : Shape) (verdicts : VerdictsOf) (files : List (List FullTx)) (i : ℕ) (file : List FullTx) (E J L : ℕ → List Record) (failed : ℕ → Type 0) (holds : ℕ → ℕ → Type 0)
-    → H ≡ K → i < length files → file ≡ get_or files i file → ((n : ℕ) → IsEnd (E n) (J n)) → HavePreparedFiles K verdicts (take i files) E J
-    → (e : LaneFault) → IsRunCause H (IsSentPiece H verdicts file J L) J L failed holds e → IsRunCause K (IsFilesPiece K verdicts files E L) E L failed holds e
-files_cause K H verdicts files i file E J L failed holds same low is since so e cause =
-    run_moves K (IsSentPiece K verdicts file J L) (IsFilesPiece K verdicts files E L) J E L failed failed holds holds since
-    (λ lane txs inside piece. files_piece K verdicts files i file E J L lane txs low is so inside piece) (λ n did. did) (λ n c h. h) e
-    (subst (λ k. IsRunCause k (IsSentPiece k verdicts file J L) J L failed holds e) same cause)

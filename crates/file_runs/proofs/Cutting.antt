@@ -3,7 +3,6 @@ use Rattle.std.proofs.Common.{◌≡◌, ℕ, ◌+◌, ◌<◌, List, [], ◌∷
 use Rattle.std.proofs.lemmas.List.{append_assoc, take-append-drop}
 use Rattle.cbdc_model.specs.Records.{Shape, Record}
 use Rattle.cbdc_model.specs.Coins.{FullTx}
-use Rattle.cbdc_model.specs.World.{AreIdle}
 use Rattle.cbdc_model.specs.Lanes.{IsEnd}
 use Rattle.cbdc_model.specs.Waves.{IsResumed}
 use Rattle.ledger_laws.proofs.Cuts.{end_self}
@@ -11,7 +10,7 @@ use Rattle.submissions.specs.Checks.{VerdictsOf, TellsSound}
 use Rattle.ledger_runs.specs.Turning.{OfKept}
 use Rattle.file_runs.specs.Runs.{joined, HaveBegunFile}
 use Rattle.file_runs.specs.Endings.{AreRunOrCut, HasBegunFirst}
-use Rattle.file_runs.proofs.Joining.{FilesSo, files_begin, so_far}
+use Rattle.file_runs.proofs.Joining.{FilesSo, so_far}
 use Rattle.file_runs.proofs.Pieces.{file_unbegun}
 
 abbrev pub CutFiles : Shape → VerdictsOf → List (List FullTx) → (ℕ → List Record) → (ℕ → List Record) → Type 0
@@ -52,7 +51,3 @@ cut_at K verdicts files i I J so mint submissions kept sound E tells resumed = r
   onward = λ n. end_self (J n);
   first = none_begun K verdicts sound (drop i files) J tells;
 }
-
--- nothing was done of any file
-pub cut_none : (K : Shape) (verdicts : VerdictsOf) (files : List (List FullTx)) (I : ℕ → List Record) → AreIdle K I → CutFiles K verdicts files I I
-cut_none K verdicts files I idle = cut_at K verdicts files 0 I I (files_begin K verdicts I idle)

@@ -14,7 +14,7 @@ use Rattle.ledger_runs.specs.Faults.{HaveCauses}
 use Rattle.ledger_runs.specs.Least.{RunTheirs}
 use Rattle.ledger_runs.specs.Lanes.{LaneOf}
 use Rattle.ledger_runs.proofs.Least.{least_fault}
-use Rattle.file_runs.proofs.Sending.{sent_is, sent_from}
+use Rattle.file_runs.proofs.Sending.{sent_is}
 use Rattle.file_runs.specs.Runs.{AreLanesOf, HavePreparedFiles, HaveBegunFile, IsSentPiece}
 use Rattle.file_runs.specs.Endings.{EndsFile, EndsFirst, EndsFiles}
 use Rattle.file_runs.proofs.Causing.{sent_piece}

@@ -1,6 +1,5 @@
 -- What the waves of files tell, file after file.
-use Rattle.std.proofs.Common.{◌≡◌, ℕ, ◌+◌, ◌<◌, ◌≤◌, List, [], ◌∷◌, ◌++◌, length, take, get_or, refl, sym, ap, subst}
-use Rattle.std.proofs.lemmas.List.{take_all}
+use Rattle.std.proofs.Common.{◌≡◌, ℕ, ◌+◌, ◌<◌, List, [], ◌∷◌, ◌++◌, length, take, get_or, refl, sym, ap, subst}
 use Rattle.cbdc_model.specs.Records.{Shape, Record}
 use Rattle.cbdc_model.specs.Coins.{FullTx}
 use Rattle.submissions.specs.Checks.{VerdictsOf}
@@ -27,7 +26,3 @@ told_files K H verdicts files i file I J L ws now w e low is keeps pushed told o
     let last = subst (λ k. OfKept k J (λ _ _. TellsFile k verdicts file J L w)) e one mint (submissions ++ joined (take i files)) (keeps mint submissions kept).kept in
     subst (λ fs. TellFiles K verdicts fs I L now) (so_far files i file low is)
     (subst (λ l. TellFiles K verdicts (take i files ++ file ∷ []) I L l) (sym pushed) (tell_more K verdicts (take i files) file I J L ws w (told mint submissions kept) last))
-
-pub told_all : (K : Shape) (verdicts : VerdictsOf) (files : List (List FullTx)) (i : ℕ) (I J : ℕ → List Record) (ws : List Wave) → length files ≤ i
-    → OfKept K I (λ _ _. TellFiles K verdicts (take i files) I J ws) → OfKept K I (λ _ _. TellFiles K verdicts files I J ws)
-told_all K verdicts files i I J ws all told = subst (λ fs. OfKept K I (λ _ _. TellFiles K verdicts fs I J ws)) (take_all i files all) told

@@ -1,5 +1,5 @@
 -- What the run of a file does, by the wave of its lanes.
-use Rattle.std.proofs.Common.{◌≡◌, ℕ, ◌*◌, ◌<◌, List, [], ◌++◌, length, refl, sym, ap, subst, arith, Option, Some, None, Bool, get_or, ◌≤◌, ◌⊎◌, inl, inr}
+use Rattle.std.proofs.Common.{◌≡◌, ℕ, ◌<◌, List, [], ◌++◌, length, refl, sym, ap, subst, arith, Option, Some, None, Bool, get_or, ◌≤◌, ◌⊎◌, inl, inr}
 use Rattle.std.specs.Prelude.{slice_get, All}
 use Rattle.std.proofs.lemmas.List.Elements.{Contains-append_left, Contains-append_right, All-weaker, All-contains, All-nil}
 use Rattle.std.proofs.lemmas.Option.{slice_get_cases}

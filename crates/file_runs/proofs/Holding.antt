@@ -1,5 +1,5 @@
 -- The ledger and the lanes of a wave, before it and behind it.
-use Rattle.std.proofs.Common.{◌≡◌, ℕ, Bool, true, false, List, sym, ◌∙◌, subst, Option, Some}
+use Rattle.std.proofs.Common.{◌≡◌, Bool, true, false, List, sym, ◌∙◌, subst, Option, Some}
 use Rattle.outside.specs.declared.disk.Disk.{Ghosts}
 use Rattle.ledger_runs.specs.Lanes.{LaneOf}
 use Rattle.file_runs.specs.Ledgers.{LedgerOf}

@@ -15,3 +15,5 @@ pub mod Launching
 pub mod Whole
 pub mod Sending
 pub mod Holding
+pub mod Stretching
+pub mod FileDeeds

@@ -1,5 +1,5 @@
 -- What a wave asks of its ledger and of its lanes, and what these are before it and behind it.
-use Rattle.std.specs.Prelude.{◌≡◌, ℕ, ◌*◌, Bool, true, false, List, [], length, Option, Some}
+use Rattle.std.specs.Prelude.{◌≡◌, ◌*◌, Bool, true, false, List, [], length, Option, Some}
 use Rattle.outside.specs.declared.disk.Disk.{Ghosts}
 use Rattle.cbdc_model.specs.World.{AreIdle}
 use Rattle.ledger_runs.specs.Lanes.{LaneOf}

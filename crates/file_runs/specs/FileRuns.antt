@@ -1,5 +1,5 @@
 -- What running a client file came to.
-use Rattle.std.specs.Prelude.{◌<◌, ◌++◌, ℕ, Bool, List, Option, Result, IfOk, IfErr, OnOk}
+use Rattle.std.specs.Prelude.{◌<◌, ◌++◌, ℕ, Bool, List, Result, IfOk, IfErr, OnOk}
 use Rattle.outside.specs.declared.disk.Disk.{Ghosts}
 use Rattle.cbdc_model.specs.Coins.{FullTx}
 use Rattle.cbdc_model.specs.Lanes.{IsEnd}

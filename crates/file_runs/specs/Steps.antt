@@ -1,5 +1,5 @@
 -- What a lane's driver leaves at the nodes of a ledger, whatever it came to.
-use Rattle.std.specs.Prelude.{ℕ, ◌≤◌, List, Option}
+use Rattle.std.specs.Prelude.{ℕ, ◌≤◌, List}
 use Rattle.outside.specs.declared.disk.Disk.{Ghosts}
 use Rattle.cbdc_model.specs.Records.{Header}
 use Rattle.node_journal.specs.Nodes.{NodeOf, sight}

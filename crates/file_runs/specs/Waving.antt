@@ -1,5 +1,5 @@
 -- What is said of the nodes of a ledger behind a wave of its lanes.
-use Rattle.std.specs.Prelude.{◌≡◌, ℕ, ◌*◌, List, length, Option, All}
+use Rattle.std.specs.Prelude.{◌≡◌, ◌*◌, List, length, All}
 use Rattle.outside.specs.declared.disk.Disk.{Ghosts}
 use Rattle.cbdc_model.specs.Records.{Header}
 use Rattle.cbdc_model.specs.After.{IsJournal}

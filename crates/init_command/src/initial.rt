@@ -1,11 +1,11 @@
 // `init`: the first records of a ledger.
-ghost use Rattle.std.specs.Prelude.{◌≡◌, ◌≤◌, ◌⊎◌, ℕ, IfOk, IfErr};
-ghost use Rattle.outside.specs.Counts.{Rose};
+ghost use Rattle.std.specs.Prelude.{◌≡◌, ◌⊎◌, ℕ, IfOk, IfErr};
 ghost use Rattle.command_answers.specs.Scene.{no_output, scene};
 ghost use Rattle.rack_ledgers.specs.Racked.{disks_in};
-ghost use Rattle.command_answers.specs.Causes.{IsReadOrNodeFault, IsAnswerToRequest, HasToldCause, IsWell, FileRose};
+ghost use Rattle.command_answers.specs.Causes.{IsReadOrNodeFault, FileRose};
+ghost use Rattle.command_answers.specs.Promises.{HasKept};
+ghost use Rattle.init_command.specs.Promises.{init_promise, init_needs};
 ghost use Rattle.init_command.specs.Outcomes.{DidInit, WhyNoInit, InitLeaves};
-ghost use Rattle.command_answers.specs.Texts.{IsPrinted, IsSilent};
 ghost use Rattle.line_text.specs.Lines.{Text};
 ghost use Rattle.command_answers.specs.Left.{IsBeforeDisks};
 ghost use Rattle.line_text.specs.Lines.{init_text};
@@ -50,9 +50,8 @@ fn make<I: Inbox, R: Rack>(
 
 /// The first records of the ledger of a shape that a mint in a file begins, and its lines.
 ///
-/// What `process` promises where the words ask for it, by clauses of the same names (without those of the words and of the line of a fault). So do
-/// `run`, `recover`, `status`, `audit` and `generated` of the crates beside it. `cause` also says that a bad file has its place, and that a fault
-/// of reading or writing has its cause.
+/// What `process` promises where the words ask for it (`init_promise`), as `HasKept` says it. So do `run`, `recover`, `status` and `audit` of the
+/// crates beside it.
 ///
 /// Where it comes through: no node was in use and each disk had room for its first record. Each that told its content holds that record alone,
 /// whatever a crash leaves; all other disks are as before. These journals are a kept ledger of the mint in the file. Printed: how many coins it
@@ -71,23 +70,10 @@ pub fn init<I: Inbox, R: Rack, O: Sink>(
     out: &mut O,
 ) -> Answer
     requires { (n : ℕ) → R.can_take rack.old n }
-    ensures cause { IsAnswerToRequest (λ place. place ≡ file.now.place)
-        (FileRose (I.count inbox.old) (I.count inbox.new) file.now)
-        (Rose (O.count out.old) (O.count out.new)) result }
-    ensures did { IsWell result → DidInit R.Disk.Disk (I.file inbox.old)
-        (disks_in R.Rack rack.old) (disks_in R.Rack rack.new)
-        (IsPrinted (O.taken out.old) (O.taken out.new) result) shape.now file.now }
-    ensures why { let before = scene I.Inbox R.Rack O.Sink inbox.old rack.old out.old in
-        let after = scene I.Inbox R.Rack O.Sink inbox.new rack.new out.new in
-        HasToldCause (WhyNoInit R.Disk.Disk before after shape.now file.now) result }
-    ensures silent { IsSilent (O.taken out.old) (O.taken out.new) result }
-    ensures written_later { O.count out.old ≤ O.count out.new }
-    ensures untouched { IsBeforeDisks result → rack.new ≡ rack.old }
-    ensures left { let before = scene I.Inbox R.Rack O.Sink inbox.old rack.old out.old in
-        let after = scene I.Inbox R.Rack O.Sink inbox.new rack.new out.new in
-        (IsWell result → ⊥)
-        → (rack.new ≡ rack.old) ⊎ InitLeaves R.Disk.Disk before after shape.now file.now result }
-    ensures files { (name : Text) → I.file inbox.new name ≡ I.file inbox.old name }
+    ensures kept { HasKept (init_needs file.now) (init_promise R.Disk.Disk shape.now file.now)
+        (scene I.Inbox R.Rack O.Sink inbox.old rack.old out.old)
+        (scene I.Inbox R.Rack O.Sink inbox.new rack.new out.new)
+        (rack.new ≡ rack.old) (inbox.new ≡ inbox.old) result }
     ensures back { (n : ℕ) → R.can_take rack.new n }
 {
     let Made {

@@ -1,6 +1,6 @@
 -- Client files as what a command does over a ledger: what they leave, and what that is of the journals at entry.
 use Rattle.std.proofs.Common.{◌≡◌, inl, inr, ℕ, ◌*◌, ◌<◌, ◌==◌, false, List, [], ◌∷◌, ◌++◌, length, reverse, Bool, Option, Result, Ok, Err, refl, sym, ap, ◌∙◌, subst, arith}
-use Rattle.std.specs.Prelude.{IfOk, IfErr, OnOk}
+use Rattle.std.specs.Prelude.{IfOk, IfErr}
 use Rattle.std.specs.Global.{Vec}
 use Rattle.outside.specs.declared.disk.Disk.{Ghosts}
 use Rattle.cbdc_model.specs.Records.{Shape, Compact, Record}
@@ -22,7 +22,9 @@ use Rattle.ledger_runs.specs.Faults.{IsRunCause, HaveFailed, MayHoldBytes, Lanes
 use Rattle.ledger_runs.specs.Least.{IsLeastFault, IsLeastOpen}
 use Rattle.ledger_runs.proofs.Launching.{launches_begin}
 use Rattle.ledger_runs.proofs.Keeping.{ledger_same}
-use Rattle.file_runs.specs.Ledgers.{LedgerOf, ledger_journals, ledger_flights, ledger_faults, ledger_opened, IsChecked}
+use Rattle.file_runs.specs.Ledgers.{LedgerOf, ledger_journals, ledger_flights, ledger_faults, ledger_opened, ledger_capacity, IsChecked}
+use Rattle.file_runs.specs.Deeds.{DidFiles, files_deed as filed}
+use Rattle.file_runs.specs.Stretches.{ledger_sight, Stretch}
 use Rattle.file_runs.specs.declared.waves.Wave.{Wave}
 use Rattle.file_runs.specs.declared.ran.Ran.{Ran}
 use Rattle.file_runs.specs.Runs.{joined, IsSentPiece, HaveBegunFiles, IsFilesPiece, FliesWith}
@@ -52,7 +54,7 @@ none_of (x ∷ xs) e = absurd (omega (arith, e))
 -- ---- behind a resuming
 
 -- submissions of files that were run behind it
-over_keeps : (K H : Shape) (files : List (List FullTx)) (I M J : ℕ → List Record) → H ≡ K → OfKept K I (StaysKept K I M)
+pub over_keeps : (K H : Shape) (files : List (List FullTx)) (I M J : ℕ → List Record) → H ≡ K → OfKept K I (StaysKept K I M)
     → OfKept H M (λ mint submissions. StaysKept H M J mint (submissions ++ joined files)) → OfKept K I (λ mint submissions. StaysKept K I J mint (submissions ++ joined files))
 over_keeps K H files I M J e one two mint submissions kept =
     let a = one mint submissions kept in
@@ -60,7 +62,7 @@ over_keeps K H files I M J e one two mint submissions kept =
     record { grows = λ n. end_trans (I n) (M n) (J n) (a.grows n) (b.grows n); kept = b.kept }
 
 -- files behind the open batches, run or cut short
-over_cuts : (K H : Shape) (verdicts : VerdictsOf) (files : List (List FullTx)) (I M J : ℕ → List Record) → H ≡ K → 0 < length files → OfKept K I (StaysKept K I M) → OfKept K I (λ _ _. IsResumed K I M)
+pub over_cuts : (K H : Shape) (verdicts : VerdictsOf) (files : List (List FullTx)) (I M J : ℕ → List Record) → H ≡ K → 0 < length files → OfKept K I (StaysKept K I M) → OfKept K I (λ _ _. IsResumed K I M)
     → OfKept H M (λ mint _. (sound : FullTx → Bool) (E : ℕ → List Record) → TellsSound verdicts sound → IsResumed H E M → AreRunOrCut H sound files mint E J)
     → OfKept K I (λ mint _. (sound : FullTx → Bool) → TellsSound verdicts sound → IsRunOrCut K sound files mint I J)
 over_cuts K H verdicts files I M J e some one resumed two mint submissions kept sound tells = inr (
@@ -70,7 +72,7 @@ over_cuts K H verdicts files I M J e some one resumed two mint submissions kept 
 )
 
 -- kept journals that were cut short have grown in the order of open batches and files
-cut_waves : (K : Shape) (verdicts : VerdictsOf) (files : List (List FullTx)) (E X : ℕ → List Record) → 0 < K.shards → 0 < K.lanes → OfKept K E (λ mint submissions. StaysKept K E X mint (submissions ++ joined files))
+pub cut_waves : (K : Shape) (verdicts : VerdictsOf) (files : List (List FullTx)) (E X : ℕ → List Record) → 0 < K.shards → 0 < K.lanes → OfKept K E (λ mint submissions. StaysKept K E X mint (submissions ++ joined files))
     → OfKept K E (λ mint _. (sound : FullTx → Bool) → TellsSound verdicts sound → IsRunOrCut K sound files mint E X) → OfKept K E (λ _ _. (sound : FullTx → Bool) → TellsSound verdicts sound → IsCutWaves K sound files E X)
 cut_waves K verdicts files E X shards lanes keeps cut mint submissions kept sound tells = elim (cut mint submissions kept sound tells) [
   | inl same ↦ inl (open_batches K mint submissions (submissions ++ joined files) E X shards kept stays.kept stays.grows same)
@@ -83,19 +85,19 @@ cut_waves K verdicts files E X shards lanes keeps cut mint submissions kept soun
     stays = keeps mint submissions kept
 
 -- where open batches were brought to their end nothing was begun
-resumed_begun : (K : Shape) (verdicts : VerdictsOf) (files : List (List FullTx)) (E M : ℕ → List Record) → SamePrepared K E M → 0 < K.batch → HaveBegunFiles K verdicts files E M
+pub resumed_begun : (K : Shape) (verdicts : VerdictsOf) (files : List (List FullTx)) (E M : ℕ → List Record) → SamePrepared K E M → 0 < K.batch → HaveBegunFiles K verdicts files E M
 resumed_begun K verdicts files E M same some lane inside sound tells =
     let (done, more, pieces, none) = files_unbegun K verdicts files E some lane inside sound tells in (done, more, pieces, same lane ∙ none)
 
 -- and what was begun behind that is begun of all
-filed_begun : (K H : Shape) (verdicts : VerdictsOf) (files : List (List FullTx)) (E M X : ℕ → List Record) → H ≡ K → SamePrepared K E M → (0 < H.batch → HaveBegunFiles H verdicts files M X)
+pub filed_begun : (K H : Shape) (verdicts : VerdictsOf) (files : List (List FullTx)) (E M X : ℕ → List Record) → H ≡ K → SamePrepared K E M → (0 < H.batch → HaveBegunFiles H verdicts files M X)
     → 0 < K.batch → HaveBegunFiles K verdicts files E X
 filed_begun K H verdicts files E M X same unprepared begun some lane inside sound tells =
     let (done, more, pieces, has) = subst (λ k. 0 < k.batch → HaveBegunFiles k verdicts files M X) same begun some lane inside sound tells in
     (done, more, pieces, has ∙ ap (λ ps. reverse done ++ ps) (unprepared lane))
 
 -- the next piece is so from the journals at entry
-files_since : (verdicts : VerdictsOf) (files : List (List FullTx)) (K : Shape) (E M X : ℕ → List Record) → SamePrepared K E M
+pub files_since : (verdicts : VerdictsOf) (files : List (List FullTx)) (K : Shape) (E M X : ℕ → List Record) → SamePrepared K E M
     → (lane : ℕ) (txs : List Compact) → IsLaneOf K lane → PieceNext verdicts files K M X lane txs → PieceNext verdicts files K E X lane txs
 files_since verdicts files K E M X unprepared lane txs inside piece sound tells =
     let p = piece sound tells in
@@ -149,17 +151,45 @@ files_leave verdicts files K M X F G failed some grows keeps flies launches rest
   );
 }
 
-pub files_end : (verdicts : VerdictsOf) (files : List (List FullTx)) (K : Shape) (M X : ℕ → List Record) (came : Result (Vec Wave) LaneFault) → OnOk came (AreIdle K X)
-    → OnOk came (OfKept K M (λ _ _. (sound : FullTx → Bool) (E : ℕ → List Record) → TellsSound verdicts sound → IsResumed K E M → Waves K sound files E X))
-    → IfOk came (λ ws. OfKept K M (λ _ _. TellFiles K verdicts files M X ws.items)) → IfOk came (WorkEndsWell (files_deed verdicts files) K M X)
-files_end verdicts files K M X (Ok ws) idle waves told = record { idle = idle; did = λ mint submissions kept. (waves mint submissions kept, told mint submissions kept) }
-files_end verdicts files K M X (Err e) idle waves told = tt
+-- and that is a work
+pub files_worked : {D : Type 0} (device : Ghosts D) (verdicts : VerdictsOf) (files : List (List FullTx)) (l now : LedgerOf D) (came : Result (Vec Wave) LaneFault) → 0 < length files
+    → Stretch (filed verdicts files) (ledger_sight device l) (ledger_sight device now) came → HasWorked device (files_deed verdicts files) l now came
+files_worked device verdicts files l now came some s = record {
+  keeps_ledger = record { shape_same = s.shape_same; opened_same = s.is.opened_same; later = s.is.later; capacity_same = s.is.capacity_same; held = s.is.held };
+  checked = s.is.checked;
+  quiet = s.is.quiet;
+  leaves = files_leave verdicts files K M X (ledger_flights l) (ledger_flights now) failed some s.is.grows s.is.keeps s.is.flies s.is.launches (rest came s.is.did s.is.ends) s.is.begun.0 s.is.begun.1;
+  well = well came s.is.did;
+  badly = badly came s.is.cause s.is.ends;
+}
+  where
+    K : Shape
+    K = l.header.shape
 
-pub files_stop : (verdicts : VerdictsOf) (files : List (List FullTx)) (K : Shape) (M X : ℕ → List Record) (failed : ℕ → Type 0) (holds : ℕ → ℕ → Type 0) (came : Result (Vec Wave) LaneFault)
-    → IfErr came (IsRunCause K (IsFilesPiece K verdicts files M X) M X failed holds) → IfErr came (EndsFiles K verdicts files M X failed holds)
-    → IfErr came (EndsBadly (files_deed verdicts files) K M X failed holds)
-files_stop verdicts files K M X failed holds (Ok ws) cause ends = tt
-files_stop verdicts files K M X failed holds (Err e) cause ends = record { cause = cause; ends = ends }
+    M : ℕ → List Record
+    M = ledger_journals l
+
+    X : ℕ → List Record
+    X = ledger_journals now
+
+    failed : ℕ → Type 0
+    failed = HaveFailed (ledger_opened now) (ledger_faults now)
+
+    holds : ℕ → ℕ → Type 0
+    holds = MayHoldBytes (ledger_capacity now)
+
+    rest : (o : Result (Vec Wave) LaneFault) → IfOk o (λ ws. DidFiles K verdicts files M X ws.items) → IfErr o (λ e. EndsFiles K verdicts files M X failed holds e × LanesRest K X failed) → LanesRest K X failed
+    rest (Ok ws) did ends lane inside = inl (inl (did.idle lane inside))
+    rest (Err e) did ends lane inside = ends.1 lane inside
+
+    well : (o : Result (Vec Wave) LaneFault) → IfOk o (λ ws. DidFiles K verdicts files M X ws.items) → IfOk o (WorkEndsWell (files_deed verdicts files) K M X)
+    well (Ok ws) did = record { idle = did.idle; did = λ mint submissions kept. (did.waves mint submissions kept, did.told mint submissions kept) }
+    well (Err e) did = tt
+
+    badly : (o : Result (Vec Wave) LaneFault) → IfErr o (IsRunCause K (IsFilesPiece K verdicts files M X) M X failed holds) → IfErr o (λ e. EndsFiles K verdicts files M X failed holds e × LanesRest K X failed)
+        → IfErr o (EndsBadly (files_deed verdicts files) K M X failed holds)
+    badly (Ok ws) cause ends = tt
+    badly (Err e) cause ends = record { cause = cause; ends = ends.0 }
 
 -- ---- whose fault ends them, by what is known of the nodes of the ledger otherwise
 

@@ -13,3 +13,4 @@ pub mod Working
 pub mod Filed
 pub mod Closing
 pub mod Testing
+pub mod RunDeeds

@@ -8,3 +8,4 @@ pub mod Resuming
 pub mod Works
 pub mod Deeds
 pub mod Tests
+pub mod RunDeeds

@@ -4,3 +4,4 @@ pub mod Texts
 pub mod RecoverOutcomes
 pub mod Outcomes
 pub mod Reports
+pub mod Promises

@@ -1,17 +1,13 @@
 // `recover`: open batches are taken to their end.
-ghost use Rattle.std.specs.Prelude.{◌≡◌, ◌≤◌, ◌++◌, ℕ, [], ◌∷◌, length};
-ghost use Rattle.line_text.specs.Lines.{Prints};
+ghost use Rattle.std.specs.Prelude.{◌≡◌, ◌++◌, ℕ, List, Option, [], ◌∷◌, length};
+ghost use Rattle.line_text.specs.Lines.{Text, Prints};
 ghost use Rattle.line_text.specs.Reports.{recovery_text};
 ghost use Rattle.printed_lines.specs.Recoveries.{won_in};
-ghost use Rattle.outside.specs.Counts.{Rose, HasCause};
-ghost use Rattle.command_answers.specs.Causes.{IsAnswerToRequest, HasToldCause, IsWell};
-ghost use Rattle.run_command.specs.RecoverOutcomes.{DidRecover};
-ghost use Rattle.rack_runs.specs.Stops.{WhyNoTurns, TurnsLeave};
-ghost use Rattle.rack_ledgers.specs.Racked.{disks_in};
-ghost use Rattle.rack_runs.specs.Runs.{open_turns};
-ghost use Rattle.command_answers.specs.Texts.{IsPrinted, IsSilent};
+ghost use Rattle.outside.specs.Counts.{HasCause};
+ghost use Rattle.command_answers.specs.Promises.{HasKept};
+ghost use Rattle.command_answers.specs.Scene.{scene_with};
+ghost use Rattle.run_command.specs.Promises.{recover_promise, recover_needs};
 ghost use Rattle.run_command.specs.Texts.{batch_text, batch_texts};
-ghost use Rattle.command_answers.specs.Left.{IsBeforeDisks};
 
 use cbdc_types::{Answer, Outcome};
 use file_runs::Ran;
@@ -89,17 +85,11 @@ pub fn recover<W: Wait + Threads + Sync, R: Rack, O: Sink, G: Gate + Sync>(
 where
     R::Disk: Send,
     requires { (n : ℕ) → R.can_take rack.old n }
-    ensures cause { IsAnswerToRequest (λ file. ⊥) (λ file. ⊥)
-        (Rose (O.count out.old) (O.count out.new)) result }
-    ensures did { IsWell result → DidRecover R.Disk.Disk (disks_in R.Rack rack.old) (disks_in R.Rack rack.new)
-        (IsPrinted (O.taken out.old) (O.taken out.new) result) }
-    ensures why { let before = disks_in R.Rack rack.old in let after = disks_in R.Rack rack.new in
-        HasToldCause (WhyNoTurns R.Disk.Disk before after open_turns) result }
-    ensures left { let before = disks_in R.Rack rack.old in let after = disks_in R.Rack rack.new in
-        (IsWell result → ⊥) → TurnsLeave R.Disk.Disk before after open_turns result }
-    ensures silent { IsSilent (O.taken out.old) (O.taken out.new) result }
-    ensures written_later { O.count out.old ≤ O.count out.new }
-    ensures untouched { IsBeforeDisks result → rack.new ≡ rack.old }
+    ensures kept { (file : Text → Option (List ℕ)) (faults : Text → ℕ)
+        → HasKept recover_needs (recover_promise R.Disk.Disk)
+        (scene_with file faults R.Rack O.Sink rack.old out.old)
+        (scene_with file faults R.Rack O.Sink rack.new out.new)
+        (rack.new ≡ rack.old) (Unit {0}) result }
     ensures back { (n : ℕ) → R.can_take rack.new n }
 {
     let recovered = match recover_on(rt, alloc, rack, gate) {

@@ -1,12 +1,13 @@
 // `run`: the transactions of client files, file by file.
-ghost use Rattle.std.specs.Prelude.{◌≡◌, ◌≤◌, ◌⊎◌, ℕ, IfOk, IfErr};
-ghost use Rattle.outside.specs.Counts.{HasCause, Rose};
+ghost use Rattle.std.specs.Prelude.{◌≡◌, ◌⊎◌, ℕ, IfOk, IfErr};
+ghost use Rattle.outside.specs.Counts.{HasCause};
 ghost use Rattle.run_command.specs.Reports.{Reports};
-ghost use Rattle.command_answers.specs.Causes.{IsReadOrNodeFault, IsAnswerToRequest, HasToldCause, IsWell};
-ghost use Rattle.run_command.specs.Outcomes.{DidRun, WhyNoRun, WasRun, RunLeaves, RunPlace, RunRose};
+ghost use Rattle.command_answers.specs.Causes.{IsReadOrNodeFault};
+ghost use Rattle.command_answers.specs.Promises.{HasKept};
+ghost use Rattle.run_command.specs.Promises.{run_promise, run_needs};
+ghost use Rattle.run_command.specs.Outcomes.{WhyNoRun, WasRun, RunLeaves, RunPlace, RunRose};
 ghost use Rattle.command_answers.specs.Scene.{no_output, scene};
 ghost use Rattle.rack_ledgers.specs.Racked.{disks_in};
-ghost use Rattle.command_answers.specs.Texts.{IsPrinted, IsSilent};
 ghost use Rattle.line_text.specs.Lines.{Text};
 ghost use Rattle.command_answers.specs.Left.{IsBeforeDisks};
 
@@ -134,23 +135,11 @@ pub fn run<W: Wait + Threads + Sync, I: Inbox, R: Rack, O: Sink, G: Gate + Sync>
 where
     R::Disk: Send,
     requires { (n : ℕ) → R.can_take rack.old n }
-    ensures cause { IsAnswerToRequest (RunPlace verdicts.now clients.now)
-        (RunRose (I.count inbox.old) (I.count inbox.new) verdicts.now clients.now)
-        (Rose (O.count out.old) (O.count out.new)) result }
-    ensures did { IsWell result → DidRun R.Disk.Disk (I.file inbox.old)
-        (disks_in R.Rack rack.old) (disks_in R.Rack rack.new)
-        (IsPrinted (O.taken out.old) (O.taken out.new) result) verdicts.now clients.now }
-    ensures why { let before = scene I.Inbox R.Rack O.Sink inbox.old rack.old out.old in
-        let after = scene I.Inbox R.Rack O.Sink inbox.new rack.new out.new in
-        HasToldCause (WhyNoRun R.Disk.Disk before after verdicts.now clients.now) result }
-    ensures silent { IsSilent (O.taken out.old) (O.taken out.new) result }
-    ensures written_later { O.count out.old ≤ O.count out.new }
-    ensures untouched { IsBeforeDisks result → rack.new ≡ rack.old }
-    ensures left { let before = scene I.Inbox R.Rack O.Sink inbox.old rack.old out.old in
-        let after = scene I.Inbox R.Rack O.Sink inbox.new rack.new out.new in
-        (IsWell result → ⊥)
-        → (rack.new ≡ rack.old) ⊎ RunLeaves R.Disk.Disk before after verdicts.now clients.now result }
-    ensures files { (name : Text) → I.file inbox.new name ≡ I.file inbox.old name }
+    ensures kept { HasKept (run_needs verdicts.now clients.now)
+        (run_promise R.Disk.Disk verdicts.now clients.now)
+        (scene I.Inbox R.Rack O.Sink inbox.old rack.old out.old)
+        (scene I.Inbox R.Rack O.Sink inbox.new rack.new out.new)
+        (rack.new ≡ rack.old) (inbox.new ≡ inbox.old) result }
     ensures back { (n : ℕ) → R.can_take rack.new n }
 {
     let mut done = match run_all(rt, alloc, clients, verdicts, options, inbox, rack, gate) {

@@ -1,13 +1,11 @@
 // `status`: what a ledger knows, read from its open nodes.
-ghost use Rattle.std.specs.Prelude.{◌≡◌, ◌≤◌, ℕ, length, map, IfOk};
-ghost use Rattle.outside.specs.Counts.{Rose, HasCause};
-ghost use Rattle.line_text.specs.Lines.{Prints};
-ghost use Rattle.command_answers.specs.Causes.{IsAnswerToRequest, HasToldCause, IsWell};
-ghost use Rattle.status_command.specs.Outcomes.{DidStatus, WhyNoStatus};
-ghost use Rattle.command_answers.specs.Texts.{IsPrinted, IsSilent};
+ghost use Rattle.std.specs.Prelude.{◌≡◌, ◌≤◌, ℕ, List, Option, length, map, IfOk};
+ghost use Rattle.outside.specs.Counts.{HasCause};
+ghost use Rattle.line_text.specs.Lines.{Text, Prints};
+ghost use Rattle.command_answers.specs.Promises.{HasKept};
+ghost use Rattle.command_answers.specs.Scene.{scene_with};
+ghost use Rattle.status_command.specs.Promises.{status_promise, status_needs};
 ghost use Rattle.status_command.specs.Texts.{told_lines, status_among};
-ghost use Rattle.command_answers.specs.Left.{IsBeforeDisks};
-ghost use Rattle.rack_ledgers.specs.Racked.{AreDisksBack, disks_in};
 
 use cbdc_types::{Answer, Hash, Status};
 use line_text::{WriteFault, write_status};
@@ -79,16 +77,11 @@ pub fn status<W: Threads + Sync, R: Rack, O: Sink>(
 where
     R::Disk: Send,
     requires { (n : ℕ) → R.can_take rack.old n }
-    ensures cause { IsAnswerToRequest (λ file. ⊥) (λ file. ⊥)
-        (Rose (O.count out.old) (O.count out.new)) result }
-    ensures did { IsWell result → DidStatus R.Disk.Disk (disks_in R.Rack rack.old) (disks_in R.Rack rack.new)
-        (IsPrinted (O.taken out.old) (O.taken out.new) result) hashes.now }
-    ensures why { let before = disks_in R.Rack rack.old in let after = disks_in R.Rack rack.new in
-        HasToldCause (WhyNoStatus R.Disk.Disk before after) result }
-    ensures silent { IsSilent (O.taken out.old) (O.taken out.new) result }
-    ensures written_later { O.count out.old ≤ O.count out.new }
-    ensures untouched { IsBeforeDisks result → rack.new ≡ rack.old }
-    ensures left { AreDisksBack R.Disk.Disk (disks_in R.Rack rack.old) (disks_in R.Rack rack.new) }
+    ensures kept { (file : Text → Option (List ℕ)) (faults : Text → ℕ)
+        → HasKept status_needs (status_promise R.Disk.Disk hashes.now)
+        (scene_with file faults R.Rack O.Sink rack.old out.old)
+        (scene_with file faults R.Rack O.Sink rack.new out.new)
+        (rack.new ≡ rack.old) (Unit {0}) result }
     ensures back { (n : ℕ) → R.can_take rack.new n }
 {
     let nodes = match open_nodes(rt, alloc, rack) {

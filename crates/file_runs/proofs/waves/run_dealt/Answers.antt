@@ -1,4 +1,4 @@
-use Rattle.std.proofs.Common.{rules, ◌≡◌, ◌*◌, ◌∙◌, inl, refl, ap, sym, subst, length, map, Some}
+use Rattle.std.proofs.Common.{rules, ◌∙◌, inl, refl, ap, sym, subst, length, map, Some}
 use Rattle.std.proofs.lemmas.List.{length-map}
 use Rattle.submissions.specs.Checks.{AreChecked}
 use Rattle.ledger_runs.specs.Lanes.{came_of}

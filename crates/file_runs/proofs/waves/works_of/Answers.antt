@@ -1,4 +1,4 @@
-use Rattle.std.proofs.Common.{rules, ◌≡◌, ◌+◌, [], ◌∷◌, length, length-append, sym, ap, ◌∙◌, subst}
+use Rattle.std.proofs.Common.{rules, ◌+◌, [], ◌∷◌, length, length-append, sym, ap, ◌∙◌, subst}
 use Rattle.lane_sources.specs.Sources.{all_for_lane}
 use Rattle.file_runs.proofs.Sending.{AreBegun, one_more, none_yet, all_begun}
 use Rattle.file_runs.proofs.waves.works_of.Goals as goal

@@ -1,80 +1,74 @@
-use Rattle.outside.specs.Counts.{Rose}
-use Rattle.command_answers.proofs.Refusals.{not_refused, refused_alone, refusal_fault}
-use Rattle.std.proofs.Common.{◌≡◌, ◌≤◌, ◌∙◌, length, map, subst}
-use Rattle.rack_ledgers.specs.Racked.{disks_in}
+use Rattle.std.proofs.Common.{◌≡◌, ◌≤◌, ◌∙◌, inr, length, map, refl, subst, arith}
 use Rattle.cbdc_types.specs.declared.answer.Answer.TheVariants as answers
-use Rattle.status_command.specs.Outcomes.{WhyNoStatus}
+use Rattle.command_answers.specs.Scene.{scene_with}
 use Rattle.command_answers.specs.Texts.{IsPrinted}
+use Rattle.status_command.specs.Promises.{status_promise, status_needs}
 use Rattle.status_command.specs.Texts.{told_lines, status_among}
-use Rattle.command_answers.proofs.Answers.{told, fault_done}
 use Rattle.status_command.proofs.Ledgers.{few_shards, did_status, all_back}
-use Rattle.command_answers.proofs.Silent.{silent_same}
+use Rattle.command_answers.proofs.Kept.{kept_not, kept_done, kept_cut}
+use Rattle.command_answers.proofs.Refusals.{not_refused, refusal_fault}
 use Rattle.status_command.proofs.looking.status.Goals as goal
 
-pub returns-in-Err-clause-why : goal.returns-in-Err-clause-why
-returns-in-Err-clause-why g c =
-    told (WhyNoStatus g.R.Disk.Disk (disks_in g.R.Rack c.args.rack.now) (disks_in g.R.Rack c.open_nodes.new.rack)) c.in-Err.fault (c.in-Err.ensures.refusal, c.in-Err.ensures.back.held)
+pub returns-in-Err-clause-kept : goal.returns-in-Err-clause-kept
+returns-in-Err-clause-kept g c file faults =
+    let at = scene_with file faults g.R.Rack g.O.Sink in
+    kept_not status_needs (status_promise g.R.Disk.Disk c.args.hashes.now) (at c.args.rack.now c.args.out.now) (at c.open_nodes.new.rack c.args.out.now)
+    (c.open_nodes.new.rack ≡ c.args.rack.now) (Unit {0}) (λ of. absurd of) (λ _. tt) (λ name. refl)
+    c.in-Err.fault (refusal_fault (λ file. ⊥) (λ file. ⊥) c.in-Err.fault c.in-Err.ensures.kind) (c.in-Err.ensures.refusal, c.in-Err.ensures.back.held)
+    (λ before. absurd (not_refused c.in-Err.fault c.in-Err.ensures.kind before)) (inr c.in-Err.ensures.back.held) refl refl
 
-pub returns-in-Ok-write_statuses-clause-did : goal.returns-in-Ok-write_statuses-clause-did
-returns-in-Ok-write_statuses-clause-did g c well =
+pub returns-in_default-clause-kept : goal.returns-in_default-clause-kept
+returns-in_default-clause-kept g c file faults =
+    let at = scene_with file faults g.R.Rack g.O.Sink in
+    let back = all_back g.R.Disk.Disk (g.R.Rack.held c.args.rack.now) c.in-Ok.nodes.header c.in-Ok.nodes.logs.items c.in-Ok.nodes.shards.items c.in-Ok.ensures.opened.nodes
+    (g.R.Rack.held c.open_nodes.new.rack) (g.R.Rack.held c.close_nodes.new.rack) c.in-Ok.ensures.opened.others_held c.close_nodes.ensures.closed_logs c.close_nodes.ensures.closed_shards c.close_nodes.ensures.others_held
+    (g.R.Rack.count c.args.rack.now) (g.R.Rack.count c.close_nodes.new.rack) in
+    record {
+      cause = tt;
+      did = λ well. absurd well;
+      why = tt;
+      untouched = λ taken. absurd taken;
+      spared = λ of. absurd of;
+      unread = λ _. tt;
+      inbox = λ name. refl;
+      left = λ _. inr back;
+      silent = refl;
+      written_later = omega arith;
+    }
+
+pub returns-in-Ok-write_statuses-clause-kept : goal.returns-in-Ok-write_statuses-clause-kept
+returns-in-Ok-write_statuses-clause-kept g c file faults =
+    let at = scene_with file faults g.R.Rack g.O.Sink in
     let held = g.R.Rack.held c.args.rack.now in
     let nodes = c.in-Ok.nodes in
     let printed = IsPrinted (g.O.Sink.taken c.args.out.now) (g.O.Sink.taken c.write_statuses.new.out) answers.Ok in
     let few : length c.in-Ok.nodes.shards.items ≤ 64 =
     few_shards g.R.Disk.Disk held nodes.header nodes.logs.items nodes.shards.items c.in-Ok.ensures.opened.nodes in
     let same : c.deref.result.now ≡ map (status_among c.in-Ok.nodes.shards.items) c.args.hashes.now = c.deref.ensures.value ∙ c.in-Ok-told.ensures few in
-    did_status g.R.Disk.Disk held nodes.header nodes.logs.items nodes.shards.items c.in-Ok.ensures.opened.nodes
+    kept_done status_needs (status_promise g.R.Disk.Disk c.args.hashes.now) (at c.args.rack.now c.args.out.now) (at c.close_nodes.new.rack c.write_statuses.new.out)
+    (c.close_nodes.new.rack ≡ c.args.rack.now) (Unit {0}) (λ of. absurd of) (λ _. tt) (λ name. refl)
+    (did_status g.R.Disk.Disk held nodes.header nodes.logs.items nodes.shards.items c.in-Ok.ensures.opened.nodes
     (g.R.Rack.held c.open_nodes.new.rack) (g.R.Rack.held c.close_nodes.new.rack) c.in-Ok.ensures.opened.others_held c.close_nodes.ensures.closed_logs c.close_nodes.ensures.closed_shards c.close_nodes.ensures.others_held
-    (g.R.Rack.count c.args.rack.now) (g.R.Rack.count c.close_nodes.new.rack) printed c.args.hashes.now (subst (λ ss. printed (told_lines c.args.hashes.now ss)) same c.in-Ok-write_statuses.ensures.prints)
+    (g.R.Rack.count c.args.rack.now) (g.R.Rack.count c.close_nodes.new.rack) printed c.args.hashes.now (subst (λ ss. printed (told_lines c.args.hashes.now ss)) same c.in-Ok-write_statuses.ensures.prints)) c.write_statuses.ensures.cause.later
 
-pub returns-clause-did : goal.returns-clause-did
-returns-clause-did g c well =
+pub returns-clause-kept : goal.returns-clause-kept
+returns-clause-kept g c file faults =
+    let at = scene_with file faults g.R.Rack g.O.Sink in
     let held = g.R.Rack.held c.args.rack.now in
     let nodes = c.in-Ok.nodes in
     let printed = IsPrinted (g.O.Sink.taken c.args.out.now) (g.O.Sink.taken c.write_statuses.new.out) answers.WriteFault in
     let few : length c.in-Ok.nodes.shards.items ≤ 64 =
     few_shards g.R.Disk.Disk held nodes.header nodes.logs.items nodes.shards.items c.in-Ok.ensures.opened.nodes in
     let same : c.deref.result.now ≡ map (status_among c.in-Ok.nodes.shards.items) c.args.hashes.now = c.deref.ensures.value ∙ c.in-Ok-told.ensures few in
-    did_status g.R.Disk.Disk held nodes.header nodes.logs.items nodes.shards.items c.in-Ok.ensures.opened.nodes
+    kept_cut status_needs (status_promise g.R.Disk.Disk c.args.hashes.now) (at c.args.rack.now c.args.out.now) (at c.close_nodes.new.rack c.write_statuses.new.out)
+    (c.close_nodes.new.rack ≡ c.args.rack.now) (Unit {0}) (λ of. absurd of) (λ _. tt) (λ name. refl)
+    (did_status g.R.Disk.Disk held nodes.header nodes.logs.items nodes.shards.items c.in-Ok.ensures.opened.nodes
     (g.R.Rack.held c.open_nodes.new.rack) (g.R.Rack.held c.close_nodes.new.rack) c.in-Ok.ensures.opened.others_held c.close_nodes.ensures.closed_logs c.close_nodes.ensures.closed_shards c.close_nodes.ensures.others_held
-    (g.R.Rack.count c.args.rack.now) (g.R.Rack.count c.close_nodes.new.rack) printed c.args.hashes.now (subst (λ ss. printed (told_lines c.args.hashes.now ss)) same c.in-Err-write_statuses.ensures.prints)
-
-pub returns-in-Err-clause-silent : goal.returns-in-Err-clause-silent
-returns-in-Err-clause-silent g c = silent_same (g.O.Sink.taken c.args.out.now) c.in-Err.fault
-
-pub returns-in-Err-clause-untouched : goal.returns-in-Err-clause-untouched
-returns-in-Err-clause-untouched g c before = absurd (not_refused c.in-Err.fault c.in-Err.ensures.kind before)
-
-pub returns-in_default-clause-left : goal.returns-in_default-clause-left
-returns-in_default-clause-left g c =
-    all_back g.R.Disk.Disk (g.R.Rack.held c.args.rack.now) c.in-Ok.nodes.header c.in-Ok.nodes.logs.items c.in-Ok.nodes.shards.items c.in-Ok.ensures.opened.nodes
-    (g.R.Rack.held c.open_nodes.new.rack) (g.R.Rack.held c.close_nodes.new.rack) c.in-Ok.ensures.opened.others_held c.close_nodes.ensures.closed_logs c.close_nodes.ensures.closed_shards c.close_nodes.ensures.others_held
-    (g.R.Rack.count c.args.rack.now) (g.R.Rack.count c.close_nodes.new.rack)
-
-pub returns-in-Ok-write_statuses-clause-left : goal.returns-in-Ok-write_statuses-clause-left
-returns-in-Ok-write_statuses-clause-left g c =
-    all_back g.R.Disk.Disk (g.R.Rack.held c.args.rack.now) c.in-Ok.nodes.header c.in-Ok.nodes.logs.items c.in-Ok.nodes.shards.items c.in-Ok.ensures.opened.nodes
-    (g.R.Rack.held c.open_nodes.new.rack) (g.R.Rack.held c.close_nodes.new.rack) c.in-Ok.ensures.opened.others_held c.close_nodes.ensures.closed_logs c.close_nodes.ensures.closed_shards c.close_nodes.ensures.others_held
-    (g.R.Rack.count c.args.rack.now) (g.R.Rack.count c.close_nodes.new.rack)
-
-pub returns-clause-left : goal.returns-clause-left
-returns-clause-left g c =
-    all_back g.R.Disk.Disk (g.R.Rack.held c.args.rack.now) c.in-Ok.nodes.header c.in-Ok.nodes.logs.items c.in-Ok.nodes.shards.items c.in-Ok.ensures.opened.nodes
-    (g.R.Rack.held c.open_nodes.new.rack) (g.R.Rack.held c.close_nodes.new.rack) c.in-Ok.ensures.opened.others_held c.close_nodes.ensures.closed_logs c.close_nodes.ensures.closed_shards c.close_nodes.ensures.others_held
-    (g.R.Rack.count c.args.rack.now) (g.R.Rack.count c.close_nodes.new.rack)
-
-pub returns-in-Err-clause-left : goal.returns-in-Err-clause-left
-returns-in-Err-clause-left g c = c.in-Err.ensures.back.held
+    (g.R.Rack.count c.args.rack.now) (g.R.Rack.count c.close_nodes.new.rack) printed c.args.hashes.now (subst (λ ss. printed (told_lines c.args.hashes.now ss)) same c.in-Err-write_statuses.ensures.prints))
+    c.in-Err-write_statuses.ensures.cause.failed c.write_statuses.ensures.cause.later
 
 pub returns-in-Err-clause-back : goal.returns-in-Err-clause-back
 returns-in-Err-clause-back g c = c.in-Err.ensures.back.takes
 
 pub close_nodes-requires : goal.close_nodes-requires
 close_nodes-requires g c = c.in-Ok.ensures.opened.may_close
-
-pub returns-in-Err-clause-cause : goal.returns-in-Err-clause-cause
-returns-in-Err-clause-cause g c =
-    fault_done (λ file. ⊥) (λ file. ⊥) (Rose (g.O.Sink.count c.args.out.now) (g.O.Sink.count c.args.out.now)) c.in-Err.fault (refusal_fault (λ file. ⊥) (λ file. ⊥) c.in-Err.fault c.in-Err.ensures.kind)
-
-pub returns-in-Err-clause-did : goal.returns-in-Err-clause-did
-returns-in-Err-clause-did g c well = absurd (refused_alone c.in-Err.fault c.in-Err.ensures.kind well)
