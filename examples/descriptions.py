@@ -3,7 +3,7 @@ import collections
 import csv
 import re
 
-from spelling import LARGEST, MOST_IN_FILE, MOST_ITEMS, NOWHERE, WITNESS, Input, Output, Point, Tx, genesis_id, sha, tx_id
+from spelling import LARGEST, MOST_IN_FILE, MOST_ITEMS, NOWHERE, WITNESS, Input, Output, Point, Tx, genesis_id, program_of, tx_id
 
 OPTIONS = ("with", "bad", "unverified")
 COLUMNS = ("transaction", "side", "owner", "value")
@@ -380,7 +380,7 @@ class Ledger:
         return Output(self.program(word.owner), word.value)
 
     def program(self, owner):
-        return self.owners[owner].program if owner in self.owners else sha(owner.encode())
+        return self.owners[owner].program if owner in self.owners else program_of(owner)
 
     def point(self, place, word):
         """The outpoint that an input names."""

@@ -16,12 +16,27 @@ WITNESS = bytes(64)
 MOST_ITEMS, MOST_IN_FILE = 255, 1_000_000
 
 
+# What the first 16 bytes of a program are for a permit and for what is burnt.
+MARKS = {"permit": bytes([254]) * 16, "burn": bytes([255]) * 16}
+
+
 class BadFile(Exception):
     """Bytes that are not a file of this kind."""
 
 
 def sha(data):
     return hashlib.sha256(data).digest()
+
+
+def program_of(owner):
+    """An owner's program: the SHA-256 of the name; a permit's and a burn's begins with its mark, and has the first 16 bytes of that behind it."""
+    kind = owner.partition("/")[0]
+    return MARKS[kind] + sha(owner.encode())[:16] if kind in MARKS else sha(owner.encode())
+
+
+def kind_of(program):
+    """permit, burn, or None where it is money."""
+    return next((kind for kind, mark in MARKS.items() if program.startswith(mark)), None)
 
 
 def number(n):

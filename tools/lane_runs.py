@@ -248,7 +248,7 @@ def audit_text(work, rack):
     if {it.hash for it in left} != rack.unspent:
         raise Wrong(f"the shards hold {len(rack.unspent)} coins, and not the {len(left)} that are left")
     value, minted = sum(it.value for it in left), sum(it.value for it in work.mint)
-    return f"coins {len(left)}\nvalue {value}\nminted {minted}\ncommitted {len(rack.committed)}\n"
+    return f"coins {len(left)}\nvalue {value}\nminted {minted}\ncommitted {len(rack.committed)}\nmoney {value}\nissued 0\nredeemed 0\n"
 
 
 def compare(what, came, wanted):

@@ -432,7 +432,8 @@ class Checks:
         values = {hash_: it.value for tx in (self.case.mint.tx, *sound.values()) for hash_, it in zip(tx.made, tx.coins)}
         value = sum(values[it] for it in unspent)
         must(self.spoil == "output" or value == self.case.mint.value, f"of a mint of {self.case.mint.value} there is {value}")
-        return f"coins {len(unspent)}\nvalue {value}\nminted {self.case.mint.value}\ncommitted {len(committed)}\n"
+        sums = f"coins {len(unspent)}\nvalue {value}\nminted {self.case.mint.value}\ncommitted {len(committed)}\n"
+        return f"{sums}money {value}\nissued 0\nredeemed 0\n"
 
     def end(self, seen):
         must(seen.is_ledger, "at the end there is no ledger")

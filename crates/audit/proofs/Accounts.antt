@@ -1,5 +1,5 @@
 -- A sound verdict accounts for all money.
-use Rattle.std.proofs.Common.{◌≡◌, ℕ, zero, suc, ◌*◌, ◌/◌, ◌<◌, true, List, [], ◌∷◌, ◌++◌, map, length, reverse, refl, sym, ap, ◌∙◌, subst, arith}
+use Rattle.std.proofs.Common.{◌≡◌, ℕ, zero, suc, ◌+◌, ◌*◌, ◌/◌, ◌<◌, true, List, [], ◌∷◌, ◌++◌, map, length, reverse, refl, sym, ap, ◌∙◌, subst, arith}
 use Rattle.std.specs.List.{IsDistinct, AllByRecursion}
 use Rattle.std.proofs.Math.Nat.{div-lt_iff_lt-mul}
 use Rattle.std.proofs.lemmas.List.{reverse-reverse}
@@ -9,33 +9,40 @@ use Rattle.cbdc_model.specs.Ranges.{shard_of, shard_node}
 use Rattle.cbdc_model.specs.Status.{status}
 use Rattle.cbdc_model.specs.Slots.{slot, Idle}
 use Rattle.cbdc_model.specs.Coins.{Output, FullTx, compact}
-use Rattle.cbdc_model.specs.Book.{InBook}
+use Rattle.cbdc_model.specs.Book.{InBook, genesis_book, total}
+use Rattle.cbdc_model.specs.Money.{taken_sum, made_sum, issued, redeemed}
 use Rattle.cbdc_model.specs.Clean.{Clean}
-use Rattle.cbdc_model.specs.History.{minted, first_rows, history_of, committed, IsOrdered}
+use Rattle.cbdc_model.specs.History.{minted, first_rows, history_of, committed, IsOrdered, AreHandedIn}
 use Rattle.cbdc_model.specs.World.{IsHistory, IsUnspent, AreIdle}
 use Rattle.ledger_laws.proofs.Next.{Steady, has_prepare}
 use Rattle.ledger_laws.proofs.Ledger.{SteadyJournals, steady_lists, after_of}
 use Rattle.ledger_laws.proofs.Together.{steady_journals}
 use Rattle.ledger_laws.proofs.Alikes.{alike}
 use Rattle.ledger_laws.proofs.More.{has_done}
-use Rattle.audit.specs.declared.verdict.Totals.{Totals}
+use Rattle.cbdc_types.specs.declared.answer.Totals.{Totals}
 use Rattle.audit.specs.Laws.{AllAfter}
 use Rattle.audit.specs.Spending.{AreSpent}
 use Rattle.audit.specs.Verdicts.{Passes, IsSoundHistory, journals_of}
-use Rattle.audit.proofs.Once.{SoFar, AreReady, fold_so_far, mint_worth, EachBalanced, fold_worth}
+use Rattle.ledger_laws.proofs.Issuing.{EachKeeps, is_issued}
+use Rattle.ledger_laws.proofs.Recovery.{one_list}
+use Rattle.audit.proofs.Once.{SoFar, AreReady, fold_so_far, mint_worth, EachBalanced, all_balanced, fold_flow}
 use Rattle.audit.proofs.Unspent.{done_of, forms_are}
 use Rattle.audit.proofs.Sound.{unspent_is_book, spends_of, all_done}
 use Rattle.audit.proofs.Ordered.{ordered_rows}
 use Rattle.audit.specs.Journals.{AreLedgerJournals, BeginAs}
-use Rattle.audit.specs.Accounts.{IsBalanced, EachSpends, IsAccounted}
+use Rattle.audit.specs.Accounts.{IsBalanced, IsKeeping, EachSpends, IsAccounted}
 use Rattle.audit.specs.AccountLaws.{AnyForm, AccountLaw}
 use Rattle.audit.proofs.Begun.{caused_lists}
 use Rattle.audit.proofs.Twice.{none_twice, no_id_twice}
 use Rattle.audit.proofs.AtRest.{at_rest}
 
-balanced_of : (mint : List Output) (handed : List FullTx) (clean : Clean mint handed) (ts : List FullTx) → AllByRecursion IsBalanced ts → EachBalanced mint handed clean ts
-balanced_of mint handed clean [] h = tt
-balanced_of mint handed clean (t ∷ ts) h = (h.0, balanced_of mint handed clean ts h.1)
+balanced_of : (ts : List FullTx) → AllByRecursion IsBalanced ts → EachBalanced ts
+balanced_of [] h = tt
+balanced_of (t ∷ ts) h = (h.0, balanced_of ts h.1)
+
+keeping_of : (ts : List FullTx) → AllByRecursion IsKeeping ts → EachKeeps ts
+keeping_of [] h = tt
+keeping_of (t ∷ ts) h = (h.0, keeping_of ts h.1)
 
 afters : (K : Shape) (mint : List Output) (later : List Row) → Steady K (minted mint) AnyForm later → AllAfter K (minted mint) later
 afters K mint [] kept = tt
@@ -110,6 +117,13 @@ module _ (K : Shape) (mint : List Output) (handed : List FullTx) (rows : List Ro
   counted : totals.committed ≡ length spent.txs
   counted = sound_past.committed ∙ ap (λ r. length (committed r)) (reverse-reverse past) ∙ ap length (sym forms.1) ∙ same_length compact spent.txs
 
+  flow : (f : Output → ℕ) → total f sound_past.book + taken_sum f spent.txs ≡ total f (genesis_book mint) + made_sum f spent.txs
+  flow = fold_flow mint handed clean spent.txs sound_past.book forms.0 spent.folds
+
+  spent_same : sound_past.pass.spent.txs ≡ spent.txs
+  spent_same = one_list handed (committed past) sound_past.pass.spent.txs spent.txs
+      (subst (λ r. AreHandedIn handed (committed r) sound_past.pass.spent.txs) (reverse-reverse past) sound_past.pass.spent.handed_in) spent.handed_in
+
   pub is_accounted : IsAccounted K mint handed J totals
   is_accounted = record {
     later = steady.later;
@@ -121,12 +135,22 @@ module _ (K : Shape) (mint : List Output) (handed : List FullTx) (rows : List Ro
     book = sound_past.book;
     folds = spent.folds;
     unspent = unspent;
-    value_kept = λ balanced. fold_worth mint handed clean spent.txs sound_past.book forms.0 spent.folds (balanced_of mint handed clean spent.txs (recursion_from_All IsBalanced spent.txs balanced));
+    flow = flow;
+    value_kept = λ balanced. omega (arith, flow (λ o. o.value), all_balanced spent.txs (balanced_of spent.txs (recursion_from_All IsBalanced spent.txs balanced)));
+    issuance = λ keeping. is_issued mint spent.txs sound_past.book (keeping_of spent.txs (recursion_from_All IsKeeping spent.txs keeping)) flow;
     none_twice = none_twice mint handed clean spent.txs sound_past.book so;
     no_id_twice = subst (λ ks. IsDistinct same_digest (map (λ k. k.id) ks)) forms.1 (no_id_twice mint handed clean spent.txs sound_past.book so forms.0);
     idle = idle;
     alike = alike K (minted mint) AnyForm shards J steady idle_past;
-    totals_are = λ i. record { coins = sound_past.coins i; value = sound_past.value i; minted = (sound_past.minted ∙ sym (mint_worth mint handed clean)) i; committed = counted i };
+    totals_are = λ i. record {
+      coins = sound_past.coins i;
+      value = sound_past.value i;
+      minted = (sound_past.minted ∙ sym (mint_worth mint handed clean)) i;
+      committed = counted i;
+      money = sound_past.money i;
+      issued = (sound_past.issued ∙ ap issued spent_same) i;
+      redeemed = (sound_past.redeemed ∙ ap redeemed spent_same) i;
+    };
   }
 
 pub account : AccountLaw

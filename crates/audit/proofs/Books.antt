@@ -12,10 +12,10 @@ use Rattle.std.specs.Cmp.Lexicographic.{nat_list_cmp_total}
 use Rattle.base_types.specs.contracts.hash.HashPartialEq.TheImpl.{eq-value}
 use Rattle.cbdc_model.specs.Records.{Digest}
 use Rattle.cbdc_model.specs.Coins.{OutPoint, Output, Coin, made_coins}
-use Rattle.cbdc_model.specs.Book.{Book, key, value, same_output, taken, take_out, take_all as model_take, put_all}
+use Rattle.cbdc_model.specs.Book.{Book, key, total, same_output, taken, take_out, take_all as model_take, put_all}
 use Rattle.same_records.proofs.Digests.{digest_is}
 use Rattle.same_records.proofs.Keys.{same_point_is}
-use Rattle.ledger_laws.proofs.Books.{key_cmp, value-insert, value-remove, get-remove_same, get-insert_same, get-insert_other, get-remove_other, same_key, other_key, keys}
+use Rattle.ledger_laws.proofs.Books.{key_cmp, total-insert, total-remove, get-remove_same, get-insert_same, get-insert_other, get-remove_other, same_key, other_key, keys}
 use Rattle.audit.specs.declared.book.Book.{Book as Kept}
 use Rattle.audit.specs.Keeping.{same_kept_point, HasBook, HasRest}
 
@@ -43,14 +43,14 @@ insert_again b k o = book.same_map nat_list_cmp_total (book.slice_cmp-IsAntisymm
       | other_key t s ↦ get-insert_other b k o q s ∙ sym (get-remove_other b k q s) ∙ sym (get-insert_other (book.remove b k) k o q s)
     ]
 
-abbrev worth_at : Option Output → ℕ
-worth_at r = unwrap_or (option_map (λ o. o.value) r) 0
+abbrev total_at : (Output → ℕ) → Option Output → ℕ
+total_at f r = unwrap_or (option_map f r) 0
 
-put_worth : (b : Book) (k : List ℕ) (o : Output) (r : Option Output) → book.get b k ≡ r → value (book.insert b k o) + worth_at r ≡ value b + o.value
-put_worth b k o None e = omega (arith, value-insert b k o e)
-put_worth b k o (Some p) e =
-    let again : value (book.insert b k o) ≡ o.value + value (book.remove b k) = ap value (insert_again b k o) ∙ value-insert (book.remove b k) k o (get-remove_same b k k refl) in
-    omega (arith, again, value-remove b k p e)
+put_total : (f : Output → ℕ) (b : Book) (k : List ℕ) (o : Output) (r : Option Output) → book.get b k ≡ r → total f (book.insert b k o) + total_at f r ≡ total f b + f o
+put_total f b k o None e = omega (arith, total-insert f b k o e)
+put_total f b k o (Some p) e =
+    let again : total f (book.insert b k o) ≡ f o + total f (book.remove b k) = ap (total f) (insert_again b k o) ∙ total-insert f (book.remove b k) k o (get-remove_same b k k refl) in
+    omega (arith, again, total-remove f b k p e)
 
 put_size : (n m : ℕ) (l : ℕ) (r : Option Output) → n ≡ m + (cond (is_some r) 0 1) → m ≡ l → n ≡ cond (is_some r) l (l + 1)
 put_size n m l None e f = omega arith
@@ -66,11 +66,10 @@ put_kept m n b k o old h is updates puts len =
           ∙ ap (λ r. cond (eq_by_cmp key_cmp (key p) (key k)) (Some o) r) (h.outputs p) ∙ sym (book.get-insert nat_list_cmp_total b (key k) o (key p));
       size = put_size (hash_map_len n.outputs) (hash_map_len m.outputs) (book.len b) old len h.size ∙ ap (λ r. cond (is_some r) (book.len b) (book.len b + 1)) was
           ∙ sym (book.len-insert nat_list_cmp_total b (key k) o);
-      worth =
-          let f : Output → ℕ = λ p. p.value in
-          let a : sum_by f (values n.outputs) + worth_at old ≡ sum_by f (values m.outputs) + o.value = sum_by_puts_entry f same_kept_point m.outputs n.outputs (k.tx, k.index) o old is puts in
-          let c : value (book.insert b (key k) o) + worth_at old ≡ value b + o.value = put_worth b (key k) o old (sym was) in
-          let w : sum_by f (values m.outputs) ≡ value b = h.worth in
+      totals = λ f.
+          let a : sum_by f (values n.outputs) + total_at f old ≡ sum_by f (values m.outputs) + f o = sum_by_puts_entry f same_kept_point m.outputs n.outputs (k.tx, k.index) o old is puts in
+          let c : total f (book.insert b (key k) o) + total_at f old ≡ total f b + f o = put_total f b (key k) o old (sym was) in
+          let w : sum_by f (values m.outputs) ≡ total f b = h.totals f in
           omega arith;
     }
 
@@ -92,15 +91,14 @@ take_kept m n b c o h is updates left len =
       outputs = λ p. updates.0 (p.tx, p.index) ∙ ap (λ t. cond t None (get same_kept_point m.outputs (p.tx, p.index))) (point_test c.point p)
           ∙ ap (λ r. cond (eq_by_cmp key_cmp (key p) (key c.point)) None r) (h.outputs p) ∙ sym (book.get-remove nat_list_cmp_total b (key c.point) (key p));
       size = remove_size (hash_map_len n.outputs) (hash_map_len m.outputs) (book.len b) o len h.size ∙ sym (book.len-remove nat_list_cmp_total b (key c.point) ∙ ap (λ r. cond (is_some r) (book.len b - 1) (book.len b)) was);
-      worth =
-          let f : Output → ℕ = λ p. p.value in
+      totals = λ f.
           let a : sum_by f (values n.outputs) ≡ sum_by f (values_of (remove_entry (same_kept_point (c.point.tx, c.point.index)) m.outputs.entries))
           = sum_by_values_permutation f (remove_entry (same_kept_point (c.point.tx, c.point.index)) m.outputs.entries) n.outputs.entries left in
-          let d : sum_by f (values_of (remove_entry (same_kept_point (c.point.tx, c.point.index)) m.outputs.entries)) + worth_at (lookup (same_kept_point (c.point.tx, c.point.index)) m.outputs.entries)
+          let d : sum_by f (values_of (remove_entry (same_kept_point (c.point.tx, c.point.index)) m.outputs.entries)) + total_at f (lookup (same_kept_point (c.point.tx, c.point.index)) m.outputs.entries)
           ≡ sum_by f (values m.outputs) = sum_by-remove_entry f (same_kept_point (c.point.tx, c.point.index)) m.outputs.entries in
-          let e : worth_at (lookup (same_kept_point (c.point.tx, c.point.index)) m.outputs.entries) ≡ o.value = ap worth_at (sym is) in
-          let v : value b ≡ o.value + value (book.remove b (key c.point)) = value-remove b (key c.point) o was in
-          let w : sum_by f (values m.outputs) ≡ value b = h.worth in
+          let e : total_at f (lookup (same_kept_point (c.point.tx, c.point.index)) m.outputs.entries) ≡ f o = ap (total_at f) (sym is) in
+          let v : total f b ≡ f o + total f (book.remove b (key c.point)) = total-remove f b (key c.point) o was in
+          let w : sum_by f (values m.outputs) ≡ total f b = h.totals f in
           omega arith;
     }
 
@@ -120,20 +118,20 @@ take_append None cs ds = refl
 take_append (Some b) [] ds = refl
 take_append (Some b) (c ∷ cs) ds = take_append (take_out b c) cs ds
 
-no_entries : (es : List (List ℕ × Output)) → length es ≡ 0 → sum_by (λ (o : Output). o.value) (values_of es) ≡ 0
-no_entries [] h = refl
-no_entries (x ∷ es) h = absurd (omega arith)
+no_entries : (f : Output → ℕ) (es : List (List ℕ × Output)) → length es ≡ 0 → sum_by f (values_of es) ≡ 0
+no_entries f [] h = refl
+no_entries f (x ∷ es) h = absurd (omega arith)
 
--- the empty book has no value
-pub none_worth : value (book.empty {X = Output} {R = key_cmp}) ≡ 0
-none_worth = no_entries (book.entries (book.empty {X = Output} {R = key_cmp})) (sym (book.len-entries (book.empty {X = Output} {R = key_cmp})) ∙ book.len-empty key_cmp Output)
+-- the empty book comes to nothing
+pub none_total : (f : Output → ℕ) → total f (book.empty {X = Output} {R = key_cmp}) ≡ 0
+none_total f = no_entries f (book.entries (book.empty {X = Output} {R = key_cmp})) (sym (book.len-entries (book.empty {X = Output} {R = key_cmp})) ∙ book.len-empty key_cmp Output)
 
 -- an empty map keeps it
 pub empty_kept : (m : Kept) → m.outputs.entries ≡ [] → HasBook m book.empty
 empty_kept m e = record {
   outputs = λ p. ap (λ es. lookup (same_kept_point (p.tx, p.index)) es) e ∙ sym (book.get-empty key_cmp (key p));
   size = ap length e ∙ sym (book.len-empty key_cmp Output);
-  worth = ap (λ es. sum_by (λ (o : Output). o.value) (values_of es)) e ∙ sym none_worth;
+  totals = λ f. ap (λ es. sum_by f (values_of es)) e ∙ sym (none_total f);
 }
 
 left_none : (m : Kept) (r : Option Book) → HasRest true m r → HasRest true m (model_take r [])

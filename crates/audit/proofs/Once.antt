@@ -7,14 +7,15 @@ use Rattle.std.proofs.lemmas.List.{map-append}
 use Rattle.std.proofs.lemmas.List.Sums.{sum_by-cons}
 use Rattle.cbdc_model.specs.Records.{Digest, same_digest, Compact}
 use Rattle.cbdc_model.specs.Coins.{Output, Coin, FullTx, coin_hash, tx_id, tx_coins, made_coins, genesis_tx, genesis_hashes, compact}
-use Rattle.cbdc_model.specs.Book.{Book, same_output, taken, take_all, put_all, spend, spend_from, fold_txs, genesis_book, value}
+use Rattle.cbdc_model.specs.Book.{Book, same_output, taken, take_all, put_all, spend, spend_from, fold_txs, genesis_book, total, value}
 use Rattle.cbdc_model.specs.Clean.{IsMember, IsNamed, Clean, value_in, value_out}
+use Rattle.cbdc_model.specs.Money.{sum_in, sum_out, taken_sum, made_sum}
 use Rattle.cbdc_model.specs.History.{all_inputs, all_outputs}
 use Rattle.ledger_laws.proofs.Counts.{count, count-append, same_digest_is, count_first, count-cons_same, count-cons_other, digests}
 use Rattle.ledger_laws.proofs.View.{none, some, none_or_some}
-use Rattle.ledger_laws.proofs.Folds.{Stands, Origin, EachCoin, point_of, hashes_of, coins_value, take_one, put_all_stands, stands_same}
+use Rattle.ledger_laws.proofs.Folds.{Stands, Origin, EachCoin, point_of, hashes_of, take_one, put_all_stands, stands_same}
 use Rattle.ledger_laws.proofs.Members.{In, contains_in, CoinAt, coin_at, Made, made_is, coins_apart, tx_coins_once, genesis_member, made_tx}
-use Rattle.audit.proofs.Books.{none_worth}
+use Rattle.audit.proofs.Books.{none_total}
 
 abbrev pub spent_of : List FullTx → Digest → ℕ
 spent_of ts x = count x (all_inputs (map compact ts))
@@ -53,11 +54,11 @@ same_coin d c p o =
     let i : d.point.index ≡ c.point.index = cc in
     λ j. record { point = record { tx = t j; index = i j }; output = o j }
 
--- the coins of outputs are worth what the outputs are
-made_value : (id : Digest) (k : ℕ) (os : List Output) → coins_value (made_coins id k os) ≡ value_out os
-made_value id k [] = refl
-made_value id k (o ∷ os) =
-    omega (arith, sum_by-cons (λ c. c.output.value) (record { point = record { tx = id; index = k }; output = o }) (made_coins id (suc k) os), sum_by-cons (λ o. o.value) o os, made_value id (suc k) os)
+-- the coins of outputs come to what the outputs do
+made_total : (f : Output → ℕ) (id : Digest) (k : ℕ) (os : List Output) → sum_in f (made_coins id k os) ≡ sum_out f os
+made_total f id k [] = refl
+made_total f id k (o ∷ os) =
+    omega (arith, sum_by-cons (λ c. f c.output) (record { point = record { tx = id; index = k }; output = o }) (made_coins id (suc k) os), sum_by-cons f o os, made_total f id (suc k) os)
 
 no_book : {A : Type 0} (b : Book) → None ≡ Some b → A
 no_book b e = absurd (let z : None ≡ Some b = e in cc)
@@ -98,7 +99,7 @@ module _ (mint : List Output) (handed : List FullTx) (clean : Clean mint handed)
   record Took (b : Book) (cs : List Coin) (β : Digest → ℕ) (r : Book) : Type 0 where
     enough : (x : Digest) → count x (hashes_of cs) ≤ β x
     stands : StandsFor r (λ x. β x - count x (hashes_of cs))
-    worth : value b ≡ coins_value cs + value r
+    flow : (f : Output → ℕ) → total f b ≡ sum_in f cs + total f r
 
   take_first : (b : Book) (c : Coin) (cs : List Coin) (r : Book) (o : Option Output) → book.get b (point_of c) ≡ o → take_all (taken b c o) cs ≡ Some r
       → (book.get b (point_of c) ≡ Some c.output) × (take_all (Some (book.remove b (point_of c))) cs ≡ Some r)
@@ -110,8 +111,8 @@ module _ (mint : List Output) (handed : List FullTx) (clean : Clean mint handed)
         | false ↦ λ t h. no_book r h
       ] refl h
 
-  no_coins : (b r : Book) → value b ≡ value r → value b ≡ coins_value [] + value r
-  no_coins b r e = omega (arith, e)
+  no_coins : (f : Output → ℕ) (b r : Book) → total f b ≡ total f r → total f b ≡ sum_in f [] + total f r
+  no_coins f b r e = omega (arith, e)
 
   took : (cs : List Coin) (b r : Book) (β : Digest → ℕ) → StandsFor b β → EachCoin (IsNamed mint handed) cs → ((x : Digest) → β x ≤ 1) → take_all (Some b) cs ≡ Some r → Took b cs β r
   took [] b r β st each once h =
@@ -119,7 +120,7 @@ module _ (mint : List Output) (handed : List FullTx) (clean : Clean mint handed)
       record {
         enough = λ x. omega arith;
         stands = subst (λ d. StandsFor d (λ x. β x - 0)) e (stands_same (coins_apart mint handed clean) b β (λ x. β x - 0) (λ x. omega arith) st);
-        worth = no_coins b r (ap value e);
+        flow = λ f. no_coins f b r (ap (total f) e);
       }
   took (c ∷ cs) b r β st each once h =
       let first : (book.get b (point_of c) ≡ Some c.output) × (take_all (Some (book.remove b (point_of c))) cs ≡ Some r) = take_first b c cs r (book.get b (point_of c)) refl h in
@@ -132,7 +133,7 @@ module _ (mint : List Output) (handed : List FullTx) (clean : Clean mint handed)
       record {
         enough = λ x. enough_both x (rest.enough x) here;
         stands = stands_same (coins_apart mint handed clean) r _ _ (λ x. omega arith) rest.stands;
-        worth = omega (arith, left.2, rest.worth, sum_by-cons (λ d. d.output.value) c cs);
+        flow = λ f. omega (arith, left.2 f, rest.flow f, sum_by-cons (λ d. f d.output) c cs);
       }
     where
       enough_both : (x : Digest) → count x (hashes_of cs) ≤ β x - count x (coin_hash c ∷ []) → 0 < β (coin_hash c) → count x (hashes_of (c ∷ cs)) ≤ β x
@@ -176,7 +177,7 @@ module _ (mint : List Output) (handed : List FullTx) (clean : Clean mint handed)
   none_in y cs e n = let z : count y (hashes_of cs) ≡ 0 = ap (λ ds. count y (hashes_of ds)) e in omega arith
 
   next_so_far : (ts : List FullTx) (b e : Book) (t : FullTx) → SoFar ts b → IsMember mint handed t → 0 < length t.inputs → spend b t ≡ Some e
-      → SoFar (ts ++ t ∷ []) e × (value e + value_in t.inputs ≡ value b + value_out t.outputs)
+      → SoFar (ts ++ t ∷ []) e × ((f : Output → ℕ) → total f e + sum_in f t.inputs ≡ total f b + sum_out f t.outputs)
   next_so_far ts b e t so member some_in h =
       let l : (c : Book) × (take_all (Some b) t.inputs ≡ Some c) × (put_all c (tx_coins t) ≡ e) = left_of (take_all (Some b) t.inputs) t e h in
       let β : Digest → ℕ = λ x. (minted_of x + made_of ts x) - spent_of ts x in
@@ -191,7 +192,7 @@ module _ (mint : List Output) (handed : List FullTx) (clean : Clean mint handed)
           covered = λ x. omega (arith, spent_more ts t x, made_more ts t x, took_all.enough x, so.covered x);
           members = λ u i. in_more ts u i so.members;
         },
-        omega (arith, ap value (sym l.2) ∙ put.1, took_all.worth, made_value (tx_id t) 0 t.outputs),
+        λ f. omega (arith, ap (total f) (sym l.2) ∙ put.1 f, took_all.flow f, made_total f (tx_id t) 0 t.outputs),
       )
     where
       new_once : (x : Digest) → ((y : Digest) → count y (hashes_of t.inputs) ≤ (minted_of y + made_of ts y) - spent_of ts y)
@@ -257,7 +258,7 @@ module _ (mint : List Output) (handed : List FullTx) (clean : Clean mint handed)
     found = λ c n k. absurd (omega arith);
   }
 
-  mint_stands : StandsFor (genesis_book mint) (λ x. 0 + count x (hashes_of (tx_coins (genesis_tx mint)))) × (value (genesis_book mint) ≡ coins_value (tx_coins (genesis_tx mint)) + value book.empty)
+  mint_stands : StandsFor (genesis_book mint) (λ x. 0 + count x (hashes_of (tx_coins (genesis_tx mint)))) × ((f : Output → ℕ) → total f (genesis_book mint) ≡ sum_in f (tx_coins (genesis_tx mint)) + total f book.empty)
   mint_stands =
       let member : IsMember mint handed (genesis_tx mint) = genesis_member mint handed clean in
       put_all_stands (coins_apart mint handed clean) (tx_coins (genesis_tx mint)) book.empty (λ x. 0) empty_stands
@@ -265,7 +266,7 @@ module _ (mint : List Output) (handed : List FullTx) (clean : Clean mint handed)
 
   -- the book that a mint is has its value
   pub mint_worth : value (genesis_book mint) ≡ value_out mint
-  mint_worth = omega (arith, mint_stands.1, none_worth, made_value (tx_id (genesis_tx mint)) 0 mint)
+  mint_worth = omega (arith, mint_stands.1 (λ o. o.value), none_total (λ o. o.value), made_total (λ o. o.value) (tx_id (genesis_tx mint)) 0 mint)
 
   minted_so_far : SoFar [] (genesis_book mint)
   minted_so_far =
@@ -280,18 +281,25 @@ module _ (mint : List Output) (handed : List FullTx) (clean : Clean mint handed)
   pub fold_so_far : (ts : List FullTx) (e : Book) → AreReady ts → fold_txs (Some (genesis_book mint)) ts ≡ Some e → SoFar ts e
   fold_so_far ts e ready h = all_so_far ts [] (genesis_book mint) e minted_so_far ready h
 
-  -- where each makes as much as it takes, the value stays
-  abbrev pub EachBalanced : List FullTx → Type 0
-  EachBalanced [] = Unit {0}
-  EachBalanced (t ∷ ts) = (value_in t.inputs ≡ value_out t.outputs) × EachBalanced ts
-
-  all_worth : (us ts : List FullTx) (b e : Book) → SoFar ts b → AreReady us → fold_txs (Some b) us ≡ Some e → EachBalanced us → value e ≡ value b
-  all_worth [] ts b e so ready h balanced = let same : b ≡ e = cc in ap value (sym same)
-  all_worth (u ∷ us) ts b e so ready h balanced =
+  -- by any measure what is left and what was taken come to what there was and what was made
+  all_flow : (f : Output → ℕ) (us ts : List FullTx) (b e : Book) → SoFar ts b → AreReady us → fold_txs (Some b) us ≡ Some e → total f e + taken_sum f us ≡ total f b + made_sum f us
+  all_flow f [] ts b e so ready h = let same : b ≡ e = cc in ap (λ c. total f c + taken_sum f []) (sym same)
+  all_flow f (u ∷ us) ts b e so ready h =
       let s : (c : Book) × (spend b u ≡ Some c) = step_of (spend b u) us e h in
       let n = next_so_far ts b s.0 u so ready.0 ready.1 s.1 in
-      let rest : value e ≡ value s.0 = all_worth us (ts ++ u ∷ []) s.0 e n.0 ready.2 (ap (λ r. fold_txs r us) (sym s.1) ∙ h) balanced.1 in
-      omega (arith, rest, n.1, balanced.0)
+      let rest : total f e + taken_sum f us ≡ total f s.0 + made_sum f us = all_flow f us (ts ++ u ∷ []) s.0 e n.0 ready.2 (ap (λ r. fold_txs r us) (sym s.1) ∙ h) in
+      omega (arith, rest, n.1 f, sum_by-cons (λ t. sum_in f t.inputs) u us, sum_by-cons (λ t. sum_out f t.outputs) u us)
 
-  pub fold_worth : (ts : List FullTx) (e : Book) → AreReady ts → fold_txs (Some (genesis_book mint)) ts ≡ Some e → EachBalanced ts → value e ≡ value (genesis_book mint)
-  fold_worth ts e ready h balanced = all_worth ts [] (genesis_book mint) e minted_so_far ready h balanced
+  pub fold_flow : (ts : List FullTx) (e : Book) → AreReady ts → fold_txs (Some (genesis_book mint)) ts ≡ Some e
+      → (f : Output → ℕ) → total f e + taken_sum f ts ≡ total f (genesis_book mint) + made_sum f ts
+  fold_flow ts e ready h f = all_flow f ts [] (genesis_book mint) e minted_so_far ready h
+
+-- where each makes as much as it takes, so do all
+abbrev pub EachBalanced : List FullTx → Type 0
+EachBalanced [] = Unit {0}
+EachBalanced (t ∷ ts) = (value_in t.inputs ≡ value_out t.outputs) × EachBalanced ts
+
+pub all_balanced : (ts : List FullTx) → EachBalanced ts → taken_sum (λ o. o.value) ts ≡ made_sum (λ o. o.value) ts
+all_balanced [] balanced = refl
+all_balanced (t ∷ ts) balanced =
+    omega (arith, balanced.0, all_balanced ts balanced.1, sum_by-cons (λ u. sum_in (λ o. o.value) u.inputs) t ts, sum_by-cons (λ u. sum_out (λ o. o.value) u.outputs) t ts)

@@ -8,10 +8,11 @@ use Rattle.cbdc_types.specs.declared.answer.UnsoundKind.{UnsoundKind}
 use Rattle.cbdc_types.specs.declared.answer.UnsoundKind.TheVariants.{Cause, Unknown, Unfunded, Unfinished}
 use Rattle.cbdc_model.specs.Records.{Shape, Compact, Record, Row, journal}
 use Rattle.cbdc_model.specs.Coins.{Output, FullTx}
-use Rattle.cbdc_model.specs.Book.{Book, genesis_book, fold_txs, spend, value}
+use Rattle.cbdc_model.specs.Book.{Book, genesis_book, fold_txs, spend, value, money}
+use Rattle.cbdc_model.specs.Money.{issued, redeemed}
 use Rattle.cbdc_model.specs.History.{committed, newly_won, first_with, AreHandedIn}
 use Rattle.ledger_laws.proofs.Recovery.{one_list}
-use Rattle.audit.specs.declared.verdict.Totals.{Totals}
+use Rattle.cbdc_types.specs.declared.answer.Totals.{Totals}
 use Rattle.audit.specs.declared.verdict.Verdict.TheVariants.{Sound, Unsound}
 use Rattle.audit.specs.Walks.{IsRowCaused, HasDoneRecord, AllDone, IsFirstOpen}
 use Rattle.audit.specs.Spending.{AreSpent, IsFormWrong, IsFirstWrong}
@@ -206,7 +207,11 @@ module _ (K : Shape) (mint : List Output) (handed : List FullTx) where
         let value : v.value ≡ w.value = s.value ∙ ap value e ∙ sym t.value in
         let minted : v.minted ≡ w.minted = s.minted ∙ sym t.minted in
         let count : v.committed ≡ w.committed = s.committed ∙ sym t.committed in
-        λ i. record { coins = coins i; value = value i; minted = minted i; committed = count i }
+        let txs : s.pass.spent.txs ≡ t.pass.spent.txs = one_list handed (committed (reverse rows)) s.pass.spent.txs t.pass.spent.txs s.pass.spent.handed_in t.pass.spent.handed_in in
+        let coins_money : v.money ≡ w.money = s.money ∙ ap money e ∙ sym t.money in
+        let all_issued : v.issued ≡ w.issued = s.issued ∙ ap issued txs ∙ sym t.issued in
+        let all_redeemed : v.redeemed ≡ w.redeemed = s.redeemed ∙ ap redeemed txs ∙ sym t.redeemed in
+        λ i. record { coins = coins i; value = value i; minted = minted i; committed = count i; money = coins_money i; issued = all_issued i; redeemed = all_redeemed i }
 
 pub one_verdict : OneVerdictLaw
 one_verdict K mint handed rows (Sound v) (Sound w) s t = ap (λ x. Sound x) (totals_same K mint handed rows v w s t)

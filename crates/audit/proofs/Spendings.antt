@@ -1,9 +1,11 @@
 -- One more committed form is spent.
-use Rattle.std.proofs.Common.{◌≡◌, ◌<◌, ◌≤◌, ◌+◌, ℕ, zero, suc, min, true, false, cond, List, [], ◌∷◌, ◌++◌, length, take, drop, get_or, Option, Some, None, refl, sym, ap, ◌∙◌, subst, arith, append_assoc, append-nil}
+use Rattle.std.proofs.Common.{◌≡◌, ◌<◌, ◌≤◌, ◌+◌, ℕ, zero, suc, min, true, false, cond, List, [], ◌∷◌, ◌++◌, length, take, drop, get_or, Option, Some, None, refl, sym, ap, ◌∙◌, subst, arith, append_assoc, append-nil, sum_by}
+use Rattle.std.proofs.lemmas.List.Sums.{sum_by-cons}
 use Rattle.std.proofs.lemmas.List.{take_more, take-append-drop, drop_more, length-take-le}
 use Rattle.cbdc_model.specs.Records.{Compact, Outcome, is_won}
 use Rattle.cbdc_model.specs.Coins.{Output, FullTx}
 use Rattle.cbdc_model.specs.Book.{Book, genesis_book, fold_txs, spend}
+use Rattle.cbdc_model.specs.Money.{issued_by, redeemed_by}
 use Rattle.cbdc_model.specs.History.{first_with, AreHandedIn}
 use Rattle.cbdc_model.specs.Outcomes.{won_txs}
 use Rattle.cbdc_types.specs.declared.answer.UnsoundKind.{UnsoundKind}
@@ -30,9 +32,14 @@ length_more : {X : Type 0} (xs : List X) (x : X) → length (xs ++ x ∷ []) ≡
 length_more [] x = refl
 length_more (y ∷ xs) x = omega (arith, length_more xs x)
 
+sum_more : {X : Type 0} (f : X → ℕ) (xs : List X) (x : X) → sum_by f (xs ++ x ∷ []) ≡ sum_by f xs + f x
+sum_more f [] x = let one = sum_by-cons f x [] in omega (arith, one)
+sum_more f (y ∷ xs) x = omega (arith, sum_more f xs x, sum_by-cons f y (xs ++ x ∷ []), sum_by-cons f y xs)
+
 pub spent_more : (mint : List Output) (handed : List FullTx) (forms : List Compact) (form : Compact) (t : FullTx) (old new : Fold) → HasSpent mint handed forms old
-    → first_with handed form ≡ Some t → ((b : Book) → HasBook old.book b → HasRest true new.book (spend b t)) → new.committed ≡ old.committed + 1 → HasSpent mint handed (forms ++ form ∷ []) new
-spent_more mint handed forms form t old new h first left count = by (spend h.left t) refl (left h.left h.keeps)
+    → first_with handed form ≡ Some t → ((b : Book) → HasBook old.book b → HasRest true new.book (spend b t)) → new.committed ≡ old.committed + 1
+    → new.issued ≡ old.issued + issued_by t → new.redeemed ≡ old.redeemed + redeemed_by t → HasSpent mint handed (forms ++ form ∷ []) new
+spent_more mint handed forms form t old new h first left count more_issued more_redeemed = by (spend h.left t) refl (left h.left h.keeps)
   where
     by : (r : Option Book) → spend h.left t ≡ r → HasRest true new.book r → HasSpent mint handed (forms ++ form ∷ []) new
     by None e l = absurd l
@@ -45,6 +52,8 @@ spent_more mint handed forms form t old new h first left count = by (spend h.lef
       };
       keeps = l;
       count = omega (arith, count, h.count, length_more forms form);
+      issued = omega (arith, more_issued, h.issued, sum_more issued_by h.are_spent.txs t);
+      redeemed = omega (arith, more_redeemed, h.redeemed, sum_more redeemed_by h.are_spent.txs t);
     }
 
 -- a book that is not left

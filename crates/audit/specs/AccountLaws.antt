@@ -5,7 +5,7 @@ use Rattle.cbdc_model.specs.Coins.{Output, FullTx, genesis_id}
 use Rattle.cbdc_model.specs.Clean.{Clean}
 use Rattle.cbdc_model.specs.History.{Minted, minted, IsOrdered}
 use Rattle.cbdc_model.specs.Lanes.{KeptLists}
-use Rattle.audit.specs.declared.verdict.Totals.{Totals}
+use Rattle.cbdc_types.specs.declared.answer.Totals.{Totals}
 use Rattle.audit.specs.Walks.{AllCaused}
 use Rattle.audit.specs.Verdicts.{IsSoundHistory, journals_of}
 use Rattle.audit.specs.Journals.{AreLedgerJournals, BeginAs}

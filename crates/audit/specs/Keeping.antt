@@ -5,7 +5,8 @@ use Rattle.std.specs.FinMap as book
 use Rattle.base_types.specs.contracts.hash.HashPartialEq.TheImpl.{eq-value}
 use Rattle.cbdc_model.specs.Records.{Digest, same_digest, Shape, Compact, Record, journal}
 use Rattle.cbdc_model.specs.Coins.{OutPoint, Output, FullTx, tx_id, compact}
-use Rattle.cbdc_model.specs.Book.{Book, key, value}
+use Rattle.cbdc_model.specs.Book.{Book, key, total}
+use Rattle.cbdc_model.specs.Money.{issued, redeemed}
 use Rattle.cbdc_model.specs.History.{committed}
 use Rattle.audit.specs.declared.place.Place.{Place}
 use Rattle.audit.specs.Rows.{rows_at, newest_first}
@@ -31,7 +32,7 @@ same_kept_point p q = eq-value.it p.0 q.0 && nat_eq p.1 q.1
 pub record HasBook (m : Kept) (b : Book) : Type 0 where
   pub outputs : (p : OutPoint) → get same_kept_point m.outputs (p.tx, p.index) ≡ book.get b (key p)
   pub size : hash_map_len m.outputs ≡ book.len b
-  pub worth : sum_by (λ o. o.value) (values m.outputs) ≡ value b
+  pub totals : (f : Output → ℕ) → sum_by f (values m.outputs) ≡ total f b
 
 -- whether the map has what is left of a book, if something is
 abbrev pub HasRest : Bool → Kept → Option Book → Type 0
@@ -63,6 +64,8 @@ pub record HasSpent (mint : List Output) (handed : List FullTx) (forms : List Co
   pub are_spent : AreSpent mint handed forms left
   pub keeps : HasBook fold.book left
   pub count : fold.committed ≡ length forms
+  pub issued : fold.issued ≡ issued are_spent.txs
+  pub redeemed : fold.redeemed ≡ redeemed are_spent.txs
 
 -- what a walk says: all is known, caused and spent, or something is wrong at a place
 abbrev pub IsWalked : Shape → List Output → List FullTx → List (List Record) → List Place → Fold → Walked → Type 0

@@ -7,7 +7,7 @@ use Rattle.cbdc_model.specs.Coins.{Output, FullTx}
 use Rattle.cbdc_model.specs.History.{Minted, minted, header_of, first_rows, history_of, committed, IsOrdered}
 use Rattle.cbdc_model.specs.Records.{Digest, Shape, Record, Row, journal}
 use Rattle.cbdc_model.specs.World.{IsHistory, IsUnspent}
-use Rattle.audit.specs.declared.verdict.Totals.{Totals}
+use Rattle.cbdc_types.specs.declared.answer.Totals.{Totals}
 use Rattle.audit.specs.declared.verdict.Verdict.{Verdict}
 use Rattle.audit.specs.Verdicts.{IsSoundHistory, IsVerdict}
 

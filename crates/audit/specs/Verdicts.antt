@@ -5,10 +5,11 @@ use Rattle.cbdc_types.specs.declared.answer.UnsoundKind.{UnsoundKind}
 use Rattle.cbdc_types.specs.declared.answer.UnsoundKind.TheVariants.{Cause, Unknown, Unfunded, Unfinished}
 use Rattle.cbdc_model.specs.Records.{Shape, Record, Row, journal}
 use Rattle.cbdc_model.specs.Coins.{Output, FullTx}
-use Rattle.cbdc_model.specs.Book.{Book, value}
+use Rattle.cbdc_model.specs.Book.{Book, value, money}
+use Rattle.cbdc_model.specs.Money.{issued, redeemed}
 use Rattle.cbdc_model.specs.Clean.{value_out}
 use Rattle.cbdc_model.specs.History.{committed, newly_won}
-use Rattle.audit.specs.declared.verdict.Totals.{Totals}
+use Rattle.cbdc_types.specs.declared.answer.Totals.{Totals}
 use Rattle.audit.specs.declared.verdict.Verdict.{Verdict}
 use Rattle.audit.specs.declared.verdict.Verdict.TheVariants.{Sound, Unsound}
 use Rattle.audit.specs.Walks.{IsRowCaused, AllCaused, AllDone, IsFirstOpen}
@@ -47,7 +48,7 @@ pub record IsFirstUnfinished (K : Shape) (mint : List Output) (handed : List Ful
   pub pass : Passes K mint handed (reverse rows) book
   pub first : IsFirstOpen K (journals_of rows) rows place
 
--- nothing is wrong with any row, all batches are done, and the totals are those of the last book, the mint and what is committed
+-- nothing is wrong with any row, all batches are done, and the totals are those of the last book, the mint and the transactions that were spent
 pub record IsSoundHistory (K : Shape) (mint : List Output) (handed : List FullTx) (rows : List Row) (totals : Totals) : Type 0 where
   pub book : Book
   pub pass : Passes K mint handed (reverse rows) book
@@ -56,6 +57,9 @@ pub record IsSoundHistory (K : Shape) (mint : List Output) (handed : List FullTx
   pub value : totals.value ≡ value book
   pub minted : totals.minted ≡ value_out mint
   pub committed : totals.committed ≡ length (committed (reverse rows))
+  pub money : totals.money ≡ money book
+  pub issued : totals.issued ≡ issued pass.spent.txs
+  pub redeemed : totals.redeemed ≡ redeemed pass.spent.txs
 
 -- an audit's verdict
 abbrev pub IsVerdict : Shape → List Output → List FullTx → List Row → Verdict → Type 0

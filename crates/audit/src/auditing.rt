@@ -17,9 +17,9 @@ use crate::compacting::forms_of;
 use crate::folding::Fold;
 use crate::handed::ById;
 use crate::known::Known;
-use crate::verdict::{Totals, Verdict};
+use crate::verdict::Verdict;
 use crate::{Place, record_at};
-use cbdc_types::{CompactTx, FullTx, Output, Record, RecordKind, Shape, UnsoundKind};
+use cbdc_types::{CompactTx, FullTx, Output, Record, RecordKind, Shape, Totals, UnsoundKind};
 use std::alloc::{AllocError, Global};
 use std::thread::Threads;
 
@@ -188,6 +188,9 @@ pub fn audit<W: Threads + Sync>(
                 value: fold.book.value(),
                 minted: minted(mint),
                 committed: fold.committed,
+                money: fold.book.money(),
+                issued: fold.issued,
+                redeemed: fold.redeemed,
             })),
         },
     }

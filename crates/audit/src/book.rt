@@ -4,8 +4,9 @@ ghost use Rattle.std.specs.FinMap as book;
 ghost use Rattle.std.specs.HashMap.{values, hash_map_len};
 ghost use Rattle.cbdc_model.specs.Book.{Book as ModelBook, key, take_out, take_all, put_all, spend, genesis_book};
 ghost use Rattle.cbdc_model.specs.Coins.{made_coins, tx_id};
+ghost use Rattle.cbdc_model.specs.Money.{money_of};
 
-use cbdc_types::{FullTx, Hash, Input, Output};
+use cbdc_types::{FullTx, Hash, Input, Kind, Output, kind};
 use same_records::is_same_output;
 use sentinel::genesis_id;
 use std::alloc::{AllocError, Global};
@@ -15,6 +16,17 @@ use std::collections::HashMap;
 #[derive(Drop)]
 pub(crate) struct Book {
     pub(crate) outputs: HashMap<(Hash, u64), Output>,
+}
+
+// What an output is worth, where it is money.
+fn money_in(output: &Output) -> u128
+    ensures value { result ≡ money_of output.now }
+    ensures small { result < 2 ^ 64 }
+{
+    match kind(output) {
+        Kind::Money => u128::from(output.value),
+        Kind::Permit | Kind::Burn => 0,
+    }
 }
 
 // What an output is worth.
@@ -109,6 +121,17 @@ impl Book {
         ensures { result ≡ hash_map_len self.now.outputs }
     {
         self.outputs.len() as u64
+    }
+
+    /// The sum of the values of those that are money.
+    pub(crate) fn money(&self) -> u128
+        ensures { result ≡ sum_by money_of (values self.now.outputs) }
+    {
+        let mut money = 0u128;
+        'outputs: for output in self.outputs.values() {
+            money += money_in(output);
+        }
+        money
     }
 
     /// The sum of their values.

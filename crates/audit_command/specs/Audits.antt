@@ -8,12 +8,12 @@ use Rattle.cbdc_types.specs.declared.answer.Answer.TheVariants as answers
 use Rattle.cbdc_model.specs.Coins.{Output, FullTx, genesis_id}
 use Rattle.requests.specs.declared.FileWord.{FileWord}
 use Rattle.input_files.specs.Contents.{mint_of_file, AreRead, IsNotRead, FirstNotRead}
-use Rattle.audit.specs.declared.verdict.Totals.{Totals}
+use Rattle.cbdc_types.specs.declared.answer.Totals.{Totals}
 use Rattle.audit.specs.declared.verdict.Verdict.{Verdict}
 use Rattle.audit.specs.declared.verdict.Verdict.TheVariants.{Sound, Unsound}
 use Rattle.rack_ledgers.specs.Audited.{IsAudited, HistoryHasRoom, HistoryIsHeld, IsAccountedFor}
 use Rattle.file_runs.specs.Runs.{joined}
-use Rattle.printed_lines.specs.Reports.{audit_lines}
+use Rattle.line_text.specs.Reports.{audit_text}
 use Rattle.command_answers.specs.Causes.{FileRose, OnePlace, OneRose}
 use Rattle.command_answers.specs.Scene.{Scene}
 use Rattle.rack_ledgers.specs.Racked.{AreDisksBack, Disks, AreUnchanged}
@@ -44,7 +44,7 @@ pub record DidAudit {D : Type 0} (device : Ghosts D) (files : Text → Option (L
   -- transaction has an input
   pub sentence : IsAccountedFor device before.held was.mint (joined was.handed) totals
   -- what it comes to was printed
-  pub prints : printed (audit_lines totals)
+  pub prints : printed (audit_text totals)
 
 -- one of the files of an audit has this place
 abbrev pub AuditPlace : FileWord → List FileWord → ℕ → Type 0

@@ -4,7 +4,7 @@ ghost use Rattle.outside.specs.Counts.{Rose};
 ghost use Rattle.command_answers.specs.Scene.{no_output, scene};
 ghost use Rattle.rack_ledgers.specs.Racked.{AreDisksBack, disks_in};
 ghost use Rattle.file_runs.specs.Runs.{joined as all_joined};
-ghost use Rattle.printed_lines.specs.Reports.{audit_lines};
+ghost use Rattle.line_text.specs.Reports.{audit_text};
 ghost use Rattle.command_answers.specs.Causes.{IsReadOrNodeFault, IsAnswerToRequest, IsWell};
 ghost use Rattle.audit_command.specs.Audits.{AuditPlace, AuditRose, WasAudited, WhyUnaudited};
 ghost use Rattle.audit_command.specs.Promises.{audit_promise, audit_needs};
@@ -13,10 +13,10 @@ ghost use Rattle.command_answers.specs.Texts.{IsPrinted, IsSilent};
 ghost use Rattle.line_text.specs.Lines.{Text};
 ghost use Rattle.command_answers.specs.Left.{IsBeforeDisks};
 
-use audit::{Totals, Verdict};
-use cbdc_types::{Answer, FullTx, List};
+use audit::Verdict;
+use cbdc_types::{Answer, FullTx, List, Totals};
 use input_files::{all_clients_in, mint_in};
-use line_text::{AuditSummary, write_audit};
+use line_text::write_audit;
 use outside::{Inbox, Rack, Sink};
 use rack_ledgers::audit_on;
 use requests::FileWord;
@@ -78,18 +78,12 @@ fn print<O: Sink>(out: &mut O, totals: &Totals) -> Answer
     ensures cause { IsAnswerToRequest (λ file. ⊥) (λ file. ⊥)
         (Rose (O.count out.old) (O.count out.new)) result }
     ensures shown { IsWell result }
-    ensures prints { IsPrinted (O.taken out.old) (O.taken out.new) result (audit_lines totals.now) }
+    ensures prints { IsPrinted (O.taken out.old) (O.taken out.new) result (audit_text totals.now) }
     ensures silent { IsSilent (O.taken out.old) (O.taken out.new) result }
     ensures behind { IsBeforeDisks result → ⊥ }
     ensures later { O.count out.old ≤ O.count out.new }
 {
-    let summary = AuditSummary {
-        coins: totals.coins,
-        value: totals.value,
-        minted: totals.minted,
-        committed: totals.committed,
-    };
-    match write_audit(out, &summary) {
+    match write_audit(out, totals) {
         Ok(()) => Answer::Ok,
         Err(_) => Answer::WriteFault,
     }
@@ -99,12 +93,13 @@ fn print<O: Sink>(out: &mut O, totals: &Totals) -> Answer
 ///
 /// Where it comes through: the one verdict of the journals by the mint and what was handed in is Sound. So the sentence about the money holds of
 /// the ledger that the disks tell, if its first records are the mint's, no hashes clash and each committed transaction has an input; and that the
-/// value is the value minted, where each of these makes as much as it takes. The disks are as behind `status`.
+/// value is the value minted, where each of these makes as much as it takes, and money what was minted plus issued less redeemed, where each keeps
+/// the money. The disks are as behind `status`.
 ///
 /// In full (clause `did` of `process`): the files held the mint and the transactions; there are a shape within its limits and rows in order, in
 /// which the journal of each node of a ledger of this mint is what its disk's content, where told, opens to, and which have no other rows, and each
 /// disk had room for its journal there with what is kept for its open batches; the one verdict of the audit of these rows is Sound, and so the
-/// money of this ledger is accounted for, as `account_law` of `rack_ledgers` says; what is printed are its four numbers; each disk is back and
+/// money of this ledger is accounted for, as `account_law` of `rack_ledgers` says; what is printed are its seven numbers; each disk is back and
 /// reads as before, and whatever a crash leaves of one of the ledger that told its content opens to exactly its journal in these rows.
 pub fn audit<W: Threads + Sync, I: Inbox, R: Rack, O: Sink>(
     rt: &W,

@@ -31,6 +31,15 @@ pub enum Refusal {
     OutputOverflow,
     #[error("the inputs' values come to {ins}, the outputs' to {outs}")]
     Unbalanced { ins: u64, outs: u64 },
+    /// This input claims a burn output, which is never spent.
+    #[error("input {0} claims a burn output, which is never spent")]
+    BurnedInput(u64),
+    /// So many inputs claim permits, and so many outputs are: neither none and none nor one and one.
+    #[error("{ins} inputs claim permits, and {outs} outputs are permits")]
+    PermitCount { ins: u64, outs: u64 },
+    /// The permit that is made has more value than the one that is spent.
+    #[error("the permit spent has the value {was}, the one made {now}")]
+    PermitRaised { was: u64, now: u64 },
     /// The verdict on this input's witness is bad.
     #[error("the witness of input {0} is bad")]
     BadWitness(u64),

@@ -5,6 +5,7 @@ use Rattle.std.specs.Ordering.{nat_cmp}
 use Rattle.std.specs.Cmp.Lexicographic.{slice_cmp}
 use Rattle.cbdc_model.specs.Records.{Digest, same_digest}
 use Rattle.cbdc_model.specs.Coins.{OutPoint, Output, Coin, FullTx, coin_hash, tx_coins, genesis_tx}
+use Rattle.cbdc_model.specs.Money.{money_of, issuable_of, permits_of}
 
 -- an outpoint as a key: the index and the bytes of the id
 abbrev pub key : OutPoint → List ℕ
@@ -53,9 +54,25 @@ fold_txs None ts = None
 fold_txs (Some b) [] = Some b
 fold_txs (Some b) (t ∷ ts) = fold_txs (spend b t) ts
 
+-- the sum of a measure over the outputs
+abbrev pub total : (Output → ℕ) → Book → ℕ
+total f b = sum_by f (book.values b)
+
 -- the sum of the values
 abbrev pub value : Book → ℕ
-value b = sum_by (λ o. o.value) (book.values b)
+value b = total (λ o. o.value) b
+
+-- that of the money
+abbrev pub money : Book → ℕ
+money b = total money_of b
+
+-- how many permits there are
+abbrev pub permits : Book → ℕ
+permits b = total permits_of b
+
+-- what may still be issued with them
+abbrev pub issuable : Book → ℕ
+issuable b = total issuable_of b
 
 -- the book that a mint is: its outputs under its id, at 0, 1, 2 and so on
 abbrev pub genesis_book : List Output → Book

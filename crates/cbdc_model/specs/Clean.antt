@@ -1,8 +1,11 @@
 -- Mints and submissions without clashes of hashes, and which transactions may be prepared.
-use Rattle.std.specs.Prelude.{◌≡◌, ◌⊎◌, ℕ, ◌<◌, ◌≤◌, ◌^◌, List, map, length, sum_by, All, Contains, bytes_eq}
+use Rattle.std.specs.Prelude.{◌≡◌, ◌≢◌, ◌⊎◌, ℕ, ◌<◌, ◌≤◌, ◌^◌, List, map, length, sum_by, All, Contains, bytes_eq}
 use Rattle.std.specs.List.{IsDistinct}
+use Rattle.cbdc_types.specs.Kinds.{kind_of}
+use Rattle.cbdc_types.specs.declared.tx.Kind.TheVariants.{Burn}
 use Rattle.cbdc_model.specs.Records.{Compact}
 use Rattle.cbdc_model.specs.Coins.{Input, Output, Coin, FullTx, coin_hash, tx_id, tx_coins, compact, genesis_tx}
+use Rattle.cbdc_model.specs.Money.{permits_of, issuable_of, sum_in, sum_out, ArePaired}
 use Rattle.cbdc_model.specs.Book.{key}
 
 -- the mint, or one of the submissions
@@ -26,8 +29,16 @@ value_in inputs = sum_by (λ c. c.output.value) inputs
 abbrev pub value_out : List Output → ℕ
 value_out outputs = sum_by (λ o. o.value) outputs
 
+-- inputs and outputs keep the money: equal sums of values; no burn output is claimed; of permits none is spent and none made, or one and one, the
+-- one that is made with no greater value
+pub record KeepsMoney (inputs : List Input) (outputs : List Output) : Type 0 where
+  pub balanced : value_in inputs ≡ value_out outputs
+  pub none_burnt : All (λ c. kind_of c.output ≢ Burn) inputs
+  pub permits : ArePaired (sum_in permits_of inputs) (sum_out permits_of outputs)
+  pub not_raised : sum_out issuable_of outputs ≤ sum_in issuable_of inputs
+
 -- what is checked of a transaction without asking whether its witnesses are good: some inputs, some outputs, as many witnesses as inputs, no
--- outpoint twice among the inputs, no value 0, both sums of values below 2^64, and equal sums
+-- outpoint twice among the inputs, no value 0, both sums of values below 2^64, and that it keeps the money
 pub record IsProper (t : FullTx) : Type 0 where
   pub has_input : 0 < length t.inputs
   pub has_output : 0 < length t.outputs
@@ -37,7 +48,7 @@ pub record IsProper (t : FullTx) : Type 0 where
   pub no_zero_output : All (λ o. 1 ≤ o.value) t.outputs
   pub inputs_fit : value_in t.inputs < 2 ^ 64
   pub outputs_fit : value_out t.outputs < 2 ^ 64
-  pub balanced : value_in t.inputs ≡ value_out t.outputs
+  pub keeps_money : KeepsMoney t.inputs t.outputs
 
 -- the compact form of a proper submission
 abbrev pub IsProperCompact : List FullTx → Compact → Type 0

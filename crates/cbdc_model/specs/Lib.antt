@@ -10,6 +10,7 @@ pub mod Next
 pub mod After
 pub mod Causes
 pub mod Coins
+pub mod Money
 pub mod Book
 pub mod Clean
 pub mod History

@@ -15,6 +15,25 @@ pub enum UnsoundKind {
     Unfinished,
 }
 
+/// What the coins of the last book of a sound history come to, what was minted, and what its committed transactions come to.
+#[derive(Clone, Copy, Debug, PartialEq, Eq)]
+pub struct Totals {
+    /// The coins left.
+    pub coins: u64,
+    /// The sum of their values.
+    pub value: u128,
+    /// The sum of the mint's values.
+    pub minted: u128,
+    /// The transactions committed.
+    pub committed: u64,
+    /// The sum of the values of the coins left that are money.
+    pub money: u128,
+    /// What the committed transactions issued.
+    pub issued: u128,
+    /// What they redeemed.
+    pub redeemed: u128,
+}
+
 /// How a run of the program ended. A file is its place among the words.
 #[derive(Clone, Copy, Debug, PartialEq, Eq)]
 pub enum Answer {

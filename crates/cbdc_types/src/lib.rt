@@ -4,10 +4,11 @@
 mod answer;
 mod batch;
 mod calls;
+mod kinds;
 mod record;
 mod tx;
 
-pub use answer::{Answer, UnsoundKind};
+pub use answer::{Answer, Totals, UnsoundKind};
 pub use base_types::{
     BadShape, BatchId, Hash, InputKind, LaneId, List, NodeId, Refusal, Shape, ShapeField, Stamp,
 };
@@ -16,5 +17,6 @@ pub use batch::{
     ShardReplies, Status,
 };
 pub use calls::{FinishCall, ForgetCall, LockCall, NodeFault, NodeOpenFault, Refused, Replied};
+pub use kinds::kind;
 pub use record::{Header, Record, RecordKind};
-pub use tx::{Batch, CompactTx, FullTx, Input, Mint, OutPoint, Output};
+pub use tx::{Batch, CompactTx, FullTx, Input, Kind, Mint, OutPoint, Output};

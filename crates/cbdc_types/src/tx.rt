@@ -15,6 +15,17 @@ pub struct Output {
     pub value: u64,
 }
 
+/// What an output is, which the first 16 bytes of its program say.
+#[derive(Clone, Copy, Debug, PartialEq, Eq)]
+pub enum Kind {
+    /// All of them are 254: its value is what may still be issued.
+    Permit,
+    /// All of them are 255: its value is redeemed, and it is never spent.
+    Burn,
+    /// All other outputs: its value is money.
+    Money,
+}
+
 /// An input: an outpoint, and the output that it claims to be there.
 #[derive(Clone, Copy, Debug, PartialEq, Eq)]
 pub struct Input {

@@ -26,7 +26,7 @@ use Rattle.submissions.specs.SoundTest.{sound_by}
 use Rattle.submissions.proofs.Telling.{is_sound_law}
 use Rattle.submissions.specs.Checks.{TellsSound}
 use Rattle.input_files.specs.Contents.{all_txs}
-use Rattle.audit.specs.declared.verdict.Totals.{Totals}
+use Rattle.cbdc_types.specs.declared.answer.Totals.{Totals}
 use Rattle.audit.specs.declared.verdict.Verdict.{Verdict}
 use Rattle.audit.specs.declared.verdict.Verdict.TheVariants.{Sound, Unsound}
 use Rattle.audit.specs.Verdicts.{IsVerdict}
@@ -40,7 +40,7 @@ use Rattle.file_runs.specs.declared.ran.Ran.{Ran}
 use Rattle.file_runs.specs.Telling.{TellsRun}
 use Rattle.line_text.specs.Lines.{summary_text}
 use Rattle.printed_lines.specs.Decided.{new_batches}
-use Rattle.printed_lines.specs.Reports.{audit_lines}
+use Rattle.line_text.specs.Reports.{audit_text}
 use Rattle.printed_lines.specs.Runs.{is_confirmed, is_rejected, is_refused, count_in}
 use Rattle.printed_lines.specs.Unspent.{IsUnspentCount}
 use Rattle.workload.specs.Generator.{mint_of, minted_of, joined_of, split_of, join_of}
@@ -267,7 +267,7 @@ module _ (K : Shape) (seed n : ℕ) where
   why_done written answers.Memory is = tt
 
   -- the text of a workload
-  pub text_of : (ran : Ran) (totals : Totals) → IsWorkloadResult K seed n ran totals → IsWorkloadText K seed n (numbers_of ran ++ audit_lines totals)
+  pub text_of : (ran : Ran) (totals : Totals) → IsWorkloadResult K seed n ran totals → IsWorkloadText K seed n (numbers_of ran ++ audit_text totals)
   text_of ran totals came = record {
     exit = came.exit;
     run = came.run;

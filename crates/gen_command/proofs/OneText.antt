@@ -12,10 +12,10 @@ use Rattle.cbdc_model.specs.Waves.{Waves}
 use Rattle.submissions.specs.SoundTest.{sound_by}
 use Rattle.line_text.specs.Lines.{Text, summary_text}
 use Rattle.rack_laws.proofs.Opened.{at_place}
-use Rattle.audit.specs.declared.verdict.Totals.{Totals}
+use Rattle.cbdc_types.specs.declared.answer.Totals.{Totals}
 use Rattle.audit.specs.declared.verdict.Verdict.TheVariants.{Sound}
 use Rattle.printed_lines.specs.declared.report.Report.{Report}
-use Rattle.printed_lines.specs.Reports.{audit_lines}
+use Rattle.line_text.specs.Reports.{audit_text}
 use Rattle.printed_lines.specs.Runs.{AreReports, AreAllReports, is_confirmed, is_rejected, count_in}
 use Rattle.submission_laws.specs.Sent.{IsSent}
 use Rattle.submission_laws.specs.Free.{IsSubmissionConfirmed}
@@ -60,11 +60,11 @@ module _ (K : Shape) (seed n : ℕ) (limits : IsWithinLimits K) (clean : Clean (
   whole : IsWorkloadWhole K seed n X
   whole = whole_law K seed n X limits.some_shard limits.some_lane (lanes_there K limits) clean kept waves
 
-  pub one_text : (summary : Text) → EndsWorkload K seed n X summary → (totals : Totals) → HasVerdictOf K (mint_of seed n) (all_submissions seed n) X (Sound totals) → summary ++ audit_lines totals ≡ clean_text K seed n
+  pub one_text : (summary : Text) → EndsWorkload K seed n X summary → (totals : Totals) → HasVerdictOf K (mint_of seed n) (all_submissions seed n) X (Sound totals) → summary ++ audit_text totals ≡ clean_text K seed n
   one_text summary ends totals audited =
       let none : count_in is_rejected ends.all ≡ 0 = rejected_none K seed n X whole.confirmed ends.all ends.are in
       let all : count_in is_confirmed ends.all ≡ n = (let d = ends.decided in omega (arith, d, none)) in
       let left : ends.unspent ≡ left_of n = whole.unspent ends.unspent ends.counted in
       let sums : totals ≡ totals_of seed n = whole.totals audited.rows totals audited.journals_are audited.ordered audited.is in
       let numbers : summary ≡ summary_text 0 (batches_for K n) n 0 0 (left_of n) = ends.text_is ∙ (λ i. summary_text 0 (batches_for K n) (all i) (none i) 0 (left i)) in
-      λ i. numbers i ++ audit_lines (sums i)
+      λ i. numbers i ++ audit_text (sums i)

@@ -12,12 +12,12 @@ use Rattle.cbdc_model.specs.History.{IsOrdered}
 use Rattle.cbdc_model.specs.World.{KeptJournals}
 use Rattle.cbdc_model.specs.Waves.{Waves, share}
 use Rattle.submissions.specs.SoundTest.{sound_by}
-use Rattle.audit.specs.declared.verdict.Totals.{Totals}
+use Rattle.cbdc_types.specs.declared.answer.Totals.{Totals}
 use Rattle.audit.specs.declared.verdict.Verdict.{Verdict}
 use Rattle.audit.specs.declared.verdict.Verdict.TheVariants.{Sound, Unsound}
 use Rattle.audit.specs.Verdicts.{IsVerdict}
 use Rattle.printed_lines.specs.declared.report.Report.{Report}
-use Rattle.printed_lines.specs.Reports.{audit_lines}
+use Rattle.line_text.specs.Reports.{audit_text}
 use Rattle.printed_lines.specs.Runs.{AreAllReports, is_confirmed, is_rejected, count_in}
 use Rattle.printed_lines.specs.Unspent.{IsUnspentCount}
 use Rattle.workload.specs.Generator.{mint_of, minted_of, joined_of}
@@ -66,7 +66,7 @@ pub record EndsWorkload (K : Shape) (seed n : ℕ) (X : ℕ → List Record) (te
 -- the text of a workload where no hashes of it clash, whatever the order of the lanes' turns: all n transactions are confirmed, so many hashes are left
 -- unspent, and the audit's value is the value minted
 abbrev pub clean_text : Shape → ℕ → ℕ → Text
-clean_text K seed n = summary_text 0 (batches_for K n) n 0 0 (left_of n) ++ audit_lines (totals_of seed n)
+clean_text K seed n = summary_text 0 (batches_for K n) n 0 0 (left_of n) ++ audit_text (totals_of seed n)
 
 -- there are journals of such a run; the text is the numbers that end it (`EndsWorkload`), and behind them the four totals with which an audit finds
 -- it sound; and where no hashes of the workload clash it is `clean_text`
@@ -77,7 +77,7 @@ pub record IsWorkloadText (K : Shape) (seed n : ℕ) (text : Text) : Type 0 wher
   pub ends : EndsWorkload K seed n exit summary
   pub totals : Totals
   pub audited : HasVerdictOf K (mint_of seed n) (all_submissions seed n) exit (Sound totals)
-  pub text_is : text ≡ summary ++ audit_lines totals
+  pub text_is : text ≡ summary ++ audit_text totals
   pub clean : Clean (mint_of seed n) (all_submissions seed n) → text ≡ clean_text K seed n
 
 -- the text of a workload was printed

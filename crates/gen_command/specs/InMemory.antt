@@ -15,7 +15,7 @@ use Rattle.submissions.specs.SoundTest.{sound_by}
 use Rattle.rack_laws.specs.Ready.{limit_at}
 use Rattle.cbdc_model.specs.Ranges.{node_count}
 use Rattle.ledger_init.specs.Made.{first_record_of}
-use Rattle.audit.specs.declared.verdict.Totals.{Totals}
+use Rattle.cbdc_types.specs.declared.answer.Totals.{Totals}
 use Rattle.audit.specs.declared.verdict.Verdict.TheVariants.{Sound}
 use Rattle.rack_ledgers.specs.Audited.{IsAudited}
 use Rattle.rack_ledgers.specs.Racked.{Disks}

@@ -12,9 +12,9 @@ ghost use Rattle.cbdc_model.specs.Ranges.{node_count};
 ghost use Rattle.mem_devices.specs.PlainRacks.{NoPlainDiskOut, IsEmptyAt};
 ghost use Rattle.workload.specs.Generator.{mint_of};
 
-use audit::{Totals, Verdict};
+use audit::Verdict;
 use audit_command::joined;
-use cbdc_types::{Answer, FullTx, List, Mint, Output, Shape};
+use cbdc_types::{Answer, FullTx, List, Mint, Output, Shape, Totals};
 use file_runs::Ran;
 use ledger_init::{Made, make_ledger};
 use mem_devices::PlainRack;

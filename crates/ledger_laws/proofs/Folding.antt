@@ -4,9 +4,10 @@ use Rattle.std.proofs.lemmas.List.Sums.{sum_by-cons}
 use Rattle.std.specs.FinMap as book
 use Rattle.std.specs.Ordering.{nat_cmp}
 use Rattle.std.specs.Cmp.Lexicographic.{slice_cmp}
-use Rattle.cbdc_model.specs.Book.{Book, genesis_book, put_all, spend, spend_from, fold_txs, value, InBook}
-use Rattle.cbdc_model.specs.Clean.{IsMember, IsNamed, Clean, IsProperCompact}
-use Rattle.cbdc_model.specs.Coins.{Output, Coin, FullTx, coin_hash, tx_id, tx_coins, made_coins, compact, genesis_tx, genesis_hashes}
+use Rattle.cbdc_model.specs.Book.{Book, genesis_book, put_all, spend, spend_from, fold_txs, total, InBook}
+use Rattle.cbdc_model.specs.Clean.{IsMember, IsNamed, Clean, KeepsMoney, IsProper, IsProperCompact}
+use Rattle.cbdc_model.specs.Money.{sum_in, sum_out, taken_sum, made_sum}
+use Rattle.cbdc_model.specs.Coins.{Input, Output, Coin, FullTx, coin_hash, tx_id, tx_coins, made_coins, compact, genesis_tx, genesis_hashes}
 use Rattle.cbdc_model.specs.History.{first_rows, committed, newly_won, won_of, all_inputs, all_outputs, same_compact, AreHandedIn, minted, history_of, Minted}
 use Rattle.cbdc_model.specs.Outcomes.{won_txs}
 use Rattle.cbdc_model.specs.Records.{Digest, Shape, Compact, Outcome, is_won, Record, Row, journal, Commit, txs_of}
@@ -23,7 +24,8 @@ use Rattle.ledger_laws.proofs.CommitStep.{Apart, Makes, maker}
 use Rattle.ledger_laws.proofs.Rows.{Structure, view}
 use Rattle.ledger_laws.proofs.First.{no_committed, all_first}
 use Rattle.ledger_laws.proofs.Theory.{kept_structure, kept_inv, Place, unspent, waits, comes, in_book, book_place, place_book, unspent-comes, locked-comes}
-use Rattle.ledger_laws.proofs.Folds.{Stands, Origin, Took, take_all_stands, put_all_stands, stands_same, point_of, hashes_of, coins_value, EachCoin}
+use Rattle.ledger_laws.proofs.Folds.{Stands, Origin, Took, take_all_stands, put_all_stands, stands_same, point_of, hashes_of, EachCoin}
+use Rattle.ledger_laws.proofs.Issuing.{EachKeeps, is_issued, value_stays}
 use Rattle.ledger_laws.proofs.Funded.{Funded, behind, behind_all, behind_all-sum, kept_funded}
 use Rattle.ledger_laws.proofs.Members.{In, in_contains, contains_in, CoinAt, coin_at, Made, made_is, coins_apart, apart, tx_coins_once, genesis_member, in_count, count_in}
 
@@ -82,17 +84,24 @@ module _ (mint : List Output) (txs : List FullTx) (clean : Clean mint txs) where
   -- what the fold needs of a full transaction
   pub record Fair (t : FullTx) : Type 0 where
     pub member : IsMember mint txs t
-    pub balanced : coins_value t.inputs ≡ sum_by (λ o. o.value) t.outputs
+    pub keeps : KeepsMoney t.inputs t.outputs
 
   abbrev pub EachFair : List FullTx → Type 0
   EachFair [] = Unit {0}
   EachFair (t ∷ ts) = Fair t × EachFair ts
+
+  keeps_all : (ts : List FullTx) → EachFair ts → EachKeeps ts
+  keeps_all [] fair = tt
+  keeps_all (t ∷ ts) fair = (fair.0.keeps, keeps_all ts fair.1)
 
   pub record FullForms (ks : List Compact) : Type 0 where
     pub full : List FullTx
     pub is : AreHandedIn txs ks full
     pub forms : map compact full ≡ ks
     pub fair : EachFair full
+
+  same_keeps : (t u : FullTx) → t.inputs ≡ u.inputs → t.outputs ≡ u.outputs → KeepsMoney u.inputs u.outputs → KeepsMoney t.inputs t.outputs
+  same_keeps t u ins outs keeps = subst (λ os. KeepsMoney t.inputs os) (sym outs) (subst (λ (cs : List Input). KeepsMoney cs u.outputs) (sym ins) keeps)
 
   pub full_forms : (ks : List Compact) → Each (IsProperCompact txs) ks → FullForms ks
   full_forms [] each = record { full = []; is = tt; forms = refl; fair = tt }
@@ -106,7 +115,7 @@ module _ (mint : List Output) (txs : List FullTx) (clean : Clean mint txs) where
         full = f.tx ∷ rest.full;
         is = (f.is, rest.is);
         forms = λ i. f.form i ∷ rest.forms i;
-        fair = (record { member = member; balanced = ap coins_value same.0 ∙ p.2.balanced ∙ ap (λ os. sum_by (λ o. o.value) os) (sym same.1) }, rest.fair);
+        fair = (record { member = member; keeps = same_keeps f.tx p.0 same.0 same.1 p.2.keeps_money }, rest.fair);
       }
 
   each_named : (t : FullTx) → IsMember mint txs t → (cs : List Coin) → ((c : Coin) → In c cs → In c t.inputs) → EachCoin (IsNamed mint txs) cs
@@ -117,10 +126,10 @@ module _ (mint : List Output) (txs : List FullTx) (clean : Clean mint txs) where
   each_made t m [] all = tt
   each_made t m (c ∷ cs) all = (made_is mint txs clean t c m (all c (inl refl)), each_made t m cs (λ d h. all d (inr h)))
 
-  made_value : (id : Digest) (k : ℕ) (os : List Output) → coins_value (made_coins id k os) ≡ sum_by (λ o. o.value) os
-  made_value id k [] = refl
-  made_value id k (o ∷ os) =
-      omega (arith, sum_by-cons (λ c. c.output.value) (record { point = record { tx = id; index = k }; output = o }) (made_coins id (suc k) os), sum_by-cons (λ o. o.value) o os, made_value id (suc k) os)
+  made_coins-sum : (f : Output → ℕ) (id : Digest) (k : ℕ) (os : List Output) → sum_in f (made_coins id k os) ≡ sum_out f os
+  made_coins-sum f id k [] = refl
+  made_coins-sum f id k (o ∷ os) =
+      omega (arith, sum_by-cons (λ c. f c.output) (record { point = record { tx = id; index = k }; output = o }) (made_coins id (suc k) os), sum_by-cons f o os, made_coins-sum f id (suc k) os)
 
   abbrev StandsFor : Book → (Digest → ℕ) → Type 0
   StandsFor b β = Stands (IsNamed mint txs) (Made mint txs clean) b β
@@ -129,7 +138,7 @@ module _ (mint : List Output) (txs : List FullTx) (clean : Clean mint txs) where
     book : Book
     is : spend b t ≡ Some book
     stands : StandsFor book (behind β (compact t))
-    worth : value book ≡ value b
+    flow : (f : Output → ℕ) → total f book + sum_in f t.inputs ≡ total f b + sum_out f t.outputs
 
   spend_stands : (b : Book) (β : Digest → ℕ) (t : FullTx) → StandsFor b β → Fair t → ((x : Digest) → count x (hashes_of t.inputs) ≤ β x) → ((x : Digest) → β x ≤ 1)
       → ((x : Digest) → behind β (compact t) x ≤ 1) → Spent b t β
@@ -137,28 +146,33 @@ module _ (mint : List Output) (txs : List FullTx) (clean : Clean mint txs) where
       let took : Took (coins_apart mint txs clean) b t.inputs β
       = take_all_stands (coins_apart mint txs clean) t.inputs b β st (each_named t fair.member t.inputs (λ c h. h)) enough once in
       let put : StandsFor (put_all took.rest (tx_coins t)) (λ x. (β x - count x (hashes_of t.inputs)) + count x (hashes_of (tx_coins t)))
-      × (value (put_all took.rest (tx_coins t)) ≡ coins_value (tx_coins t) + value took.rest)
+      × ((f : Output → ℕ) → total f (put_all took.rest (tx_coins t)) ≡ sum_in f (tx_coins t) + total f took.rest)
       = put_all_stands (coins_apart mint txs clean) (tx_coins t) took.rest (λ x. β x - count x (hashes_of t.inputs)) took.stands
       (each_made t fair.member (tx_coins t) (λ c h. h)) room in
       record {
         book = put_all took.rest (tx_coins t);
         is = ap (λ r. spend_from r t) took.taking;
         stands = put.0;
-        worth = omega (arith, put.1, took.worth, made_value (tx_id t) 0 t.outputs, fair.balanced);
+        flow = λ f. omega (arith, put.1 f, took.flow f, made_coins-sum f (tx_id t) 0 t.outputs);
       }
 
   record Folded (b : Book) (ts : List FullTx) (β : Digest → ℕ) : Type 0 where
     book : Book
     is : fold_txs (Some b) ts ≡ Some book
     stands : StandsFor book (behind_all β (map compact ts))
-    worth : value book ≡ value b
+    flow : (f : Output → ℕ) → total f book + taken_sum f ts ≡ total f b + made_sum f ts
 
   fold_stands : (ts : List FullTx) (b : Book) (β : Digest → ℕ) → StandsFor b β → EachFair ts → Funded β (map compact ts) → Folded b ts β
-  fold_stands [] b β st fair funded = record { book = b; is = refl; stands = st; worth = refl }
+  fold_stands [] b β st fair funded = record { book = b; is = refl; stands = st; flow = λ f. refl }
   fold_stands (t ∷ ts) b β st fair funded =
       let s : Spent b t β = spend_stands b β t st fair.0 funded.0 funded.1 funded.2 in
       let r : Folded s.book ts (behind β (compact t)) = fold_stands ts s.book (behind β (compact t)) s.stands fair.1 funded.3 in
-      record { book = r.book; is = ap (λ o. fold_txs o ts) s.is ∙ r.is; stands = r.stands; worth = r.worth ∙ s.worth }
+      record {
+        book = r.book;
+        is = ap (λ o. fold_txs o ts) s.is ∙ r.is;
+        stands = r.stands;
+        flow = λ f. omega (arith, r.flow f, s.flow f, sum_by-cons (λ u. sum_in f u.inputs) t ts, sum_by-cons (λ u. sum_out f u.outputs) t ts);
+      }
 
   empty_stands : StandsFor book.empty (λ x. 0)
   empty_stands = record {
@@ -249,7 +263,9 @@ module _ (K : Shape) (mint : List Output) (txs : List FullTx) (clean : Clean min
         committed = forms.is;
         book = folded.book;
         folds = folded.is;
-        value_kept = folded.worth;
+        flow = folded.flow;
+        issuance = is_issued mint forms.full folded.book (keeps_all mint txs clean forms.full forms.fair) folded.flow;
+        value_kept = value_stays mint forms.full folded.book (keeps_all mint txs clean forms.full forms.fair) folded.flow;
         places = λ x.
             let st : StandsFor mint txs clean folded.book (λ y. in_book (genesis_hashes mint) (history_of K mint later) y)
             = stands_same (coins_apart mint txs clean) folded.book _ _ (λ y. sym (sums y)) folded.stands in (

@@ -2,20 +2,18 @@
 use Rattle.std.proofs.Common.{◌≡◌, ◌⊎◌, inl, inr, ℕ, ◌+◌, ◌-◌, ◌<◌, ◌≤◌, true, if◌then◌else◌, List, [], ◌∷◌, map, Option, Some, None, refl, sym, ap, ◌∙◌, subst, arith, sum_by}
 use Rattle.std.proofs.lemmas.List.Sums.{sum_by-cons}
 use Rattle.std.specs.FinMap as book
-use Rattle.cbdc_model.specs.Book.{Book, key, value, same_output, taken, take_out, take_all, put_all}
+use Rattle.cbdc_model.specs.Book.{Book, key, total, same_output, taken, take_out, take_all, put_all}
 use Rattle.cbdc_model.specs.Coins.{Output, Coin, coin_hash}
+use Rattle.cbdc_model.specs.Money.{sum_in}
 use Rattle.cbdc_model.specs.Records.{Digest, same_digest}
 use Rattle.ledger_laws.proofs.Counts.{count, digests, same_digest_self, count-cons_same, count-cons_other}
-use Rattle.ledger_laws.proofs.Books.{same_key, other_key, keys, get-insert_same, get-insert_other, get-remove_same, get-remove_other, value-insert, value-remove}
+use Rattle.ledger_laws.proofs.Books.{same_key, other_key, keys, get-insert_same, get-insert_other, get-remove_same, get-remove_other, total-insert, total-remove}
 
 abbrev pub point_of : Coin → List ℕ
 point_of c = key c.point
 
 abbrev pub hashes_of : List Coin → List Digest
 hashes_of cs = map coin_hash cs
-
-abbrev pub coins_value : List Coin → ℕ
-coins_value cs = sum_by (λ c. c.output.value) cs
 
 abbrev pub EachCoin : (Coin → Type 0) → List Coin → Type 0
 EachCoin Q [] = Unit {0}
@@ -59,7 +57,8 @@ module _ {Named Made : Coin → Type 0} (apart : CoinsApart Named Made) where
 
   pub take_one : (b : Book) (β γ : Digest → ℕ) (c : Coin) → Stands Named Made b β → Named c → β (coin_hash c) ≡ 1 → γ (coin_hash c) ≡ 0
       → ((x : Digest) → (x ≡ coin_hash c → ⊥) → γ x ≡ β x)
-      → (take_out b c ≡ Some (book.remove b (point_of c))) × Stands Named Made (book.remove b (point_of c)) γ × (value b ≡ c.output.value + value (book.remove b (point_of c)))
+      → (take_out b c ≡ Some (book.remove b (point_of c))) × Stands Named Made (book.remove b (point_of c)) γ
+      × ((f : Output → ℕ) → total f b ≡ f c.output + total f (book.remove b (point_of c)))
   take_one b β γ c st named one none same =
       let is : book.get b (point_of c) ≡ Some c.output = st.found c named (omega arith) in (
         taken_is b c (book.get b (point_of c)) is,
@@ -87,7 +86,7 @@ module _ {Named Made : Coin → Type 0} (apart : CoinsApart Named Made) where
                 ]
           ];
         },
-        value-remove b (point_of c) c.output is,
+        λ f. total-remove f b (point_of c) c.output is,
       )
     where
       same_coin : (d c : Coin) → point_of d ≡ point_of c → d.output ≡ c.output → d ≡ c
@@ -98,7 +97,7 @@ module _ {Named Made : Coin → Type 0} (apart : CoinsApart Named Made) where
 
   pub put_one : (b : Book) (β γ : Digest → ℕ) (c : Coin) → Stands Named Made b β → Made c → β (coin_hash c) ≡ 0 → γ (coin_hash c) ≡ 1
       → ((x : Digest) → (x ≡ coin_hash c → ⊥) → γ x ≡ β x)
-      → Stands Named Made (book.insert b (point_of c) c.output) γ × (value (book.insert b (point_of c) c.output) ≡ c.output.value + value b)
+      → Stands Named Made (book.insert b (point_of c) c.output) γ × ((f : Output → ℕ) → total f (book.insert b (point_of c) c.output) ≡ f c.output + total f b)
   put_one b β γ c st made zero_before one same =
       let free : book.get b (point_of c) ≡ None = no_coin (book.get b (point_of c)) refl in (
         record {
@@ -125,7 +124,7 @@ module _ {Named Made : Coin → Type 0} (apart : CoinsApart Named Made) where
                 ]
           ];
         },
-        value-insert b (point_of c) c.output free,
+        λ f. total-insert f b (point_of c) c.output free,
       )
     where
       no_coin : (r : Option Output) → book.get b (point_of c) ≡ r → r ≡ None
@@ -140,7 +139,7 @@ module _ {Named Made : Coin → Type 0} (apart : CoinsApart Named Made) where
     pub rest : Book
     pub taking : take_all (Some b) cs ≡ Some rest
     pub stands : Stands Named Made rest (λ x. β x - count x (hashes_of cs))
-    pub worth : value b ≡ coins_value cs + value rest
+    pub flow : (f : Output → ℕ) → total f b ≡ sum_in f cs + total f rest
 
   take_once : (c : Coin) (cs : List Coin) (β : Digest → ℕ) → ((x : Digest) → count x (hashes_of (c ∷ cs)) ≤ β x) → ((x : Digest) → β x ≤ 1)
       → (β (coin_hash c) ≡ 1) × (β (coin_hash c) - count (coin_hash c) (coin_hash c ∷ []) ≡ 0)
@@ -160,14 +159,15 @@ module _ {Named Made : Coin → Type 0} (apart : CoinsApart Named Made) where
 
   pub take_all_stands : (cs : List Coin) (b : Book) (β : Digest → ℕ) → Stands Named Made b β → EachCoin Named cs
       → ((x : Digest) → count x (hashes_of cs) ≤ β x) → ((x : Digest) → β x ≤ 1) → Took b cs β
-  take_all_stands [] b β st each enough once = record { rest = b; taking = refl; stands = stands_same b β _ (λ x. omega arith) st; worth = refl_value b }
+  take_all_stands [] b β st each enough once = record { rest = b; taking = refl; stands = stands_same b β _ (λ x. omega arith) st; flow = λ f. none_taken f b }
     where
-      refl_value : (b : Book) → value b ≡ coins_value [] + value b
-      refl_value b = omega arith
+      none_taken : (f : Output → ℕ) (b : Book) → total f b ≡ sum_in f [] + total f b
+      none_taken f b = omega arith
   take_all_stands (c ∷ cs) b β st each enough once =
       let k : (β (coin_hash c) ≡ 1) × (β (coin_hash c) - count (coin_hash c) (coin_hash c ∷ []) ≡ 0) = take_once c cs β enough once in
       let γ : Digest → ℕ = λ x. β x - count x (coin_hash c ∷ []) in
-      let one : (take_out b c ≡ Some (book.remove b (point_of c))) × Stands Named Made (book.remove b (point_of c)) γ × (value b ≡ c.output.value + value (book.remove b (point_of c)))
+      let one : (take_out b c ≡ Some (book.remove b (point_of c))) × Stands Named Made (book.remove b (point_of c)) γ
+      × ((f : Output → ℕ) → total f b ≡ f c.output + total f (book.remove b (point_of c)))
       = take_one b β γ c st each.0 k.0 k.1 (λ x n. let z : count x (coin_hash c ∷ []) ≡ 0 = count_other x (coin_hash c) n in omega arith) in
       let rest : Took (book.remove b (point_of c)) cs γ
       = take_all_stands cs (book.remove b (point_of c)) γ one.1 each.1 (λ x. still_enough x) (λ x. omega (arith, once x)) in
@@ -175,7 +175,7 @@ module _ {Named Made : Coin → Type 0} (apart : CoinsApart Named Made) where
         rest = rest.rest;
         taking = ap (λ r. take_all r cs) one.0 ∙ rest.taking;
         stands = stands_same rest.rest _ _ (λ x. counted_both x) rest.stands;
-        worth = omega (arith, one.2, rest.worth, sum_by-cons (λ c. c.output.value) c cs);
+        flow = λ f. omega (arith, one.2 f, rest.flow f, sum_by-cons (λ c. f c.output) c cs);
       }
     where
       still_enough : (x : Digest) → count x (hashes_of cs) ≤ β x - count x (coin_hash c ∷ [])
@@ -186,22 +186,22 @@ module _ {Named Made : Coin → Type 0} (apart : CoinsApart Named Made) where
 
   pub put_all_stands : (cs : List Coin) (b : Book) (β : Digest → ℕ) → Stands Named Made b β → EachCoin Made cs
       → ((x : Digest) → β x + count x (hashes_of cs) ≤ 1)
-      → Stands Named Made (put_all b cs) (λ x. β x + count x (hashes_of cs)) × (value (put_all b cs) ≡ coins_value cs + value b)
-  put_all_stands [] b β st each room = (stands_same b β _ (λ x. omega arith) st, refl_value b)
+      → Stands Named Made (put_all b cs) (λ x. β x + count x (hashes_of cs)) × ((f : Output → ℕ) → total f (put_all b cs) ≡ sum_in f cs + total f b)
+  put_all_stands [] b β st each room = (stands_same b β _ (λ x. omega arith) st, λ f. none_put f b)
     where
-      refl_value : (b : Book) → value b ≡ coins_value [] + value b
-      refl_value b = omega arith
+      none_put : (f : Output → ℕ) (b : Book) → total f b ≡ sum_in f [] + total f b
+      none_put f b = omega arith
   put_all_stands (c ∷ cs) b β st each room =
       let γ : Digest → ℕ = λ x. β x + count x (coin_hash c ∷ []) in
       let one : count (coin_hash c) (coin_hash c ∷ []) ≡ 1 = count_one (coin_hash c) (coin_hash c) refl in
       let zero_before : β (coin_hash c) ≡ 0 = (let r : β (coin_hash c) + count (coin_hash c) (hashes_of (c ∷ cs)) ≤ 1 = room (coin_hash c) in omega (arith, r, one)) in
-      let first : Stands Named Made (book.insert b (point_of c) c.output) γ × (value (book.insert b (point_of c) c.output) ≡ c.output.value + value b)
+      let first : Stands Named Made (book.insert b (point_of c) c.output) γ × ((f : Output → ℕ) → total f (book.insert b (point_of c) c.output) ≡ f c.output + total f b)
       = put_one b β γ c st each.0 zero_before (omega arith) (λ x n. let z : count x (coin_hash c ∷ []) ≡ 0 = count_other x (coin_hash c) n in omega arith) in
       let rest : Stands Named Made (put_all (book.insert b (point_of c) c.output) cs) (λ x. γ x + count x (hashes_of cs))
-      × (value (put_all (book.insert b (point_of c) c.output) cs) ≡ coins_value cs + value (book.insert b (point_of c) c.output))
+      × ((f : Output → ℕ) → total f (put_all (book.insert b (point_of c) c.output) cs) ≡ sum_in f cs + total f (book.insert b (point_of c) c.output))
       = put_all_stands cs (book.insert b (point_of c) c.output) γ first.0 each.1 (λ x. still_room x) in (
         stands_same (put_all (book.insert b (point_of c) c.output) cs) _ _ (λ x. counted_both x) rest.0,
-        omega (arith, first.1, rest.1, sum_by-cons (λ c. c.output.value) c cs),
+        λ f. omega (arith, first.1 f, rest.1 f, sum_by-cons (λ c. f c.output) c cs),
       )
     where
       still_room : (x : Digest) → β x + count x (coin_hash c ∷ []) + count x (hashes_of cs) ≤ 1

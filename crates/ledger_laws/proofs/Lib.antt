@@ -20,6 +20,7 @@ pub mod Ledger
 pub mod Books
 pub mod Folds
 pub mod Funded
+pub mod Issuing
 pub mod Members
 pub mod More
 pub mod Moves

@@ -3,6 +3,8 @@ use Rattle.std.proofs.Common.{◌≡◌, ◌⊎◌, inl, inr, ℕ, ◌+◌, ◌<
 use Rattle.std.specs.List.{IsDistinct, AllByRecursion}
 use Rattle.std.proofs.lemmas.Slice.Eq.{bytes_eq-Decides}
 use Rattle.cbdc_model.specs.Clean.{Clean, IsMember, IsProperCompact}
+use Rattle.cbdc_model.specs.Book.{Book, fold_txs, genesis_book, total}
+use Rattle.cbdc_model.specs.Money.{taken_sum, made_sum}
 use Rattle.cbdc_model.specs.Coins.{Output, Coin, FullTx, coin_hash, tx_coins, genesis_tx, compact, genesis_hashes}
 use Rattle.cbdc_model.specs.Headline.{all_spent, NoneTwice, NoIdTwice, Headline}
 use Rattle.cbdc_model.specs.History.{committed, won_of, all_inputs, all_outputs, history_of, Minted, minted, AreHandedIn}
@@ -16,7 +18,7 @@ use Rattle.ledger_laws.proofs.Ledger.{SteadyWorld, SteadyJournals, steady}
 use Rattle.ledger_laws.proofs.FirstWorld.{init_kept, to_steady}
 use Rattle.ledger_laws.proofs.Next.{Each, Steady}
 use Rattle.ledger_laws.specs.Sets.{IsPlaced, Folds}
-use Rattle.ledger_laws.specs.Laws.{HeadlineLaw, RecoveredLaw, IdleLaw}
+use Rattle.ledger_laws.specs.Laws.{HeadlineLaw, RecoveredLaw, IdleLaw, FlowLaw}
 use Rattle.ledger_laws.proofs.Counts.{count, count-append, same_digest_is, count_first, count-cons_same}
 use Rattle.ledger_laws.proofs.View.{Inv}
 use Rattle.ledger_laws.proofs.Rows.{view}
@@ -25,7 +27,7 @@ use Rattle.ledger_laws.proofs.CommitStep.{Apart, Makes, maker}
 use Rattle.ledger_laws.proofs.Theory.{kept_inv}
 use Rattle.ledger_laws.proofs.Folds.{point_of, hashes_of, EachCoin}
 use Rattle.ledger_laws.proofs.Members.{CoinAt, coin_at, In, in_contains, contains_in, Made, made_is, coins_apart, apart, in_count}
-use Rattle.ledger_laws.proofs.Folding.{FullForms, full_forms, EachFair, kept_each, folds_steady}
+use Rattle.ledger_laws.proofs.Folding.{FullForms, full_forms, EachFair, kept_each, folds_steady, fold_law}
 use Rattle.ledger_laws.proofs.Worlds.{run_keeps}
 use Rattle.ledger_laws.proofs.Recovered.{none_locked, none_coming}
 use Rattle.ledger_laws.proofs.Alikes.{alike}
@@ -209,6 +211,7 @@ kept_headline K mint txs J shards lanes clean k all_idle =
       committed = f.committed;
       book = f.book;
       folds = f.folds;
+      issuance = f.issuance;
       value_kept = f.value_kept;
       unspent = λ x. (
         λ u. (f.places x).1 (inl (ap (λ J. status J x) (k.history (shard_node K (shard_of K.shards x))) ∙ u)),
@@ -249,3 +252,15 @@ pub headline_law : HeadlineLaw
 headline_law K mint txs events w shards lanes clean proper run recovered =
     kept_headline K mint txs (journals w) shards lanes clean (of_world K (minted mint) (IsProperCompact txs) w
     (run_keeps K (minted mint) (IsProperCompact txs) shards (init K (minted mint)) w events (init_kept K (minted mint) (IsProperCompact txs)) proper run)) recovered.idle
+
+-- what was committed is one list, and leaves one book
+pub flow_law : FlowLaw
+flow_law K mint txs later list book f shards clean kept are folds =
+    let law : Folds K mint txs (history_of K mint later) = fold_law K mint txs later shards clean kept in
+    let same : law.txs ≡ list = one_list txs (committed (history_of K mint later)) law.txs list law.committed are in
+    let left : law.book ≡ book = one_book law.book book (sym law.folds ∙ ap (fold_txs (Some (genesis_book mint))) same ∙ folds) in
+    subst (λ b. total f b + taken_sum f list ≡ total f (genesis_book mint) + made_sum f list) left
+    (subst (λ ts. total f law.book + taken_sum f ts ≡ total f (genesis_book mint) + made_sum f ts) same (law.flow f))
+  where
+    one_book : (b c : Book) → Some b ≡ Some c → b ≡ c
+    one_book b c e = cc

@@ -1,18 +1,32 @@
 //! The laws of the ledger: functions with an empty body, whose contracts are the theorems. Nothing of them runs.
 //!
-//! - `fold_law`, `headline_law`, `recovered_law`, `idle_law`, `maker_law`: Where no hashes clash (`Clean`). The other laws ask nothing of hashes.
+//! - `fold_law`, `flow_law`, `headline_law`, `recovered_law`, `idle_law`, `maker_law`: Where no hashes clash (`Clean`). The other laws ask nothing of hashes.
 //! - Laws about every history of the model; they have no body that runs.
 #![tactic(auto)]
 
-ghost use Rattle.ledger_laws.specs.Laws.{AnswerLaw, CutLaw, FlightLaw, FoldLaw, HeadlineLaw, IdleLaw, KeptLaw, LateLaw, LocalLaw, MakerLaw, MoreLaw, OneHistoryLaw, PhaseLaw, ReachLaw, RecoveredLaw, RecoveryLaw, SettledLaw, StepLaw, WaveLaw};
+ghost use Rattle.ledger_laws.specs.Laws.{AnswerLaw, CutLaw, FlightLaw, FlowLaw, FoldLaw, HeadlineLaw, IdleLaw, KeptLaw, LateLaw, LocalLaw, MakerLaw, MoreLaw, OneHistoryLaw, PhaseLaw, PlainLaw, ReachLaw, RecoveredLaw, RecoveryLaw, SettledLaw, StepLaw, WaveLaw};
 
 /// Where no two coins or transactions share a hash, the committed transactions of every kept
 /// history can be spent one after another from the mint, each finding all its inputs. The book
-/// that is left has the value minted. Its hashes are those that are Unspent at their shards, those
+/// that is left has the value minted, and money in it is what was minted plus issued less redeemed.
+/// Its hashes are those that are Unspent at their shards, those
 /// that are Locked for an entry which is not committed, and the outputs of committed transactions
 /// that are not yet there; no hash is in two of these sets.
 pub fn fold_law()
     ensures { FoldLaw }
+{}
+
+/// Where no hashes clash: whatever is counted of an output, the coins of that book and what the
+/// committed transactions took come to as much as the mint and what they made.
+pub fn flow_law()
+    ensures { FlowLaw }
+{}
+
+/// A transaction that names money alone, with equal sums, keeps the money. So what was proper before
+/// there were permits is proper, and a ledger that was kept then is kept, where nothing that was handed
+/// in before names a permit or a burn output.
+pub fn plain_law()
+    ensures { PlainLaw }
 {}
 
 /// From the first world, whatever records are begun and ended, whichever nodes crash, with or
@@ -31,8 +45,9 @@ pub fn step_law()
 /// The headline. For every list of steps, repeats and crashes in which no two outputs share a
 /// hash: once the open batches are recovered, the shards together hold exactly the hashes of the
 /// coins left by folding the committed transactions in the order of their commits. Each found all
-/// its inputs unspent, none was spent twice, no transaction is committed twice, the coins' value
-/// is the value minted, and every batch is finished alike on all its shards.
+/// its inputs unspent, none was spent twice, no transaction is committed twice, money is what was
+/// minted plus issued less redeemed, the coins' value is the value minted, and every batch is
+/// finished alike on all its shards.
 pub fn headline_law()
     ensures { HeadlineLaw }
 {}

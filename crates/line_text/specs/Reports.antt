@@ -5,6 +5,7 @@ use Rattle.cbdc_types.specs.declared.batch.Phase.{Phase}
 use Rattle.cbdc_types.specs.declared.batch.Phase.TheVariants.{Prepared, Committed, Discarded}
 use Rattle.cbdc_types.specs.declared.batch.Status.{Status}
 use Rattle.cbdc_types.specs.declared.batch.Status.TheVariants.{Unspent, Locked, Absent}
+use Rattle.cbdc_types.specs.declared.answer.Totals.{Totals}
 use Rattle.base_types.specs.declared.ids.BatchId.{BatchId}
 use Rattle.line_text.specs.Lines.{Text, line, counted_line}
 
@@ -35,8 +36,10 @@ resumed_line batch phase confirmed rejected = line (
 abbrev pub recovery_text : ℕ → ℕ → Text
 recovery_text resumed unspent = counted_line (codes "resumed") resumed ++ counted_line (codes "unspent") unspent
 
--- the lines of a sound audit: how many coins there are, their value, the value minted, and how many transactions were committed
-abbrev pub audit_text : ℕ → ℕ → ℕ → ℕ → Text
-audit_text coins value minted committed =
-    ((counted_line (codes "coins") coins ++ counted_line (codes "value") value) ++ counted_line (codes "minted") minted)
-    ++ counted_line (codes "committed") committed
+-- the lines of a sound audit: how many coins there are, their value, the value minted, how many transactions were committed, and the money, what
+-- was issued and what was redeemed
+abbrev pub audit_text : Totals → Text
+audit_text found =
+    (((((counted_line (codes "coins") found.coins ++ counted_line (codes "value") found.value) ++ counted_line (codes "minted") found.minted)
+    ++ counted_line (codes "committed") found.committed) ++ counted_line (codes "money") found.money) ++ counted_line (codes "issued") found.issued)
+    ++ counted_line (codes "redeemed") found.redeemed

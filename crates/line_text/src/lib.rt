@@ -15,7 +15,7 @@ mod summary;
 
 pub use faults::write_fault;
 pub use output::{WriteFault, write_all};
-pub use reports::{AuditSummary, write_audit, write_recovery, write_resumed, write_status};
+pub use reports::{write_audit, write_recovery, write_resumed, write_status};
 pub use status::status_code;
 pub use submissions::{write_confirmed, write_refused, write_rejected};
 pub use summary::{Summary, write_init, write_summary};

@@ -9,21 +9,8 @@ use crate::line::{Line, push, push_end, push_first_hash, push_number, push_wide,
 use crate::output::write_all;
 use crate::submissions::push_batch;
 use crate::summary::push_counted;
-use cbdc_types::{BatchId, Hash, Phase, Status};
+use cbdc_types::{BatchId, Hash, Phase, Status, Totals};
 use outside::Sink;
-
-/// What an audit found. The values are sums, which may pass 2^64 - 1 where the transactions handed in are not sound.
-#[derive(Clone, Copy, Debug, PartialEq, Eq)]
-pub struct AuditSummary {
-    /// The coins left.
-    pub coins: u64,
-    /// The sum of their values.
-    pub value: u128,
-    /// The sum of the mint's values.
-    pub minted: u128,
-    /// The transactions committed.
-    pub committed: u64,
-}
 
 // Appends what is known of a hash and ends the line.
 fn push_status(line: &mut Line, status: &Status)
@@ -113,16 +100,18 @@ fn push_sum(text: &mut Line, name: &[u8], sum: u128)
     push(text, line.as_slice());
 }
 
-/// Writes the four lines of an audit.
-pub fn write_audit<O: Sink>(out: &mut O, summary: &AuditSummary) -> Result<(), WriteFault>
-    ensures prints { Prints (O.taken out.old) (O.taken out.new)
-        (audit_text summary.now.coins summary.now.value summary.now.minted summary.now.committed) result }
+/// Writes the seven lines of a sound audit. The values are sums, which may pass 2^64 - 1 where the transactions handed in are not sound.
+pub fn write_audit<O: Sink>(out: &mut O, totals: &Totals) -> Result<(), WriteFault>
+    ensures prints { Prints (O.taken out.old) (O.taken out.new) (audit_text totals.now) result }
     ensures cause { HasCause (O.count out.old) (O.count out.new) result }
 {
     let mut text = Line::new();
-    push_counted(&mut text, b"coins", summary.coins);
-    push_sum(&mut text, b"value", summary.value);
-    push_sum(&mut text, b"minted", summary.minted);
-    push_counted(&mut text, b"committed", summary.committed);
+    push_counted(&mut text, b"coins", totals.coins);
+    push_sum(&mut text, b"value", totals.value);
+    push_sum(&mut text, b"minted", totals.minted);
+    push_counted(&mut text, b"committed", totals.committed);
+    push_sum(&mut text, b"money", totals.money);
+    push_sum(&mut text, b"issued", totals.issued);
+    push_sum(&mut text, b"redeemed", totals.redeemed);
     write_all(out, text.as_slice())
 }

@@ -127,6 +127,20 @@ fn push_refusal(line: &mut Line, why: &Refusal)
             push_number(line, *ins);
             push_number(line, *outs);
         }
+        Refusal::BurnedInput(place) => {
+            push_word(line, b"burned-input");
+            push_number(line, *place);
+        }
+        Refusal::PermitCount { ins, outs } => {
+            push_word(line, b"permit-count");
+            push_number(line, *ins);
+            push_number(line, *outs);
+        }
+        Refusal::PermitRaised { was, now } => {
+            push_word(line, b"permit-raised");
+            push_number(line, *was);
+            push_number(line, *now);
+        }
         Refusal::BadWitness(place) => {
             push_word(line, b"bad-witness");
             push_number(line, *place);

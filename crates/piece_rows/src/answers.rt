@@ -1,8 +1,8 @@
 // Answers and verdicts of audits as rows spell them.
 use crate::kinds::kind_of;
 use crate::reader::Reader;
-use audit::{Totals, Verdict};
-use cbdc_types::{Answer, Header, Stamp, UnsoundKind};
+use audit::Verdict;
+use cbdc_types::{Answer, Header, Stamp, Totals, UnsoundKind};
 
 // `cause`, `unfinished`, `unknown ID`, `unfunded ID`
 fn unsound_kind(words: &mut Reader) -> UnsoundKind {
@@ -100,15 +100,19 @@ pub fn answer_of(words: &mut Reader, header: &Header) -> Answer {
     }
 }
 
-/// The totals that words spell: `COINS VALUE MINTED COMMITTED`.
+/// The totals that words spell: `COINS VALUE MINTED COMMITTED MONEY ISSUED REDEEMED`.
 pub fn totals(words: &mut Reader) -> Totals {
     let (coins, value) = (words.number(), words.wide());
     let (minted, committed) = (words.wide(), words.number());
+    let (money, issued, redeemed) = (words.wide(), words.wide(), words.wide());
     Totals {
         coins,
         value,
         minted,
         committed,
+        money,
+        issued,
+        redeemed,
     }
 }
 

@@ -5,7 +5,7 @@ use crate::reader::Reader;
 use audit::Verdict;
 use cbdc_types::{Answer, Header, Phase, Status};
 use line_text::{
-    AuditSummary, Summary, status_code, write_audit, write_confirmed, write_fault, write_init,
+    Summary, status_code, write_audit, write_confirmed, write_fault, write_init,
     write_recovery, write_refused, write_rejected, write_resumed, write_status, write_summary,
 };
 use plain_check::{fault_line, verdict_text};
@@ -96,16 +96,9 @@ fn recovery(page: &mut Page, words: &mut Reader) -> bool {
     write_recovery(page, resumed, unspent).is_ok()
 }
 
-// `COINS VALUE MINTED COMMITTED`
+// `COINS VALUE MINTED COMMITTED MONEY ISSUED REDEEMED`
 fn audit(page: &mut Page, words: &mut Reader) -> bool {
-    let totals = totals(words);
-    let summary = AuditSummary {
-        coins: totals.coins,
-        value: totals.value,
-        minted: totals.minted,
-        committed: totals.committed,
-    };
-    write_audit(page, &summary).is_ok()
+    write_audit(page, &totals(words)).is_ok()
 }
 
 // `NAME ANSWER`

@@ -32,6 +32,9 @@ fn refusals(told: &mut Told) {
         Refusal::InputOverflow,
         Refusal::OutputOverflow,
         Refusal::Unbalanced { ins: 5, outs: 6 },
+        Refusal::BurnedInput(3),
+        Refusal::PermitCount { ins: 1, outs: 2 },
+        Refusal::PermitRaised { was: 5, now: 6 },
         Refusal::BadWitness(3),
         Refusal::Unverified(0),
     ];

@@ -8,7 +8,7 @@ use Rattle.std.specs.FinMap.Entries.{find, where_key, find-where_key}
 use Rattle.cbdc_model.specs.Book.{Book, key, value}
 use Rattle.cbdc_model.specs.Coins.{Coin, Output}
 use Rattle.plain_check.specs.Coins.{coin_entry, book_of}
-use Rattle.ledger_laws.proofs.Books.{key_cmp, same_key, other_key, keys, get-insert_same, get-insert_other, get-remove_same, get-remove_other, entries_value, value-insert}
+use Rattle.ledger_laws.proofs.Books.{key_cmp, same_key, other_key, keys, get-insert_same, get-insert_other, get-remove_same, get-remove_other, entries_total, value-insert}
 
 pub get_is : (coins : List Coin) (k : List ℕ) → book.get (book_of coins) k ≡ find key_cmp k (map coin_entry coins)
 get_is coins k = book.get-from_entries nat_list_cmp_total (map coin_entry coins) k
@@ -65,7 +65,7 @@ count_first c rest =
     ap book.len (first_put c rest)
     ∙ count-insert (book.remove (book_of rest) (key c.point)) (key c.point) c.output (get-remove_same (book_of rest) (key c.point) (key c.point) refl)
 
-none_worth : (es : List (List ℕ × Output)) → length es ≡ 0 → entries_value es ≡ 0
+none_worth : (es : List (List ℕ × Output)) → length es ≡ 0 → entries_total (λ o. o.value) es ≡ 0
 none_worth [] h = refl
 none_worth (e ∷ es) h = absurd (omega arith)
 

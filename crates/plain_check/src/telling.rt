@@ -5,13 +5,14 @@ ghost use Rattle.line_text.specs.Faults.{fault_text};
 ghost use Rattle.line_text.specs.Lines.{init_text as the_init_text};
 ghost use Rattle.line_text.specs.Reports.{status_line};
 ghost use Rattle.plain_check.specs.Journals.{journals_in};
-ghost use Rattle.printed_lines.specs.Reports.{init_lines, status_at, status_lines, audit_lines, verdict_lines};
+ghost use Rattle.printed_lines.specs.Reports.{init_lines, status_at, status_lines, verdict_lines};
+ghost use Rattle.line_text.specs.Reports.{audit_text};
 
 use crate::page::Page;
 use crate::{journal_at, status_of};
-use audit::{Totals, Verdict};
-use cbdc_types::{Answer, Hash, List, Output, Record, Shape};
-use line_text::{AuditSummary, WriteFault, write_audit, write_fault, write_init, write_status};
+use audit::Verdict;
+use cbdc_types::{Answer, Hash, List, Output, Record, Shape, Totals};
+use line_text::{WriteFault, write_audit, write_fault, write_init, write_status};
 use sentinel::genesis_id;
 use shard_ranges::shard_of;
 use std::alloc::{AllocError, Global};
@@ -115,15 +116,9 @@ pub fn fault_line(alloc: Global, answer: &Answer, name: &str) -> Option<Vec<u8>>
 
 // Puts the lines of an audit on a page.
 fn put_totals(page: &mut Page, totals: &Totals) -> Result<(), WriteFault>
-    ensures { OnOk result (page.new.text.items ≡ page.old.text.items ++ audit_lines totals.now) }
+    ensures { OnOk result (page.new.text.items ≡ page.old.text.items ++ audit_text totals.now) }
 {
-    let summary = AuditSummary {
-        coins: totals.coins,
-        value: totals.value,
-        minted: totals.minted,
-        committed: totals.committed,
-    };
-    write_audit(page, &summary)
+    write_audit(page, totals)
 }
 
 /// What `audit` prints of a verdict. None where memory ran out.

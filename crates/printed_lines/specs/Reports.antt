@@ -10,7 +10,7 @@ use Rattle.cbdc_model.specs.Status.{Status, status}
 use Rattle.line_text.specs.Lines.{Text, init_text}
 use Rattle.line_text.specs.Reports.{status_line, audit_text}
 use Rattle.line_text.specs.Faults.{fault_text}
-use Rattle.audit.specs.declared.verdict.Totals.{Totals}
+use Rattle.cbdc_types.specs.declared.answer.Totals.{Totals}
 use Rattle.audit.specs.declared.verdict.Verdict.{Verdict}
 use Rattle.audit.specs.declared.verdict.Verdict.TheVariants.{Sound, Unsound}
 use Rattle.audit.specs.Verdicts.{IsVerdict}
@@ -28,13 +28,9 @@ abbrev pub status_lines : Shape → (ℕ → List Record) → List Digest → Te
 status_lines K J [] = []
 status_lines K J (x ∷ xs) = status_line x (status_at K J x) ++ status_lines K J xs
 
--- of the totals of an audit
-abbrev pub audit_lines : Totals → Text
-audit_lines totals = audit_text totals.coins totals.value totals.minted totals.committed
-
 -- of an audit's verdict: its totals, or the line of what it found
 abbrev pub verdict_lines : Verdict → Text
-verdict_lines (Sound totals) = audit_lines totals
+verdict_lines (Sound totals) = audit_text totals
 verdict_lines (Unsound place kind) = fault_text (UnsoundAnswer place kind) []
 
 -- of an audit of a history, the oldest row first, with a mint and the transactions that were handed in

@@ -9,7 +9,8 @@ use Rattle.cbdc_types.specs.declared.answer.UnsoundKind.{UnsoundKind}
 use Rattle.cbdc_model.specs.Records.{Shape, Batch, Compact, Record, Row, journal, record_of, kind_of, is_of, Prepare}
 use Rattle.cbdc_model.specs.Coins.{Output, FullTx, genesis_id}
 use Rattle.cbdc_model.specs.After.{IsJournal}
-use Rattle.cbdc_model.specs.Book.{value}
+use Rattle.cbdc_model.specs.Book.{value, money}
+use Rattle.cbdc_model.specs.Money.{issued, redeemed}
 use Rattle.cbdc_model.specs.Clean.{IsProperCompact, value_out}
 use Rattle.cbdc_model.specs.Headline.{Headline}
 use Rattle.cbdc_model.specs.History.{minted, header_of, history_of, committed, IsOrdered, AreHandedIn}
@@ -22,7 +23,7 @@ use Rattle.ledger_laws.proofs.Ledger.{steady}
 use Rattle.ledger_laws.proofs.Recovered.{all_dones}
 use Rattle.run_laws.proofs.Nodes.{after_in}
 use Rattle.rack_laws.proofs.Opened.{all_by}
-use Rattle.audit.specs.declared.verdict.Totals.{Totals}
+use Rattle.cbdc_types.specs.declared.answer.Totals.{Totals}
 use Rattle.audit.specs.declared.verdict.Verdict.TheVariants.{Sound, Unsound}
 use Rattle.audit.specs.Walks.{AllCaused, AllDone, HasDoneRecord, IsFirstUncaused}
 use Rattle.audit.specs.Verdicts.{IsSoundHistory, IsVerdict, journals_of}
@@ -114,7 +115,7 @@ module _ (K : Shape) (mint : List Output) (submissions : List FullTx) (X : ℕ �
       same_history = ap (history_of K mint) (one_history_law K (minted mint) X headline.later kept.later headline.history kept.history) ∙ sym is_history
 
       abbrev pub totals : Totals
-      totals = record { coins = len headline.book; value = value headline.book; minted = value_out mint; committed = length (committed (reverse rows)) }
+      totals = record { coins = len headline.book; value = value headline.book; minted = value_out mint; committed = length (committed (reverse rows)); money = money headline.book; issued = issued headline.txs; redeemed = redeemed headline.txs }
 
       -- the audit's verdict
       pub is_sound : IsSoundHistory K mint submissions rows totals
@@ -129,6 +130,9 @@ module _ (K : Shape) (mint : List Output) (submissions : List FullTx) (X : ℕ �
         value = refl;
         minted = refl;
         committed = refl;
+        money = refl;
+        issued = refl;
+        redeemed = refl;
       }
 
       pub never_unsound : (place : ℕ) (kind : UnsoundKind) → IsVerdict K mint submissions rows (Unsound place kind) → ⊥

@@ -15,7 +15,8 @@ pub fn one_verdict_law<R: Rack>(rack: &R)
 /// history on top of the mint's first records, in which each record is caused and each Prepare's batch is done; each committed transaction was
 /// handed in, and folding them from the mint in the order of their Commits, where each found all its inputs, leaves a book; the shards together
 /// hold exactly the hashes of its coins; no two inputs name one outpoint and no id is committed twice; every batch is finished alike on all its
-/// shards; where each of these transactions makes as much as it takes, the value is the value minted; the totals are those of this book.
+/// shards; where each of these transactions makes as much as it takes, the value is the value minted, and where
+/// each keeps the money, money is what was minted plus issued less redeemed; the totals are those of this book.
 pub fn account_law<R: Rack>(rack: &R)
     ensures { VerdictsAccount R.Disk.Disk (R.held rack.now) }
 {}

@@ -229,7 +229,11 @@ impl Told {
             Refusal::RepeatedInput(i) | Refusal::ZeroInput(i) | Refusal::ZeroOutput(i) => {
                 self.number(*i);
             }
-            Refusal::BadWitness(i) | Refusal::Unverified(i) => self.number(*i),
+            Refusal::BurnedInput(i) | Refusal::BadWitness(i) | Refusal::Unverified(i) => {
+                self.number(*i);
+            }
+            Refusal::PermitCount { ins, outs } => self.numbers(&[*ins, *outs]),
+            Refusal::PermitRaised { was, now } => self.numbers(&[*was, *now]),
             Refusal::Unbalanced { ins, outs } => self.numbers(&[*ins, *outs]),
             Refusal::NoInputs
             | Refusal::NoOutputs

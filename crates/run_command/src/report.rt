@@ -3,18 +3,17 @@ ghost use Rattle.std.specs.Prelude.{◌≡◌, ◌≤◌, ◌+◌, ◌++◌, min
 ghost use Rattle.outside.specs.Counts.{HasCause};
 ghost use Rattle.cbdc_model.specs.Records.{is_won};
 ghost use Rattle.line_text.specs.Lines.{Prints};
-ghost use Rattle.printed_lines.specs.Reports.{audit_lines};
+ghost use Rattle.line_text.specs.Reports.{audit_text};
 ghost use Rattle.printed_lines.specs.Runs.{decided_line};
 ghost use Rattle.run_command.specs.Pages.{GathersText};
 ghost use Rattle.run_command.specs.Told.{numbers_of, kept_in_lane, told_report, told_line, told_file, told_files, told_count, told_total, one_where, batches_in, batches_told, IsCounted, AreCounts, IsCountable, AreNumbers, ran_text};
 
 use crate::page::Page;
-use audit::Totals;
-use cbdc_types::{BatchId, Hash, Outcome};
+use cbdc_types::{BatchId, Hash, Outcome, Totals};
 use file_runs::{Ran, Wave};
 use ledger_runs::Decided;
 use line_text::{
-    AuditSummary, Summary, WriteFault, write_all, write_audit, write_confirmed, write_refused,
+    Summary, WriteFault, write_all, write_audit, write_confirmed, write_refused,
     write_rejected, write_summary,
 };
 use outside::Sink;
@@ -290,15 +289,9 @@ pub fn write_report<O: Sink>(out: &mut O, ran: &Ran) -> Result<(), WriteFault>
 /// Writes the numbers that end the text of a run, and those of an audit behind it.
 pub fn write_generated<O: Sink>(out: &mut O, ran: &Ran, totals: &Totals) -> Result<(), WriteFault>
     ensures prints { IsCountable ran.now → Prints (O.taken out.old) (O.taken out.new)
-        (numbers_of ran.now ++ audit_lines totals.now) result }
+        (numbers_of ran.now ++ audit_text totals.now) result }
     ensures cause { HasCause (O.count out.old) (O.count out.new) result }
 {
     write_summary(out, &summary_of(ran))?;
-    let audited = AuditSummary {
-        coins: totals.coins,
-        value: totals.value,
-        minted: totals.minted,
-        committed: totals.committed,
-    };
-    write_audit(out, &audited)
+    write_audit(out, totals)
 }

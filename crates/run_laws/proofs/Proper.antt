@@ -1,15 +1,21 @@
 -- A sound transaction is proper, and a proper one is refused for a verdict alone.
 use Rattle.std.proofs.Common.{◌≡◌, ◌⊎◌, inl, inr, ℕ, suc, zero, ◌<◌, ◌≤◌, ◌^◌, true, false, List, [], ◌∷◌, map, length, slice_get, Some, None, bytes_eq, refl, sym, ap, ◌∙◌, subst, arith, lit<}
+use Rattle.std.specs.Prelude.{◌≢◌}
 use Rattle.std.specs.List.{IsDistinct, AllByRecursion}
+use Rattle.std.proofs.lemmas.Bool.{cases_lt}
 use Rattle.std.proofs.lemmas.Slice.Eq.{bytes_eq-Decides}
 use Rattle.std.proofs.lemmas.Map.Keys.{IsDistinct-cons}
 use Rattle.std.proofs.lemmas.List.Elements.{All-from_recursion, recursion_from_All}
 use Rattle.cbdc_model.specs.Coins.{Input, OutPoint, FullTx}
 use Rattle.cbdc_model.specs.Book.{key}
+use Rattle.cbdc_types.specs.Kinds.{kind_of}
+use Rattle.cbdc_types.specs.declared.tx.Kind.TheVariants.{Burn}
 use Rattle.cbdc_model.specs.Clean.{IsProper}
-use Rattle.sentinel.specs.FirstRefusal.{Verdicts, Applies, rank, HasAt, IsLeast, Repeats, input_sum, output_sum}
+use Rattle.cbdc_model.specs.Money.{ArePaired}
+use Rattle.sentinel.specs.FirstRefusal.{Verdicts, Applies, rank, HasAt, IsLeast, Repeats, input_sum, output_sum, permits_in, permits_out, issuable_in, issuable_out}
+use Rattle.sentinel.proofs.PermitSums.{among_none, paired_or_not}
 use Rattle.base_types.specs.declared.faults.Refusal.{Refusal}
-use Rattle.base_types.specs.declared.faults.Refusal.TheVariants.{NoInputs, NoOutputs, WitnessCount, RepeatedInput, ZeroInput, ZeroOutput, InputOverflow, OutputOverflow, Unbalanced, BadWitness, Unverified}
+use Rattle.base_types.specs.declared.faults.Refusal.TheVariants.{NoInputs, NoOutputs, WitnessCount, RepeatedInput, ZeroInput, ZeroOutput, InputOverflow, OutputOverflow, Unbalanced, BurnedInput, PermitCount, PermitRaised, BadWitness, Unverified}
 use Rattle.run_laws.specs.Runs.{SoundLaw, ProperLaw}
 
 -- where there is no least place, there is none
@@ -77,8 +83,29 @@ below_of n limit h = elim (or n limit) [ inl lt ↦ lt | inr le ↦ absurd (h le
     or : (n limit : ℕ) → (n < limit) ⊎ (limit ≤ n)
     or n limit = grind arith
 
+-- no item has what is at no place
+none_of : {A : Type 0} (Q : A → Type 0) (xs : List A) → ((i : ℕ) → HasAt Q xs i → ⊥) → AllByRecursion (λ x. ¬ (Q x)) xs
+none_of Q [] none = tt
+none_of Q (x ∷ xs) none = (λ h. none 0 (x, refl, h), none_of Q xs (λ i h. none (suc i) (h.0, h.1, h.2)))
+
+-- permits are none and none, or one and one
+paired_of : (t : FullTx) (verdicts : Verdicts) → ((r : Refusal) → rank r < 12 → ¬ (Applies t verdicts r)) → ArePaired (permits_in t) (permits_out t)
+paired_of t verdicts none = elim (paired_or_not (permits_in t) (permits_out t)) [
+  | inl paired ↦ paired
+  | inr other ↦ absurd (none (PermitCount (permits_in t) (permits_out t)) (lit< tt) (refl, refl, other))
+]
+
+-- the one that is made has no greater value
+not_raised_of : (t : FullTx) → ArePaired (permits_in t) (permits_out t)
+    → (permits_in t ≡ 1 → permits_out t ≡ 1 → issuable_in t < issuable_out t → ⊥) → issuable_out t ≤ issuable_in t
+not_raised_of t (inl none) raised = omega (arith, among_none t.outputs none.1)
+not_raised_of t (inr one) raised = elim (cases_lt (issuable_in t) (issuable_out t)) [
+  | inl lt ↦ absurd (raised one.0 one.1 lt)
+  | inr le ↦ le
+]
+
 -- what is refused for no reason that asks no verdict is proper
-proper_of : (t : FullTx) (verdicts : Verdicts) → ((r : Refusal) → rank r < 9 → ¬ (Applies t verdicts r)) → IsProper t
+proper_of : (t : FullTx) (verdicts : Verdicts) → ((r : Refusal) → rank r < 12 → ¬ (Applies t verdicts r)) → IsProper t
 proper_of t verdicts none = record {
   has_input = some_of t.inputs (none NoInputs (lit< tt));
   has_output = some_of t.outputs (none NoOutputs (lit< tt));
@@ -90,7 +117,13 @@ proper_of t verdicts none = record {
       (no_zeros (λ o. o.value) t.outputs (none_at (HasAt (λ o. o.value ≡ 0) t.outputs) (λ i. none (ZeroOutput i) (lit< tt))));
   inputs_fit = below_of _ (2 ^ 64) (none InputOverflow (lit< tt));
   outputs_fit = below_of _ (2 ^ 64) (none OutputOverflow (lit< tt));
-  balanced = same_of _ _ (λ h. none (Unbalanced _ _) (lit< tt) (refl, refl, h));
+  keeps_money = record {
+    balanced = same_of _ _ (λ h. none (Unbalanced _ _) (lit< tt) (refl, refl, h));
+    none_burnt = All-from_recursion (λ c. kind_of c.output ≢ Burn) t.inputs
+        (none_of (λ (c : Input). kind_of c.output ≡ Burn) t.inputs (none_at (HasAt (λ x. kind_of x.output ≡ Burn) t.inputs) (λ i. none (BurnedInput i) (lit< tt))));
+    permits = paired_of t verdicts none;
+    not_raised = not_raised_of t (paired_of t verdicts none) (λ ins outs lt. none (PermitRaised _ _) (lit< tt) (ins, outs, refl, refl, lt));
+  };
 }
 
 pub sound_law : SoundLaw
@@ -114,6 +147,10 @@ zero_not value xs i all h = positive (value h.0) (all_at (λ x. 1 ≤ value x) x
   where
     positive : (n : ℕ) → 1 ≤ n → n ≡ 0 → ⊥
     positive n le e = omega (arith, le, e)
+
+-- what no item has is at no place
+none_there : {A : Type 0} (Q : A → Type 0) (xs : List A) (i : ℕ) → AllByRecursion (λ x. ¬ (Q x)) xs → HasAt Q xs i → ⊥
+none_there Q xs i all h = all_at (λ x. ¬ (Q x)) xs i h.0 all h.1 h.2
 
 -- keys of which no two are one: the first is none of the others
 key_apart : (k : List ℕ) (ks : List (List ℕ)) → IsDistinct (λ p q. bytes_eq p q) (k ∷ ks) → AllByRecursion (λ q. bytes_eq k q ≡ false) ks
@@ -158,7 +195,7 @@ past_not : (n limit : ℕ) → n < limit → limit ≤ n → ⊥
 past_not n limit below past = omega (arith, below, past)
 
 -- a proper transaction is refused for no reason that asks no verdict
-refused_not : (t : FullTx) (verdicts : Verdicts) → IsProper t → (r : Refusal) → rank r < 9 → ¬ (Applies t verdicts r)
+refused_not : (t : FullTx) (verdicts : Verdicts) → IsProper t → (r : Refusal) → rank r < 12 → ¬ (Applies t verdicts r)
 refused_not t verdicts p NoInputs below = some_not t.inputs p.has_input
 refused_not t verdicts p NoOutputs below = some_not t.outputs p.has_output
 refused_not t verdicts p WitnessCount below = λ other. other p.witnesses
@@ -169,7 +206,12 @@ refused_not t verdicts p (ZeroOutput i) below = λ least.
     zero_not (λ o. o.value) t.outputs i (recursion_from_All (λ o. 1 ≤ o.value) t.outputs p.no_zero_output) least.holds
 refused_not t verdicts p InputOverflow below = past_not (input_sum t) (2 ^ 64) p.inputs_fit
 refused_not t verdicts p OutputOverflow below = past_not (output_sum t) (2 ^ 64) p.outputs_fit
-refused_not t verdicts p (Unbalanced ins outs) below = λ h. h.2 (h.0 ∙ p.balanced ∙ sym h.1)
+refused_not t verdicts p (Unbalanced ins outs) below = λ h. h.2 (h.0 ∙ p.keeps_money.balanced ∙ sym h.1)
+refused_not t verdicts p (BurnedInput i) below = λ least.
+    none_there (λ (c : Input). kind_of c.output ≡ Burn) t.inputs i (recursion_from_All (λ c. kind_of c.output ≢ Burn) t.inputs p.keeps_money.none_burnt) least.holds
+refused_not t verdicts p (PermitCount ins outs) below = λ h.
+    h.2 (subst (λ m. ArePaired m outs) (sym h.0) (subst (λ m. ArePaired (permits_in t) m) (sym h.1) p.keeps_money.permits))
+refused_not t verdicts p (PermitRaised was now) below = λ h. omega (arith, p.keeps_money.not_raised, h.2, h.3, h.4)
 refused_not t verdicts p (BadWitness i) below = absurd (omega (arith, below))
 refused_not t verdicts p (Unverified i) below = absurd (omega (arith, below))
 

@@ -78,7 +78,7 @@ SoundLaw = (t : FullTx) (verdicts : Verdicts) → IsSoundTx t verdicts → IsPro
 
 -- a transaction is proper exactly where none of the reasons applies that ask no verdict: those before the two of witnesses
 abbrev pub ProperLaw : Type 0
-ProperLaw = (t : FullTx) (verdicts : Verdicts) → IsProper t ↔ ((r : Refusal) → rank r < 9 → ¬ (Applies t verdicts r))
+ProperLaw = (t : FullTx) (verdicts : Verdicts) → IsProper t ↔ ((r : Refusal) → rank r < 12 → ¬ (Applies t verdicts r))
 
 -- what is kept stays kept when more is submitted
 abbrev pub GrowLaw : Type 0

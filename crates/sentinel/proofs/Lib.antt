@@ -3,4 +3,5 @@ mod LineLemmas
 mod KeyLemmas
 mod ReadLemmas
 pub mod PlaceLemmas
+pub mod PermitSums
 pub mod Ranks

@@ -1,9 +1,12 @@
 -- Why a transaction is refused: the first reason that applies to it.
 use Rattle.std.specs.Prelude.{◌≡◌, ◌≢◌, ℕ, ◌^◌, ◌<◌, ◌≤◌, List, [], length, sum_by, slice_get, Some}
+use Rattle.cbdc_types.specs.Kinds.{kind_of}
+use Rattle.cbdc_types.specs.declared.tx.Kind.TheVariants.{Burn}
+use Rattle.cbdc_model.specs.Money.{permits_of, issuable_of, sum_in, sum_out, ArePaired}
 use Rattle.cbdc_types.specs.declared.tx.Input.{Input}
 use Rattle.cbdc_types.specs.declared.tx.FullTx.{FullTx}
 use Rattle.base_types.specs.declared.faults.Refusal.{Refusal}
-use Rattle.base_types.specs.declared.faults.Refusal.TheVariants.{NoInputs, NoOutputs, WitnessCount, RepeatedInput, ZeroInput, ZeroOutput, InputOverflow, OutputOverflow, Unbalanced, BadWitness, Unverified}
+use Rattle.base_types.specs.declared.faults.Refusal.TheVariants.{NoInputs, NoOutputs, WitnessCount, RepeatedInput, ZeroInput, ZeroOutput, InputOverflow, OutputOverflow, Unbalanced, BurnedInput, PermitCount, PermitRaised, BadWitness, Unverified}
 use Rattle.sentinel.specs.declared.verifier.Verdict.{Verdict}
 use Rattle.sentinel.specs.declared.verifier.Verdict.TheVariants.{Bad, Absent}
 
@@ -36,6 +39,20 @@ input_sum t = sum_by (λ x. x.output.value) t.inputs
 abbrev pub output_sum : FullTx → ℕ
 output_sum t = sum_by (λ o. o.value) t.outputs
 
+-- how many permits the inputs claim, and how many the outputs are
+abbrev pub permits_in : FullTx → ℕ
+permits_in t = sum_in permits_of t.inputs
+
+abbrev pub permits_out : FullTx → ℕ
+permits_out t = sum_out permits_of t.outputs
+
+-- what may be issued with the permits that the inputs claim, and with those that the outputs are
+abbrev pub issuable_in : FullTx → ℕ
+issuable_in t = sum_in issuable_of t.inputs
+
+abbrev pub issuable_out : FullTx → ℕ
+issuable_out t = sum_out issuable_of t.outputs
+
 -- what each reason says of the transaction; a place is the least
 abbrev pub Applies : FullTx → Verdicts → Refusal → Type 0
 Applies t verdicts NoInputs = t.inputs ≡ []
@@ -47,6 +64,10 @@ Applies t verdicts (ZeroOutput i) = IsLeast (HasAt (λ o. o.value ≡ 0) t.outpu
 Applies t verdicts InputOverflow = 2 ^ 64 ≤ input_sum t
 Applies t verdicts OutputOverflow = 2 ^ 64 ≤ output_sum t
 Applies t verdicts (Unbalanced ins outs) = (ins ≡ input_sum t) × (outs ≡ output_sum t) × (ins ≢ outs)
+Applies t verdicts (BurnedInput i) = IsLeast (HasAt (λ x. kind_of x.output ≡ Burn) t.inputs) i
+Applies t verdicts (PermitCount ins outs) = (ins ≡ permits_in t) × (outs ≡ permits_out t) × ¬ (ArePaired ins outs)
+Applies t verdicts (PermitRaised was now) =
+    (permits_in t ≡ 1) × (permits_out t ≡ 1) × (was ≡ issuable_in t) × (now ≡ issuable_out t) × (was < now)
 Applies t verdicts (BadWitness i) = IsLeast (HasVerdict Bad t.inputs verdicts) i
 Applies t verdicts (Unverified i) = IsLeast (HasVerdict Absent t.inputs verdicts) i
 
@@ -61,8 +82,11 @@ rank (ZeroOutput i) = 5
 rank InputOverflow = 6
 rank OutputOverflow = 7
 rank (Unbalanced ins outs) = 8
-rank (BadWitness i) = 9
-rank (Unverified i) = 10
+rank (BurnedInput i) = 9
+rank (PermitCount ins outs) = 10
+rank (PermitRaised was now) = 11
+rank (BadWitness i) = 12
+rank (Unverified i) = 13
 
 -- the reason applies, and none before it does
 pub record IsFirstRefusal (t : FullTx) (verdicts : Verdicts) (r : Refusal) : Type 0 where

@@ -14,6 +14,7 @@ mod compacting;
 mod file;
 mod identifiers;
 mod line;
+mod permits;
 mod places;
 mod steps;
 mod verifier;
@@ -27,14 +28,16 @@ pub use file::{BadLine, VerdictFault, VerdictFile};
 pub use identifiers::{input_hash, tx_id, uhs_id};
 use steps::{
     balances, fits_inputs, fits_outputs, has_bad, has_inputs, has_outputs, has_unverified,
-    has_witnesses, has_zero_input, has_zero_output, repeats,
+    has_witnesses, has_zero_input, has_zero_output, pairs_permits, raises_permit, repeats,
+    spends_burned,
 };
 pub use verifier::{AllGood, Verdict, Verifier};
 
 /// Checks a transaction with this id. The refusal is the first reason that applies: no inputs, no outputs,
 /// another number of witnesses than of inputs, a repeated outpoint, an input of value 0, an output of value
-/// 0, a sum of the inputs or of the outputs past 2^64 - 1, unlike sums, a bad witness, a witness of which
-/// nothing is known. A place is always the least.
+/// 0, a sum of the inputs or of the outputs past 2^64 - 1, unlike sums, an input that claims a burn output,
+/// permits that are neither none and none nor one and one, a permit of more value than the one that is
+/// spent, a bad witness, a witness of which nothing is known. A place is always the least.
 pub fn check<V: Verifier>(tx: &FullTx, id: &Hash, verifier: &V) -> Result<(), Refusal>
     ensures { MatchResult result
         (λ _. IsSoundTx tx.now (V.verdict_of verifier.now id.now))
@@ -49,6 +52,9 @@ pub fn check<V: Verifier>(tx: &FullTx, id: &Hash, verifier: &V) -> Result<(), Re
     fits_inputs(tx)?;
     fits_outputs(tx)?;
     balances(tx)?;
+    spends_burned(tx)?;
+    pairs_permits(tx)?;
+    raises_permit(tx)?;
     has_bad(tx, id, verifier)?;
     has_unverified(tx, id, verifier)
 }

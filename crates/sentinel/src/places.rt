@@ -1,9 +1,11 @@
 // The least place of something.
 ghost use Rattle.std.specs.Prelude.{◌≡◌, ◌<◌, ◌≤◌, ◌↔◌, ℕ, length, sum_by, IsTrue, MatchOption};
+ghost use Rattle.cbdc_types.specs.Kinds.{kind_of};
+ghost use Rattle.cbdc_types.specs.declared.tx.Kind.TheVariants.{Burn as BurnKind};
 ghost use Rattle.sentinel.specs.FirstRefusal.{HasAt, HasVerdict, IsLeast, Repeats};
 
 use crate::{Verdict, Verifier};
-use cbdc_types::{Hash, Input, Output};
+use cbdc_types::{Hash, Input, Kind, Output, kind};
 
 /// The first input of value 0.
 pub(crate) fn zero_input(inputs: &[Input]) -> Option<u64>
@@ -51,6 +53,19 @@ pub(crate) fn repeated(inputs: &[Input]) -> Option<u64>
 {
     'inputs: for index in 0..inputs.len() {
         if stands_earlier(inputs, index) {
+            return Some(index as u64);
+        }
+    }
+    None
+}
+
+/// The first input that claims a burn output.
+pub(crate) fn burned_input(inputs: &[Input]) -> Option<u64>
+    ensures { MatchOption result ((i : ℕ) → ¬ (HasAt (λ x. kind_of x.output ≡ BurnKind) inputs.now i))
+        (λ i. IsLeast (HasAt (λ x. kind_of x.output ≡ BurnKind) inputs.now) i) }
+{
+    'inputs: for (index, input) in inputs.iter().enumerate() {
+        if kind(&input.output) == Kind::Burn {
             return Some(index as u64);
         }
     }

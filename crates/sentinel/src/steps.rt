@@ -1,9 +1,11 @@
 // Each reason by itself.
 ghost use Rattle.std.specs.Prelude.{MatchResult, ℕ, ◌<◌, ◌^◌};
-ghost use Rattle.sentinel.specs.FirstRefusal.{AppliesAt, NoneAt, Verdicts, input_sum, output_sum};
+ghost use Rattle.cbdc_model.specs.Money.{ArePaired};
+ghost use Rattle.sentinel.specs.FirstRefusal.{AppliesAt, NoneAt, Verdicts, input_sum, issuable_in, issuable_out, output_sum, permits_in, permits_out};
 
+use crate::permits::{permits_among, permits_claimed, worth_among, worth_claimed};
 use crate::places::{
-    repeated, sum_of_inputs, sum_of_outputs, with_verdict, zero_input, zero_output,
+    burned_input, repeated, sum_of_inputs, sum_of_outputs, with_verdict, zero_input, zero_output,
 };
 use crate::{Verdict, Verifier};
 use cbdc_types::{FullTx, Hash, Refusal};
@@ -114,9 +116,49 @@ pub(crate) fn balances(tx: &FullTx) -> Result<(), Refusal>
 }
 
 /// The reason of rank 9.
+pub(crate) fn spends_burned(tx: &FullTx) -> Result<(), Refusal>
+    ensures { (verdicts : Verdicts)
+        → MatchResult result (λ _. NoneAt 9 tx.now verdicts) (λ r. AppliesAt 9 tx.now verdicts r) }
+{
+    match burned_input(tx.inputs.as_slice()) {
+        Some(place) => Err(Refusal::BurnedInput(place)),
+        None => Ok(()),
+    }
+}
+
+/// The reason of rank 10.
+pub(crate) fn pairs_permits(tx: &FullTx) -> Result<(), Refusal>
+    ensures { (verdicts : Verdicts)
+        → MatchResult result (λ _. NoneAt 10 tx.now verdicts) (λ r. AppliesAt 10 tx.now verdicts r) }
+{
+    let ins = permits_claimed(tx.inputs.as_slice());
+    let outs = permits_among(tx.outputs.as_slice());
+    if ins != outs || ins > 1 {
+        return Err(Refusal::PermitCount { ins, outs });
+    }
+    Ok(())
+}
+
+/// The reason of rank 11, where the permits are paired.
+pub(crate) fn raises_permit(tx: &FullTx) -> Result<(), Refusal>
+    requires ins { issuable_in tx.now < 2 ^ 64 }
+    requires outs { issuable_out tx.now < 2 ^ 64 }
+    requires paired { ArePaired (permits_in tx.now) (permits_out tx.now) }
+    ensures { (verdicts : Verdicts)
+        → MatchResult result (λ _. NoneAt 11 tx.now verdicts) (λ r. AppliesAt 11 tx.now verdicts r) }
+{
+    let was = worth_claimed(tx.inputs.as_slice()) as u64;
+    let now = worth_among(tx.outputs.as_slice()) as u64;
+    if was < now {
+        return Err(Refusal::PermitRaised { was, now });
+    }
+    Ok(())
+}
+
+/// The reason of rank 12.
 pub(crate) fn has_bad<V: Verifier>(tx: &FullTx, id: &Hash, verifier: &V) -> Result<(), Refusal>
-    ensures { MatchResult result (λ _. NoneAt 9 tx.now (V.verdict_of verifier.now id.now))
-        (λ r. AppliesAt 9 tx.now (V.verdict_of verifier.now id.now) r) }
+    ensures { MatchResult result (λ _. NoneAt 12 tx.now (V.verdict_of verifier.now id.now))
+        (λ r. AppliesAt 12 tx.now (V.verdict_of verifier.now id.now) r) }
 {
     match with_verdict(tx.inputs.as_slice(), id, verifier, Verdict::Bad) {
         Some(place) => Err(Refusal::BadWitness(place)),
@@ -124,14 +166,14 @@ pub(crate) fn has_bad<V: Verifier>(tx: &FullTx, id: &Hash, verifier: &V) -> Resu
     }
 }
 
-/// The reason of rank 10.
+/// The reason of rank 13.
 pub(crate) fn has_unverified<V: Verifier>(
     tx: &FullTx,
     id: &Hash,
     verifier: &V,
 ) -> Result<(), Refusal>
-    ensures { MatchResult result (λ _. NoneAt 10 tx.now (V.verdict_of verifier.now id.now))
-        (λ r. AppliesAt 10 tx.now (V.verdict_of verifier.now id.now) r) }
+    ensures { MatchResult result (λ _. NoneAt 13 tx.now (V.verdict_of verifier.now id.now))
+        (λ r. AppliesAt 13 tx.now (V.verdict_of verifier.now id.now) r) }
 {
     match with_verdict(tx.inputs.as_slice(), id, verifier, Verdict::Absent) {
         Some(place) => Err(Refusal::Unverified(place)),

@@ -7,11 +7,12 @@ use Rattle.std.specs.Ordering.{nat_cmp, is_eq}
 use Rattle.std.specs.Cmp.{tied_itself}
 use Rattle.std.specs.Cmp.Lexicographic.{slice_cmp, nat_list_cmp_total}
 use Rattle.cbdc_model.specs.Records.{Compact}
-use Rattle.cbdc_model.specs.Book.{Book, key, same_output, taken, take_out, take_all, put_all, spend_from, spend, fold_txs, genesis_book, value}
+use Rattle.cbdc_model.specs.Book.{Book, key, same_output, taken, take_out, take_all, put_all, spend_from, spend, fold_txs, genesis_book, total, value}
 use Rattle.cbdc_model.specs.Clean.{value_out}
+use Rattle.cbdc_model.specs.Money.{sum_out}
 use Rattle.cbdc_model.specs.Coins.{Output, Coin, FullTx, made_coins, tx_coins, compact, genesis_tx, genesis_id}
 use Rattle.cbdc_model.specs.History.{same_compact, first_with, AreHandedIn}
-use Rattle.ledger_laws.proofs.Books.{same_key, other_key, keys, get-insert_same, get-insert_other, get-remove_same, get-remove_other, value-insert}
+use Rattle.ledger_laws.proofs.Books.{same_key, other_key, keys, get-insert_same, get-insert_other, get-remove_same, get-remove_other, total-insert}
 use Rattle.ledger_laws.proofs.Members.{In}
 use Rattle.submission_laws.proofs.Sets.{Once}
 
@@ -173,32 +174,35 @@ no_fewer_entries (k ∷ qs) b once all =
     (r.0, get-remove_other b k q (λ e. once.0 (subst (λ z. In z qs) e h)) ∙ r.1)) in
     omega (arith, one, rest)
 
--- ---- what a mint's coins are worth
+-- ---- what a mint's coins come to
 
-module _ (id : List ℕ) where
-  put_worth : (os : List Output) (k : ℕ) (b : Book) → ((i : ℕ) → k ≤ i → book.get b (i ∷ id) ≡ None) → value (put_all b (made_coins id k os)) ≡ value_out os + value b
-  put_worth [] k b none = worth_none b
+module _ (f : Output → ℕ) (id : List ℕ) where
+  put_total : (os : List Output) (k : ℕ) (b : Book) → ((i : ℕ) → k ≤ i → book.get b (i ∷ id) ≡ None) → total f (put_all b (made_coins id k os)) ≡ sum_out f os + total f b
+  put_total [] k b none = none_put b
     where
-      worth_none : (b : Book) → value b ≡ value_out [] + value b
-      worth_none b = omega arith
-  put_worth (o ∷ os) k b none =
-      let rest = put_worth os (suc k) (book.insert b (k ∷ id) o) (λ i low. get-insert_other b (k ∷ id) o (i ∷ id) (λ e. apart i k low e) ∙ none i (omega (arith, low))) in
-      let one = value-insert b (k ∷ id) o (none k (omega arith)) in
-      let sum = sum_by-cons (λ p. p.value) o os in
+      none_put : (b : Book) → total f b ≡ sum_out f [] + total f b
+      none_put b = omega arith
+  put_total (o ∷ os) k b none =
+      let rest = put_total os (suc k) (book.insert b (k ∷ id) o) (λ i low. get-insert_other b (k ∷ id) o (i ∷ id) (λ e. apart i k low e) ∙ none i (omega (arith, low))) in
+      let one = total-insert f b (k ∷ id) o (none k (omega arith)) in
+      let sum = sum_by-cons f o os in
       omega (arith, rest, one, sum)
     where
       apart : (i k : ℕ) → suc k ≤ i → i ∷ id ≡ k ∷ id → ⊥
       apart i k low e = let f : i ≡ k = cc in omega (arith, low, f)
 
-value_empty : value book.empty ≡ 0
-value_empty = ap (λ es. sum_by (λ o. o.value) (map (λ e. e.1) es)) (nothing (book.entries (book.empty {X = Output} {R = slice_cmp nat_cmp})) (sym (book.len-entries (book.empty {X = Output} {R = slice_cmp nat_cmp})) ∙ book.len-empty (slice_cmp nat_cmp) Output))
+total_empty : (f : Output → ℕ) → total f book.empty ≡ 0
+total_empty f = ap (λ es. sum_by f (map (λ e. e.1) es)) (nothing (book.entries (book.empty {X = Output} {R = slice_cmp nat_cmp})) (sym (book.len-entries (book.empty {X = Output} {R = slice_cmp nat_cmp})) ∙ book.len-empty (slice_cmp nat_cmp) Output))
   where
     nothing : (es : List (List ℕ × Output)) → length es ≡ 0 → es ≡ []
     nothing [] e = refl
     nothing (e ∷ es) h = absurd (omega (arith, h))
 
-pub genesis_worth : (mint : List Output) → value (genesis_book mint) ≡ value_out mint
-genesis_worth mint =
-    let put = put_worth (genesis_id mint) mint 0 book.empty (λ i low. book.get-empty (slice_cmp nat_cmp) (i ∷ genesis_id mint)) in
-    let none = value_empty in
+pub genesis_total : (f : Output → ℕ) (mint : List Output) → total f (genesis_book mint) ≡ sum_out f mint
+genesis_total f mint =
+    let put = put_total f (genesis_id mint) mint 0 book.empty (λ i low. book.get-empty (slice_cmp nat_cmp) (i ∷ genesis_id mint)) in
+    let none = total_empty f in
     omega (arith, put, none)
+
+pub genesis_worth : (mint : List Output) → value (genesis_book mint) ≡ value_out mint
+genesis_worth mint = genesis_total (λ o. o.value) mint

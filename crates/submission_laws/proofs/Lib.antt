@@ -5,6 +5,7 @@ pub mod Replying
 pub mod Settling
 pub mod Freeing
 pub mod Ranges
+pub mod MoneyAlone
 pub mod Sound
 pub mod Coins
 pub mod Worlds

@@ -9,8 +9,9 @@ use Rattle.std.proofs.lemmas.List.FromFn.{length-map-range_with_len}
 use Rattle.cbdc_model.specs.Records.{Digest, Shape, Batch, Compact, Record, Row, journal}
 use Rattle.cbdc_model.specs.Status.{status}
 use Rattle.cbdc_model.specs.Ranges.{shard_of, shard_node}
-use Rattle.cbdc_model.specs.Book.{Book, key, genesis_book, fold_txs, value}
-use Rattle.cbdc_model.specs.Coins.{Output, Coin, FullTx, coin_hash, tx_id, tx_coins, compact, genesis_tx, genesis_hashes}
+use Rattle.cbdc_model.specs.Book.{Book, key, genesis_book, fold_txs, value, money}
+use Rattle.cbdc_model.specs.Money.{money_of, issued, redeemed}
+use Rattle.cbdc_model.specs.Coins.{Output, Coin, FullTx, coin_hash, tx_id, tx_coins, compact, genesis_tx, genesis_id, genesis_hashes}
 use Rattle.cbdc_model.specs.Clean.{Clean, IsNamed, IsProperCompact, value_out}
 use Rattle.cbdc_model.specs.History.{minted, history_of, committed, all_inputs, all_outputs, won_of, IsKept, IsOrdered, AreHandedIn}
 use Rattle.cbdc_model.specs.World.{KeptJournals, AreIdle, IsUnspent}
@@ -23,7 +24,7 @@ use Rattle.ledger_laws.proofs.HistoryLaws.{one_history_law}
 use Rattle.ledger_laws.proofs.Recovery.{idle_law, one_list}
 use Rattle.ledger_laws.proofs.Members.{In, in_contains, contains_in, count_in}
 use Rattle.submissions.specs.SoundTest.{sound_by}
-use Rattle.audit.specs.declared.verdict.Totals.{Totals}
+use Rattle.cbdc_types.specs.declared.answer.Totals.{Totals}
 use Rattle.audit.specs.Laws.{AllAfter}
 use Rattle.audit.specs.Verdicts.{IsSoundHistory}
 use Rattle.audit.proofs.Ordered.{ordered_rows}
@@ -32,7 +33,7 @@ use Rattle.submission_laws.specs.Sent.{IsSent}
 use Rattle.submission_laws.specs.Settled.{AreSettled}
 use Rattle.submission_laws.specs.Free.{IsSubmissionConfirmed}
 use Rattle.submission_laws.proofs.Settling.{settled_law}
-use Rattle.workload.specs.Generator.{mint_of, minted_of, joined_of, splits_of, joins_of}
+use Rattle.workload.specs.Generator.{mint_of, minted_of, joined_of, split_of, splits_of, joins_of}
 use Rattle.submission_laws.specs.Files.{all_good, files_of, all_submissions, made_for}
 use Rattle.submission_laws.specs.Whole.{left_of, totals_of, WholeLaw}
 use Rattle.submission_laws.proofs.Ranges.{in_left, in_right, in_both, in_range, From, from_range}
@@ -42,7 +43,8 @@ use Rattle.submission_laws.proofs.Sets.{Once, once_both, once_range, no_longer, 
 use Rattle.submission_laws.proofs.Committed.{is_committed}
 use Rattle.submission_laws.proofs.FirstFile.{in_map, one_in, kept_first, split_confirmed, split_sent}
 use Rattle.submission_laws.proofs.SecondFile.{two_in, zero_or, join_confirmed, join_sent}
-use Rattle.submission_laws.proofs.Books.{AllFrom, book_from, handed_in, no_more_entries, no_fewer_entries, genesis_worth}
+use Rattle.submission_laws.proofs.Books.{AllFrom, book_from, handed_in, no_more_entries, no_fewer_entries, genesis_worth, genesis_total}
+use Rattle.submission_laws.proofs.MoneyAlone.{MovesNone, split_moves, join_moves, none_issued, none_redeemed, mint_money}
 
 from_map : {A B : Type 0} (f : A → B) (y : B) (xs : List A) → In y (map f xs) → (x : A) × In x xs × (y ≡ f x)
 from_map f y [] h = absurd h
@@ -528,15 +530,25 @@ module _ (K : Shape) (seed n : ℕ) (some : 0 < K.shards) (lanes : 0 < K.lanes) 
 
   -- ---- the totals
 
+  moves : (t : FullTx) → In t headline.txs → MovesNone t
+  moves t h =
+      by_one (one_of seed n t (handed_in (all_submissions seed n) (committed (history_of K (mint_of seed n) headline.later)) headline.txs headline.committed t h))
+    where
+      by_one : IsOne seed n t → MovesNone t
+      by_one (is_split i low e) = subst MovesNone (sym e) (split_moves seed n i (genesis_id (mint_of seed n)))
+      by_one (is_join i low e) = subst MovesNone (sym e) (join_moves seed n i (tx_id (split_of seed n (genesis_id (mint_of seed n)) i)))
+
   module _ (told : List Row) (totals : Totals) (are : (node : ℕ) → journal node (reverse told) ≡ X node) (in_order : IsOrdered (reverse told)) (sound : IsSoundHistory K (mint_of seed n) (all_submissions seed n) told totals) where
     same_rows : reverse told ≡ history_of K (mint_of seed n) headline.later
     same_rows = ordered_rows K (mint_of seed n) X headline.later (reverse told) (all_after K (mint_of seed n) (all_submissions seed n) headline.later kept_rows) headline.history in_order are
 
-    same_book : sound.book ≡ headline.book
-    same_book =
+    same_txs : sound.pass.spent.txs ≡ headline.txs
+    same_txs =
         let handed = subst (λ rs. AreHandedIn (all_submissions seed n) (committed rs) sound.pass.spent.txs) same_rows sound.pass.spent.handed_in in
-        let txs : sound.pass.spent.txs ≡ headline.txs = one_list (all_submissions seed n) (committed (history_of K (mint_of seed n) headline.later)) sound.pass.spent.txs headline.txs handed headline.committed in
-        one_book sound.book headline.book (sym (ap (fold_txs (Some (genesis_book (mint_of seed n)))) (sym txs) ∙ sound.pass.spent.folds) ∙ headline.folds)
+        one_list (all_submissions seed n) (committed (history_of K (mint_of seed n) headline.later)) sound.pass.spent.txs headline.txs handed headline.committed
+
+    same_book : sound.book ≡ headline.book
+    same_book = one_book sound.book headline.book (sym (ap (fold_txs (Some (genesis_book (mint_of seed n)))) (sym same_txs) ∙ sound.pass.spent.folds) ∙ headline.folds)
       where
         one_book : (a b : Book) → Some a ≡ Some b → a ≡ b
         one_book a b e = cc
@@ -545,8 +557,16 @@ module _ (K : Shape) (seed n : ℕ) (some : 0 < K.shards) (lanes : 0 < K.lanes) 
     totals_are =
         let coins : totals.coins ≡ left_of n = sound.coins ∙ ap book.len same_book ∙ coins_many in
         let worth : totals.value ≡ value_out (mint_of seed n) = sound.value ∙ ap value same_book ∙ headline.value_kept ∙ genesis_worth (mint_of seed n) in
+        let issued_none : totals.issued ≡ 0 = sound.issued ∙ ap issued same_txs ∙ none_issued headline.txs moves in
+        let redeemed_none : totals.redeemed ≡ 0 = sound.redeemed ∙ ap redeemed same_txs ∙ none_redeemed headline.txs moves in
+        let minted_money : money (genesis_book (mint_of seed n)) ≡ value_out (mint_of seed n) = genesis_total money_of (mint_of seed n) ∙ mint_money seed n in
+        let money_is : totals.money ≡ value_out (mint_of seed n) = sound.money ∙ ap money same_book ∙ all_money (none_issued headline.txs moves) (none_redeemed headline.txs moves) minted_money in
         let many : totals.committed ≡ n = sound.committed ∙ ap (λ rs. length (committed rs)) same_rows ∙ committed_many in
-        λ i. record { coins = coins i; value = worth i; minted = sound.minted i; committed = many i }
+        λ i. record { coins = coins i; value = worth i; minted = sound.minted i; committed = many i; money = money_is i; issued = issued_none i; redeemed = redeemed_none i }
+      where
+        all_money : issued headline.txs ≡ 0 → redeemed headline.txs ≡ 0 → money (genesis_book (mint_of seed n)) ≡ value_out (mint_of seed n)
+            → money headline.book ≡ value_out (mint_of seed n)
+        all_money i r m = omega (arith, i, r, m, headline.issuance.money_kept)
 
   -- ---- each is confirmed
 

@@ -7,7 +7,7 @@ use Rattle.cbdc_model.specs.History.{IsOrdered}
 use Rattle.cbdc_model.specs.World.{KeptJournals}
 use Rattle.cbdc_model.specs.Waves.{Waves}
 use Rattle.submissions.specs.SoundTest.{sound_by}
-use Rattle.audit.specs.declared.verdict.Totals.{Totals}
+use Rattle.cbdc_types.specs.declared.answer.Totals.{Totals}
 use Rattle.audit.specs.Verdicts.{IsSoundHistory}
 use Rattle.printed_lines.specs.Unspent.{IsUnspentCount}
 use Rattle.submission_laws.specs.Sent.{IsSent}
@@ -19,9 +19,18 @@ use Rattle.submission_laws.specs.Files.{all_good, files_of, all_submissions, mad
 abbrev pub left_of : ℕ → ℕ
 left_of n = 2 * minted_of n - joined_of n
 
--- what an audit's totals are in the end: the value is the value minted, and all n transactions are committed
+-- what an audit's totals are in the end: the value is the value minted, all n transactions are committed, all of it is money, nothing is issued and
+-- nothing is redeemed
 abbrev pub totals_of : ℕ → ℕ → Totals
-totals_of seed n = record { coins = left_of n; value = value_out (mint_of seed n); minted = value_out (mint_of seed n); committed = n }
+totals_of seed n = record {
+  coins = left_of n;
+  value = value_out (mint_of seed n);
+  minted = value_out (mint_of seed n);
+  committed = n;
+  money = value_out (mint_of seed n);
+  issued = 0;
+  redeemed = 0;
+}
 
 -- behind a run of a workload each of its transactions is confirmed, `left_of` hashes are unspent, and the totals of an audit that finds all sound
 -- are `totals_of`

@@ -1,5 +1,5 @@
 -- What each part of the test decides.
-use Rattle.std.proofs.Common.{◌≡◌, ℕ, zero, suc, ◌<◌, Bool, ◌&&◌, not, ◌==◌, nat_lt, List, [], ◌∷◌, length, Some, None, refl, sym, ap, ◌∙◌, subst, arith, inl, inr}
+use Rattle.std.proofs.Common.{◌≡◌, ℕ, zero, suc, ◌<◌, ◌≤◌, Bool, ◌&&◌, not, ◌==◌, nat_lt, List, [], ◌∷◌, length, Some, None, refl, sym, ap, ◌∙◌, subst, arith, inl, inr}
 use Rattle.std.specs.Prelude.{bytes_eq, Decides}
 use Rattle.std.specs.List.{list_all}
 use Rattle.std.proofs.lemmas.Bool.{cases_lt}
@@ -7,10 +7,13 @@ use Rattle.std.proofs.lemmas.Bool.Decides.{Decides-eqb, Decides-ltb, Decides-lik
 use Rattle.std.proofs.lemmas.Slice.Eq.{bytes_eq-Decides}
 use Rattle.cbdc_types.specs.declared.tx.OutPoint.{OutPoint}
 use Rattle.cbdc_types.specs.declared.tx.Input.{Input}
+use Rattle.cbdc_types.specs.declared.tx.Kind.{Kind}
+use Rattle.cbdc_types.specs.declared.tx.Kind.TheVariants.{Permit, Burn, Money}
+use Rattle.cbdc_model.specs.Money.{ArePaired}
 use Rattle.sentinel.specs.declared.verifier.Verdict.{Verdict}
 use Rattle.sentinel.specs.declared.verifier.Verdict.TheVariants.{Good, Bad, Absent}
 use Rattle.sentinel.specs.FirstRefusal.{Verdicts, HasAt, HasVerdict, IsLeast, Repeats}
-use Rattle.submissions.specs.SoundTest.{same_point, are_distinct, each_below, is_bad, is_absent}
+use Rattle.submissions.specs.SoundTest.{same_point, are_distinct, each_below, is_burn, are_paired, is_bad, is_absent}
 
 some_same : {X : Type 0} → (x y : X) → Some x ≡ Some y → y ≡ x
 some_same x y e = cc
@@ -104,3 +107,26 @@ pub no_verdict : (wanted : Verdict) (test : Verdict → Bool) (each : (v : Verdi
 no_verdict wanted test each inputs verdicts =
     Decides-like (each_below (λ i. test (verdicts i)) (length inputs)) (λ none i (lt, is). none i lt is) (λ none i lt is. none i (lt, is))
     (Decides-below_and (λ i. test (verdicts i)) (λ i. ¬ (verdicts i ≡ wanted)) (each_below (λ i. test (verdicts i))) (λ i. each (verdicts i)) refl (λ n. refl) (length inputs))
+
+-- no input claims a burn output
+pub not_burn_decides : (k : Kind) → Decides (not (is_burn k)) (¬ (k ≡ Burn))
+not_burn_decides k = Decides-not (is_burn k) (burn k)
+  where
+    burn : (k : Kind) → Decides (is_burn k) (k ≡ Burn)
+    burn Permit = (λ e. cc, λ e. cc)
+    burn Burn = (λ e. refl, λ e. refl)
+    burn Money = (λ e. cc, λ e. cc)
+
+-- none and none, or one and one
+pub paired_decides : (ins outs : ℕ) → Decides (are_paired ins outs) (ArePaired ins outs)
+paired_decides ins outs = Decides-like (are_paired ins outs) whole parts (Decides-and (ins == outs) (nat_lt ins 2) (Decides-eqb ins outs) (Decides-ltb ins 2))
+  where
+    whole : (ins ≡ outs) × (ins < 2) → ArePaired ins outs
+    whole h = grind (arith, h.0, h.1)
+
+    parts : ArePaired ins outs → (ins ≡ outs) × (ins < 2)
+    parts (inl h) = (omega (arith, h.0, h.1), omega (arith, h.0))
+    parts (inr h) = (omega (arith, h.0, h.1), omega (arith, h.0))
+
+pub not_less_decides : (a b : ℕ) → Decides (not (nat_lt a b)) (b ≤ a)
+not_less_decides a b = Decides-like (not (nat_lt a b)) (λ none. elim (cases_lt a b) [ inl lt ↦ absurd (none lt) | inr le ↦ le ]) (λ le lt. omega (arith, le, lt)) (Decides-not (nat_lt a b) (Decides-ltb a b))

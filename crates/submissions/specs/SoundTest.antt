@@ -3,10 +3,13 @@ use Rattle.std.specs.Prelude.{◌≡◌, ℕ, zero, suc, ◌^◌, Bool, true, fa
 use Rattle.std.specs.List.{list_all}
 use Rattle.cbdc_types.specs.declared.tx.OutPoint.{OutPoint}
 use Rattle.cbdc_types.specs.declared.tx.Input.{Input}
+use Rattle.cbdc_types.specs.Kinds.{kind_of}
+use Rattle.cbdc_types.specs.declared.tx.Kind.{Kind}
+use Rattle.cbdc_types.specs.declared.tx.Kind.TheVariants.{Permit, Burn, Money}
 use Rattle.cbdc_model.specs.Coins.{FullTx, tx_id}
 use Rattle.sentinel.specs.declared.verifier.Verdict.{Verdict}
 use Rattle.sentinel.specs.declared.verifier.Verdict.TheVariants.{Good, Bad, Absent}
-use Rattle.sentinel.specs.FirstRefusal.{Verdicts, input_sum, output_sum}
+use Rattle.sentinel.specs.FirstRefusal.{Verdicts, input_sum, output_sum, permits_in, permits_out, issuable_in, issuable_out}
 use Rattle.submissions.specs.Checks.{VerdictsOf, TellsSound}
 
 -- whether two outpoints have the same transaction and index
@@ -35,8 +38,19 @@ is_absent Good = false
 is_absent Bad = false
 is_absent Absent = true
 
+-- whether an output is burnt
+abbrev pub is_burn : Kind → Bool
+is_burn Permit = false
+is_burn Burn = true
+is_burn Money = false
+
+-- whether these are none and none, or one and one
+abbrev pub are_paired : ℕ → ℕ → Bool
+are_paired ins outs = (ins == outs) && nat_lt ins 2
+
 -- some inputs; some outputs; as many witnesses as inputs; no outpoint twice; no input of value 0; no output of value 0; a sum of the inputs below
--- 2^64, and one of the outputs; equal sums; no witness of an input that is bad, and none of which nothing is known
+-- 2^64, and one of the outputs; equal sums; no input that claims a burn output; permits that are none and none or one and one, the one that is made
+-- with no greater value; no witness of an input that is bad, and none of which nothing is known
 abbrev pub is_sound : FullTx → Verdicts → Bool
 is_sound t verdicts =
     nat_lt 0 (length t.inputs)
@@ -48,6 +62,9 @@ is_sound t verdicts =
     && nat_lt (input_sum t) (2 ^ 64)
     && nat_lt (output_sum t) (2 ^ 64)
     && input_sum t == output_sum t
+    && list_all (λ x. not (is_burn (kind_of x.output))) t.inputs
+    && are_paired (permits_in t) (permits_out t)
+    && not (nat_lt (issuable_in t) (issuable_out t))
     && each_below (λ i. not (is_bad (verdicts i))) (length t.inputs)
     && each_below (λ i. not (is_absent (verdicts i))) (length t.inputs)
 

@@ -1,5 +1,6 @@
 use Rattle.std.proofs.Common.{◌∙◌, subst}
 use Rattle.std.specs.Prelude.{MatchOption}
+use Rattle.cbdc_model.specs.Money.{money_of}
 use Rattle.audit.specs.Rows.{read, rows_at}
 use Rattle.audit.specs.Walks.{AllDone, IsFirstOpen}
 use Rattle.audit.specs.Verdicts.{journals_of}
@@ -36,7 +37,10 @@ returns g c =
           (IsFirstOpen c.args.shape.now (journals_of (rows_at (read c.args.journals.now) c.args.history.now)) (rows_at (read c.args.journals.now) c.args.history.now)))
           c.in-None.is (c.first_open.ensures (journals_of (rows_at (read c.args.journals.now) c.args.history.now)) w.0);
       coins = c.len.ensures ∙ w.2.keeps.size;
-      value = c.value.ensures ∙ w.2.keeps.worth;
+      value = c.value.ensures ∙ w.2.keeps.totals (λ o. o.value);
       minted = c.minted.ensures;
       committed = w.2.count;
+      money = c.money.ensures ∙ w.2.keeps.totals money_of;
+      issued = w.2.issued;
+      redeemed = w.2.redeemed;
     }

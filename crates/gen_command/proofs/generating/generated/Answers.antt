@@ -1,6 +1,6 @@
 use Rattle.std.proofs.Common.{◌++◌}
 use Rattle.outside.specs.Counts.{Rose}
-use Rattle.printed_lines.specs.Reports.{audit_lines}
+use Rattle.line_text.specs.Reports.{audit_text}
 use Rattle.gen_command.specs.Generated.{WhyNoWorkload}
 use Rattle.run_command.specs.Told.{numbers_of}
 use Rattle.command_answers.proofs.Answers.{told}
@@ -20,14 +20,14 @@ returns-in-Err-clause-silent g c = silent_same (g.O.Sink.taken c.args.out.now) c
 
 pub returns-in-Ok-write_generated-clause-did : goal.returns-in-Ok-write_generated-clause-did
 returns-in-Ok-write_generated-clause-did g c well = (
-  numbers_of c.in-Ok.came.ran ++ audit_lines c.in-Ok.came.totals,
+  numbers_of c.in-Ok.came.ran ++ audit_text c.in-Ok.came.totals,
   text_of c.args.shape.now c.args.seed c.args.count c.in-Ok.came.ran c.in-Ok.came.totals c.in-Ok.ensures.did,
   c.in-Ok-write_generated.ensures.prints c.in-Ok.ensures.did.countable,
 )
 
 pub returns-clause-did : goal.returns-clause-did
 returns-clause-did g c well = (
-  numbers_of c.in-Ok.came.ran ++ audit_lines c.in-Ok.came.totals,
+  numbers_of c.in-Ok.came.ran ++ audit_text c.in-Ok.came.totals,
   text_of c.args.shape.now c.args.seed c.args.count c.in-Ok.came.ran c.in-Ok.came.totals c.in-Ok.ensures.did,
   c.in-Err-write_generated.ensures.prints c.in-Ok.ensures.did.countable,
 )

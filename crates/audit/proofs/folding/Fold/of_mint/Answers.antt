@@ -8,4 +8,6 @@ returns c = record {
   are_spent = record { txs = []; handed_in = tt; folds = refl };
   keeps = c.in_ok-book.ensures;
   count = refl;
+  issued = refl;
+  redeemed = refl;
 }

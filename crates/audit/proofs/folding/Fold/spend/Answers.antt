@@ -1,4 +1,4 @@
-use Rattle.std.proofs.Common.{◌≡◌, ◌+◌, Some, None, refl, subst, arith}
+use Rattle.std.proofs.Common.{◌≡◌, ◌+◌, Some, None, true, refl, sym, subst, arith}
 use Rattle.std.specs.Prelude.{MatchOption}
 use Rattle.cbdc_model.specs.Book.{spend}
 use Rattle.cbdc_model.specs.History.{first_with}
@@ -34,9 +34,10 @@ pub returns : goal.returns
 returns c = λ mint forms index h.
     let first : first_with c.args.handed.now c.args.form.now ≡ Some c.in-Some.tx.now
     = subst (λ o. MatchOption o (first_with c.args.handed.now c.args.form.now ≡ None) (λ t. first_with c.args.handed.now c.args.form.now ≡ Some t.now)) c.in-Some.is (c.first_with.ensures index) in
-    let count : c.in-Some-checked_add.committed ≡ c.args.self.now.committed + 1 = grind arith in
-    spent_more mint c.args.handed.now forms c.args.form.now c.in-Some.tx.now c.args.self.now (record { book = c.spend.new.self; committed = c.in-Some-checked_add.committed }) h first
-    (λ b k. subst (λ t. HasRest t c.spend.new.self (spend b c.in-Some.tx.now)) c.if-not-branch.false (c.in_ok-spend.ensures b k)) count
+    spent_more mint c.args.handed.now forms c.args.form.now c.in-Some.tx.now c.args.self.now c.count.new.self h first
+    (λ b k. subst (λ m. HasRest true m (spend b c.in-Some.tx.now)) (sym c.in_ok-count.ensures.book)
+    (subst (λ t. HasRest t c.spend.new.self (spend b c.in-Some.tx.now)) c.if-not-branch.false (c.in_ok-spend.ensures b k)))
+    c.in_ok-count.ensures.committed c.in_ok-count.ensures.issued c.in_ok-count.ensures.redeemed
 
 pub spend-requires : goal.spend-requires
 spend-requires c =
