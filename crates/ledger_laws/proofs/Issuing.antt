@@ -25,9 +25,14 @@ sum_parts : {A : Type 0} (out : A → Output) (xs : List A) → sum_by (λ x. (o
     ≡ sum_by (λ x. money_of (out x)) xs + sum_by (λ x. issuable_of (out x)) xs + sum_by (λ x. burnt_of (out x)) xs
 sum_parts out [] = refl
 sum_parts out (x ∷ xs) = omega (
-    arith, parts_of (kind_of (out x)) (out x).value, sum_parts out xs, sum_by-cons (λ x. (out x).value) x xs, sum_by-cons (λ x. money_of (out x)) x xs,
-    sum_by-cons (λ x. issuable_of (out x)) x xs, sum_by-cons (λ x. burnt_of (out x)) x xs,
-    )
+  arith,
+  parts_of (kind_of (out x)) (out x).value,
+  sum_parts out xs,
+  sum_by-cons (λ x. (out x).value) x xs,
+  sum_by-cons (λ x. money_of (out x)) x xs,
+  sum_by-cons (λ x. issuable_of (out x)) x xs,
+  sum_by-cons (λ x. burnt_of (out x)) x xs,
+)
 
 -- what is not burnt counts for nothing there
 not_burnt : (k : Kind) (n : ℕ) → k ≢ Burn → if_burn k n ≡ 0

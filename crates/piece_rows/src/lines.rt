@@ -5,8 +5,8 @@ use crate::reader::Reader;
 use audit::Verdict;
 use cbdc_types::{Answer, Header, Phase, Status};
 use line_text::{
-    Summary, status_code, write_audit, write_confirmed, write_fault, write_init,
-    write_recovery, write_refused, write_rejected, write_resumed, write_status, write_summary,
+    Summary, status_code, write_audit, write_confirmed, write_fault, write_init, write_recovery,
+    write_refused, write_rejected, write_resumed, write_status, write_summary,
 };
 use plain_check::{fault_line, verdict_text};
 use row_records::{Block, Told, rest};

@@ -13,8 +13,8 @@ use cbdc_types::{BatchId, Hash, Outcome, Totals};
 use file_runs::{Ran, Wave};
 use ledger_runs::Decided;
 use line_text::{
-    Summary, WriteFault, write_all, write_audit, write_confirmed, write_refused,
-    write_rejected, write_summary,
+    Summary, WriteFault, write_all, write_audit, write_confirmed, write_refused, write_rejected,
+    write_summary,
 };
 use outside::Sink;
 use printed_lines::Report;

@@ -50,15 +50,22 @@ MovesNone t = (issued_by t ≡ 0) × (redeemed_by t ≡ 0)
 pub split_moves : (seed n i : ℕ) (genesis : Digest) → MovesNone (split_of seed n genesis i)
 split_moves seed n i genesis = (
   omega (arith, one_sum (λ (c : Input). issuable_of c.output) (record { point = record { tx = genesis; index = i }; output = coin seed i }), no_permit (coin seed i) (coin_value seed i) (is_money i (coin_value seed i))),
-  omega (arith, two_sum burnt_of (low_half seed n i) (high_half seed n i), no_burn (low_half seed n i) (is_money (n + 2 * i) (coin_value seed i / 2)),
-  no_burn (high_half seed n i) (is_money (n + 2 * i + 1) (coin_value seed i - coin_value seed i / 2))),
+  omega (
+    arith,
+    two_sum burnt_of (low_half seed n i) (high_half seed n i),
+    no_burn (low_half seed n i) (is_money (n + 2 * i) (coin_value seed i / 2)),
+    no_burn (high_half seed n i) (is_money (n + 2 * i + 1) (coin_value seed i - coin_value seed i / 2)),
+  ),
 )
 
 pub join_moves : (seed n i : ℕ) (split : Digest) → MovesNone (join_by seed n i split)
 join_moves seed n i split = (
-  omega (arith, two_sum (λ (c : Input). issuable_of c.output) (record { point = record { tx = split; index = 0 }; output = low_half seed n i }) (record { point = record { tx = split; index = 1 }; output = high_half seed n i }),
-  no_permit (low_half seed n i) (coin_value seed i / 2) (is_money (n + 2 * i) (coin_value seed i / 2)),
-  no_permit (high_half seed n i) (coin_value seed i - coin_value seed i / 2) (is_money (n + 2 * i + 1) (coin_value seed i - coin_value seed i / 2))),
+  omega (
+    arith,
+    two_sum (λ (c : Input). issuable_of c.output) (record { point = record { tx = split; index = 0 }; output = low_half seed n i }) (record { point = record { tx = split; index = 1 }; output = high_half seed n i }),
+    no_permit (low_half seed n i) (coin_value seed i / 2) (is_money (n + 2 * i) (coin_value seed i / 2)),
+    no_permit (high_half seed n i) (coin_value seed i - coin_value seed i / 2) (is_money (n + 2 * i + 1) (coin_value seed i - coin_value seed i / 2)),
+  ),
   omega (arith, one_sum burnt_of (record { program = program (3 * n + i); value = coin_value seed i }), no_burn (record { program = program (3 * n + i); value = coin_value seed i }) (is_money (3 * n + i) (coin_value seed i))),
 )
 
@@ -74,9 +81,12 @@ none_redeemed (t ∷ ts) none = omega (arith, (none t (inl refl)).1, none_redeem
 coins_money : (seed : ℕ) (is : List ℕ) → sum_out money_of (map (coin seed) is) ≡ value_out (map (coin seed) is)
 coins_money seed [] = refl
 coins_money seed (i ∷ is) = omega (
-    arith, ap (λ k. if_money k (coin_value seed i)) (is_money i (coin_value seed i)), coins_money seed is, sum_by-cons money_of (coin seed i) (map (coin seed) is),
-    sum_by-cons (λ o. o.value) (coin seed i) (map (coin seed) is),
-    )
+  arith,
+  ap (λ k. if_money k (coin_value seed i)) (is_money i (coin_value seed i)),
+  coins_money seed is,
+  sum_by-cons money_of (coin seed i) (map (coin seed) is),
+  sum_by-cons (λ o. o.value) (coin seed i) (map (coin seed) is),
+)
 
 pub mint_money : (seed n : ℕ) → sum_out money_of (mint_of seed n) ≡ value_out (mint_of seed n)
 mint_money seed n = coins_money seed (range_with_len 0 (minted_of n))

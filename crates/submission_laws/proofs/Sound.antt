@@ -78,9 +78,11 @@ module _ (seed n i : ℕ) where
 
   join_takes_none : (split : Digest) → sum_by (λ (c : Input). permits_of c.output) (low_input split ∷ high_input split ∷ []) ≡ 0
   join_takes_none split = omega (
-      arith, two_sum (λ (c : Input). permits_of c.output) (low_input split) (high_input split), no_permit (low_half seed n i) 1 low_money,
-      no_permit (high_half seed n i) 1 high_money,
-      )
+    arith,
+    two_sum (λ (c : Input). permits_of c.output) (low_input split) (high_input split),
+    no_permit (low_half seed n i) 1 low_money,
+    no_permit (high_half seed n i) 1 high_money,
+  )
 
   join_makes_none : sum_by permits_of (joined ∷ []) ≡ 0
   join_makes_none = one_sum permits_of joined ∙ no_permit joined 1 (is_money (3 * n + i) (coin_value seed i))
