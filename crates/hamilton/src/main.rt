@@ -7,7 +7,7 @@
 
 use cbdc_types::Answer;
 use commands::{Done, process};
-use host_devices::{CallTimes, FileInbox, FileRack, StdoutSink};
+use host_devices::{CallTimes, FileInbox, FileRack, StandardFiles, StdoutSink};
 use line_text::{status_code, write_fault};
 use std::process::ExitCode;
 use std::{env, io};
@@ -19,6 +19,7 @@ fn early(out: &mut StdoutSink<&HostRuntime>, answer: Answer) -> ExitCode {
 }
 
 fn main(rt: HostRuntime) -> ExitCode {
+    let _standard = StandardFiles::keep(&rt);
     let alloc = rt.alloc();
     let mut out = StdoutSink::new(&rt);
     let args = match env::args(&rt) {
