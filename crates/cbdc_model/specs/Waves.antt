@@ -57,7 +57,7 @@ pub record IsFileRun (K : Shape) (sent : ℕ → List Compact) (I J : ℕ → Li
       × (prepared lane (J (home_of K lane)) ≡ reverse pieces ++ prepared lane (I (home_of K lane)))
   pub idle : AreIdle K J
 
--- one file after another: no batch of a file is begun before all batches of the files before it are done
+-- one file after another: in each journal no batch of a file is begun before all batches of the files before it are done
 abbrev pub AreFilesRun : Shape → (FullTx → Bool) → List (List FullTx) → (ℕ → List Record) → (ℕ → List Record) → Type 0
 AreFilesRun K sound [] I J = (n : ℕ) → J n ≡ I n
 AreFilesRun K sound (file ∷ files) I J = (M : ℕ → List Record) × IsFileRun K (sent_to K sound file) I M × AreFilesRun K sound files M J

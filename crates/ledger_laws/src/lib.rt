@@ -42,10 +42,10 @@ pub fn step_law()
     ensures { StepLaw }
 {}
 
-/// The headline. For every list of steps, repeats and crashes in which no two outputs share a
-/// hash: once the open batches are recovered, the shards together hold exactly the hashes of the
-/// coins left by folding the committed transactions in the order of their commits. Each found all
-/// its inputs unspent, none was spent twice, no transaction is committed twice, money is what was
+/// The headline. For every list of steps, repeats and crashes, where no hashes clash (`Clean`):
+/// once the open batches are recovered, the shards together hold exactly the hashes of the coins
+/// left by folding the committed transactions in the order of their commits. Each found all its
+/// inputs unspent, none was spent twice, no transaction is committed twice, money is what was
 /// minted plus issued less redeemed, the coins' value is the value minted, and every batch is
 /// finished alike on all its shards.
 pub fn headline_law()

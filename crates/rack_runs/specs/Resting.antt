@@ -9,8 +9,7 @@ use Rattle.ledger_runs.specs.Faults.{LaneRests, LaneWaits}
 abbrev pub IsBehindOpen : Shape → ℕ → (ℕ → List Record) → Type 0
 IsBehindOpen K lane X = (lesser : ℕ) × (lesser < lane) × (lane_phase K X lesser ≡ Idle → ⊥)
 
--- the lane rests, or it waits where it was, because memory ran out: either that is what is told (`memory`), or a lesser lane met a fault, and has its
--- batch open still
+-- the lane rests, or it waits where it was: either it is told that memory ran out (`memory`), or a lesser lane has its batch open still
 abbrev pub RestsBehind : Shape → ℕ → (ℕ → List Record) → (ℕ → List Record) → (ℕ → Type 0) → Type 0 → Type 0
 RestsBehind K lane E X failed memory = LaneRests K lane X failed ⊎ ((memory ⊎ IsBehindOpen K lane X) × LaneWaits K lane E X)
 

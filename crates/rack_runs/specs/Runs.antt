@@ -84,7 +84,7 @@ entry_journals ledger n = journal n (reverse ledger.rows)
 
 -- a ledger that the disks told was run over, or its open batches brought to their end: what it was, and what is left of it, kept or not
 pub record TookLedger {D : Type 0} (device : Ghosts D) (held back : ℕ → Option D) : Type 0 where
-  -- the disks told a ledger in which each record was caused
+  -- the disks, as far as they told, held a ledger in which each record was caused
   pub ledger : IsCausedLedger device held
   -- each of its disks had room for its journal and for what is kept for the batches that were open there, and in each place there is as much room as
   -- there was
@@ -122,7 +122,7 @@ DiskMayHold device before = λ n c. OfTold (before.held n) (λ d. c ≡ device.l
 
 -- A lane's fault ended a run, or a recovery, over the ledger that the disks told: what it leaves, and why it is the answer.
 pub record IsLaneFault {D : Type 0} (device : Ghosts D) (before after : Disks D) (turns : Turns) (answer : Answer) : Type 0 where
-  -- the disks told a ledger in which each record was caused
+  -- the disks, as far as they told, held a ledger in which each record was caused
   pub ledger : IsCausedLedger device before.held
   -- its journals have grown at their ends, by records that are caused too, as a run that began so far grows them
   pub exit : ℕ → List Record

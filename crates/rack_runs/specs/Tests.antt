@@ -21,7 +21,7 @@ no_test = record {
   refuses = λ K E answer. ⊥;
 }
 
--- the disks told a ledger in which each record was caused, the test refuses it with this answer, and the disks are back unchanged
+-- the disks, as far as they told, held a ledger in which each record was caused, the test refuses it with this answer, and they are back unchanged
 pub record IsTestRefused {D : Type 0} (device : Ghosts D) (held back : ℕ → Option D) (test : Test) (answer : Answer) : Type 0 where
   pub ledger : IsCausedLedger device held
   pub refused : test.refuses ledger.shape (entry_journals ledger) answer

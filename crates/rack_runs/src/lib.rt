@@ -1,17 +1,19 @@
 //! Commands that resume: the ledger on a rack is opened, the command's own test of it made, its open batches brought to their end, a work done, and all
 //! disks put back. Client files are one work.
 //!
-//! - `run_on`: At Ok the disks told a ledger, within its limits, and each record of its history was caused by what stood before it (what is told of
-//!   each node's disk opens to its journal), and its disks had room for their journals and for what is kept for the batches open there; its journals
-//!   have grown at their ends, by records that are caused too, and for them and for what is kept each disk has room at exit (all so behind a lane's
+//! - `run_on`: At Ok the disks, as far as they told, held a ledger, within its limits, each record of whose history was caused by what stood before
+//!   it (what is told of each node's disk opens to its journal), and its disks had room for their journals and for what is kept for the batches open
+//!   there; its journals have grown at their ends, by records that are caused too, and for them and for what is kept each disk has room at exit (all
+//!   so behind a lane's
 //!   fault), and where all disks were told whatever a crash leaves of each opens to exactly its node's journal; in each place there is as much room
 //!   as there was, and the disks that are no nodes of this ledger are as before (both so behind a lane's fault); and of whatever kept ledger the rack
 //!   showed, the open batches were brought to their end, the files' waves follow, the journals are kept, whatever a crash leaves of a disk opens to
 //!   exactly its node's journal, for which and for what is kept it has room, and where no hashes clash the headline
 //!   holds. Else why the ledger was not opened, or the first
-//!   record that was not caused, and the disks are back as they were read; or the disks told a ledger in which each record was caused, and a lane met
-//!   a fault, and what is answered has its cause, by the journals of that ledger and those that the disks hold now: DiskFault only of a node of its
-//!   shape that the lane asks, as of `run_wave`, whose count on the rack rose in this call; Full only where, behind a front of the node's journal,
+//!   record that was not caused, and the disks are back as they were read; or the disks, as far as they told, held a ledger in which each record was
+//!   caused, and a lane met a fault, and what is answered has its cause, by the journals of that ledger and those that the disks hold now: DiskFault
+//!   only of a node of its shape that the lane asks, as of `run_wave`, whose count on the rack rose in this call; Full only where, behind a front of
+//!   the node's journal,
 //!   which the journal at entry begins and behind which nothing of the lane came, the used bytes and the need that are reported pass the capacity of
 //!   the disk that was told, the need being that of the Prepare of the next piece of what the files send an idle lane (its new Prepares are the
 //!   pieces before it), or of the first Lock that a prepared batch of a lane still lacks, at that shard, with a stamp of at most 2^62, which may come
@@ -25,8 +27,8 @@
 //!   alone has begun. The journals of whatever kept ledger the rack showed have grown at their ends and are kept, each by its disk, with one record
 //!   more or without and with room for what is kept for its open batches; whatever a crash leaves of the disks opens to kept journals too, which
 //!   those at entry begin, with room for them and for what is kept for the batches open there; at the end each lane is idle, or its batch lacks a
-//!   Lock, or the disk of a node that it asks has failed; or its batch was prepared and is so still because memory ran out, and that is the answer, or
-//!   a lesser lane has its batch open still; or that is the answer, and nothing was written; and
+//!   Lock, or the disk of a node that it asks has failed; or its batch was prepared and is so still, and the answer is that memory ran out, or a
+//!   lesser lane has its batch open still; or that is the answer, and nothing was written; and
 //!   the fault is that of the least lane that met one, by its cause as of `run_files`: it came as the open batches were brought to their end, and all
 //!   lesser lanes are idle (where memory ran out that lane is prepared still, or nothing at all was done); or behind that a file, of which each
 //!   lesser lane has run all, as `run_files` says.

@@ -63,7 +63,7 @@ pub record DidRun {D : Type 0} (device : Ghosts D) (files : Text → Option (Lis
   pub known : VerdictFile
   pub read : AreRead files 0 clients handed
   pub verdicts_read : AreVerdicts (files verdicts.name.now) known
-  -- the disks told a ledger in which each record was caused; what that leaves of it
+  -- the disks, as far as they told, held a ledger in which each record was caused; what that leaves of it
   pub caused : TookLedger device before.held after.held
   -- where it was kept the transactions were run over it, and this was printed
   pub ran : PrintsRun device before.held after.held printed (file_verdict known) handed

@@ -22,8 +22,8 @@ pub record IsPrintedRecovery {D : Type 0} (device : Ghosts D) (now : ℕ → Opt
 abbrev pub PrintsRecovery : {D : Type 0} → Ghosts D → (ℕ → Option D) → (ℕ → Option D) → (Text → Type 0) → Type 0
 PrintsRecovery device before now printed = OfShown device before (IsPrintedRecovery device now printed)
 
--- the disks told a ledger in which each record was caused (`TookLedger` says what that leaves of it); and where it was kept its open batches were
--- brought to their end, and this was printed
+-- the disks, as far as they told, held a ledger in which each record was caused (`TookLedger` says what that leaves of it); and where it was kept its
+-- open batches were brought to their end, and this was printed
 abbrev pub DidRecover : {D : Type 0} → Ghosts D → Disks D → Disks D → (Text → Type 0) → Type 0
 DidRecover device before after printed =
     TookLedger device before.held after.held × PrintsRecovery device before.held after.held printed

@@ -101,15 +101,16 @@ fn write_beside<W: Threads, O: Sink>(
 /// Runs client files, one after another: their transactions are checked by the verdicts and brought through their
 /// batches, and their lines printed. All files are read before the rack is taken.
 ///
-/// Where it comes through: the disks told a ledger, each record of which was caused by those before it; its journals have grown by records that are
-/// caused too, within the disks' room. Of a kept one the headline holds, where no hashes clash, and of any kept one a line is printed for each
-/// submission. A refused one has the first reason that applies. Each sound one has its one place in one new Prepare, and nothing else has one; it is
+/// Where it comes through: the disks, as far as they told, held a ledger, each record of which was caused by those before it; its journals have grown
+/// by records that are caused too, within the disks' room. Of a kept one the headline holds, where no hashes clash, and of any kept one a line is
+/// printed for each submission. A refused one has the first reason that applies. Each sound one has its one place in one new Prepare, and nothing
+/// else has one; it is
 /// confirmed exactly where every shard that it concerns held it, else its line names the least shard that did not, with the hash and the cause of that
 /// shard's reply. It is confirmed always where its inputs are unspent when its file's wave begins and no other sound one of its file spends them. Then
 /// six numbers are printed.
 ///
-/// In full (clause `did` of `process`): the files, where told, held the transactions and verdicts; the disks told a ledger, within its limits, and
-/// each record of its history was caused by what stood before it (what is told of each node's disk opens to its journal), and its disks had room
+/// In full (clause `did` of `process`): the files, where told, held the transactions and verdicts; the disks, where told, held a ledger, within its
+/// limits, each record of whose history was caused by what stood before it (what is told of each node's disk opens to its journal), and had room
 /// for their journals and for what is kept for the batches open there; its journals have grown at their ends, by records that are caused too, and
 /// for them and for what is kept each disk has room, in each place as much as there was; where all disks were told whatever a crash leaves of each
 /// opens to exactly its node's journal; and the disks that are no nodes of it are as before; of whatever kept ledger they showed, it is a run as
