@@ -3,14 +3,18 @@
 A library is sought where `tools/over-built lib` has left it in this checkout (crates/NAME/out/over), then where `rt ci` or `rt lib` has
 (crates/NAME/out/rlib) in this checkout or in the one that BUILT names, then in the kit.
 """
+import functools
 import os
 import subprocess
 import sys
 
+import ending
+
 TOP = os.path.dirname(os.path.dirname(os.path.realpath(__file__)))
-KIT = os.path.dirname(subprocess.run(["rt", "doc"], stdout=subprocess.PIPE, text=True, check=True).stdout.split()[-1])
 BUILT = os.path.abspath(os.environ.get("BUILT", TOP))
 TARGET = "x86_64-unknown-linux-gnu"
+# The folder of the toolchain, asked for once.
+kit = functools.lru_cache(None)(ending.kit)
 
 
 def uses():
@@ -30,7 +34,7 @@ def is_program(crate):
 
 def library(name):
     """The path of a library. It must be somewhere."""
-    places = [f"{TOP}/crates/{name}/out/over", f"{TOP}/crates/{name}/out/rlib", f"{BUILT}/crates/{name}/out/rlib", f"{KIT}/rlibs"]
+    places = [f"{TOP}/crates/{name}/out/over", f"{TOP}/crates/{name}/out/rlib", f"{BUILT}/crates/{name}/out/rlib", f"{kit()}/rlibs"]
     for place in places:
         if os.path.exists(f"{place}/{name}.rlib"):
             return f"{place}/{name}.rlib"
@@ -50,12 +54,12 @@ def words_for(crate, folder, flags):
     """The words of a check or a build of a crate whose sources stand in a folder; what was proved is kept there, in out/over/inc."""
     known = uses()
     root = "src/main.rt" if is_program(crate) else "src/lib.rt"
-    words = ["--crate-name", crate, root, "--extern", f"std={KIT}/rlibs/std.rlib", "-L", f"dependency={KIT}/rlibs"]
+    words = ["--crate-name", crate, root, "--extern", f"std={kit()}/rlibs/std.rlib", "-L", f"dependency={kit()}/rlibs"]
     for name in known[crate]:
         words += ["--extern", f"{name}={library(name)}"]
     for place in dict.fromkeys(os.path.dirname(library(name)) for name in below(crate, known, [])):
         words += ["-L", f"dependency={place}"]
-    words += ["--antt-project", f"{KIT}/rattle/logic/antt-project.json", "--logic-built", f"{KIT}/logic_built"]
+    words += ["--antt-project", f"{kit()}/rattle/logic/antt-project.json", "--logic-built", f"{kit()}/logic_built"]
     return words + ["--jobs", os.environ.get("JOBS", "1"), "--incremental", f"{folder}/out/over/inc", *flags]
 
 
@@ -63,12 +67,12 @@ def commands(what, crate, folder, flags):
     """The commands that check a crate, or build it as a library or a program into out/over of its folder."""
     words, out = words_for(crate, folder, flags), f"{folder}/out/over"
     if what == "check":
-        return [[f"{KIT}/bin/rattle", "check", *words]]
+        return [[f"{kit()}/bin/rattle", "check", *words]]
     if what == "lib":
-        return [[f"{KIT}/bin/rattle", "build", *words, "--links", f"{crate}=", "-o", f"{out}/{crate}.rlib"]]
-    build = [f"{KIT}/bin/rattle", "build", *words, "--links", f"{crate}=", "--toolchain", f"{KIT}/toolchain", "-o", f"{out}/{crate}.o"]
-    link = [f"{KIT}/bin/rattle-link", "--target", TARGET, "--toolchain", f"{KIT}/toolchain", "-o", f"{out}/{crate}", f"{out}/{crate}.o"]
-    return [build, [*link, f"{KIT}/c/libos_c.a", f"{KIT}/c/liblibc_c.a"]]
+        return [[f"{kit()}/bin/rattle", "build", *words, "--links", f"{crate}=", "-o", f"{out}/{crate}.rlib"]]
+    build = [f"{kit()}/bin/rattle", "build", *words, "--links", f"{crate}=", "--toolchain", f"{kit()}/toolchain", "-o", f"{out}/{crate}.o"]
+    link = [f"{kit()}/bin/rattle-link", "--target", TARGET, "--toolchain", f"{kit()}/toolchain", "-o", f"{out}/{crate}", f"{out}/{crate}.o"]
+    return [build, [*link, f"{kit()}/c/libos_c.a", f"{kit()}/c/liblibc_c.a"]]
 
 
 def run(what, crate, flags=(), folder=None, **how):
