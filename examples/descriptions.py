@@ -45,9 +45,10 @@ def near(place, other):
 def read_value(place, text):
     if not (text.isascii() and text.isdigit()):
         raise Mistake(place, f"{text!r} is not a value: expected a whole number, its digits alone")
-    if len(text.lstrip("0")) > 20 or int(text) > LARGEST:
+    digits = text.lstrip("0") or "0"
+    if len(digits) > 20 or int(digits) > LARGEST:
         raise Mistake(place, f"{text} is more than a value can be, {LARGEST} (2^64 - 1)")
-    return int(text)
+    return int(digits)
 
 
 def read_index(place, text, what):
@@ -61,6 +62,8 @@ def read_coin(place, word):
     owner, colon, value = word.rpartition(":")
     if not owner or not colon:
         raise Mistake(place, f"{word!r} is not OWNER:VALUE")
+    if any("\ud800" <= it <= "\udfff" for it in owner):
+        raise Mistake(place, f"{word!r} is no text in UTF-8")
     if not value:
         raise Mistake(place, f"{word!r} has no value: expected OWNER:VALUE, without a space")
     if ":" in owner and re.search(r":[0-9]+[,;]", owner):
@@ -234,10 +237,15 @@ def read_table(name, lines):
             yield make_mint(place, outputs)
 
 
+def cells_of(lines):
+    """The rows of a table as lists of cells."""
+    first = lines[0] if lines else ""
+    return csv.reader(lines, delimiter=";" if first.count(";") > first.count(",") else ",")
+
+
 def read_rows(name, lines):
     """The rows of a table that aren't empty: the place, the transaction, the side, and the coin as a word."""
-    first = lines[0] if lines else ""
-    rows = csv.reader(lines, delimiter=";" if first.count(";") > first.count(",") else ",")
+    rows = cells_of(lines)
     header = [cell.strip().lower() for cell in next(rows, [])]
     missing = [column for column in COLUMNS if column not in header]
     if missing:
@@ -252,6 +260,8 @@ def read_rows(name, lines):
             if not cell:
                 raise Mistake(place, f"the column {column!r} is empty")
         transaction, side, owner, value = cells
+        if transaction != "mint" and transaction.lower() == "mint":
+            raise Mistake(place, f"{transaction!r} is neither the mint nor a name for a transaction: expected mint, in lower case")
         if side not in SIDES:
             raise Mistake(place, f"{side!r} is not a side: expected {', '.join(SIDES)}")
         yield place, transaction, side, Word(place, owner, read_value(place, value), "again" if side == "again" else None)
@@ -368,6 +378,13 @@ class Ledger:
         made = Made(line.place, tx_id(tx), tx, [line.verdicts.get(at, "good") for at in range(len(inputs))])
         self.made.append(made)
         self.book.add(made.id, outputs)
+
+    def unbalanced(self):
+        """The transactions of the last file whose inputs and outputs, where they have both, have other sums, with these."""
+        for made in self.made[self.begun :]:
+            given, taken = sum(it.output.value for it in made.tx.inputs), sum(it.value for it in made.tx.outputs)
+            if given != taken and made.tx.inputs and made.tx.outputs:
+                yield made.place, given, taken
 
     def coins(self):
         """All coins that the lines made, in their order."""
