@@ -14,14 +14,15 @@ import shlex
 import shutil
 import signal
 import subprocess
-import tempfile
 import threading
+
+import ending
 
 TOP = os.path.dirname(os.path.dirname(os.path.realpath(__file__)))
 PROGRAM = f"{TOP}/crates/hamilton/out/hamilton"
 COPIED = ("examples", "tools")
 # What a reader who typed a page's commands at the top of the repository may have left there.
-LEFT = shutil.ignore_patterns("rack", "__pycache__")
+LEFT = shutil.ignore_patterns("my-*", "__pycache__")
 # After so many seconds a command counts as hung.
 LIMIT = 60
 
@@ -61,7 +62,7 @@ def read_page(page):
 
 def lay():
     """A fresh folder with what pages use."""
-    folder = tempfile.mkdtemp(prefix="hamilton.")
+    folder = ending.room(prefix="hamilton.")
     for name in COPIED:
         shutil.copytree(f"{TOP}/{name}", f"{folder}/{name}", ignore=LEFT)
     return folder

@@ -84,6 +84,17 @@ def coin_hash(point, output):
     return sha(spell_input(Input(point, output)))
 
 
+def first_journals(coins):
+    """The journals of a new ledger of these coins, of one shard and one coordinator with one lane, whose batches have at most 16 transactions: a Start
+    and a Genesis, as `hamilton init` writes them."""
+    made_by, shape = genesis_id(coins), (1, 1, 1, 16)
+    minted = spell_list([coin_hash(Point(made_by, index), coin) for index, coin in enumerate(coins)])
+    for node, (kind, rest) in enumerate(((5, b""), (1, minted))):
+        header = b"HAMJRNL1" + b"".join(map(number, (node, *shape))) + made_by
+        body = bytes([kind]) + number(0) + header + rest
+        yield b"\1" + number(len(body)) + body + b"\0"
+
+
 class Reader:
     """Takes one field after another from the bytes of a file."""
 
