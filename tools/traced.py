@@ -1,4 +1,4 @@
-"""What tools/trace-syncs and tools/lets-go share: a program that is stopped at its system calls (ptrace, Linux on x86-64)."""
+"""What tools/trace-syncs, two-at-once and lets-go share: a program that is stopped at its system calls (ptrace, Linux on x86-64)."""
 import ctypes
 import os
 
@@ -9,7 +9,7 @@ TRACE_ME, GET_REGS, SET_REGS, STEP_TO_CALL, SET_OPTIONS = 0, 12, 13, 24, 0x4200
 TELL_CALLS, WITH_THREADS, KILL_WITH_ME = 1, 1 << 3, 1 << 20
 # The places of registers among those that are told, and the numbers of calls (asm/unistd_64.h).
 RAX, RDI, RSI, R10, CALL = 10, 14, 13, 7, 15
-OPEN, OPEN_AT, CLOSE, READ, READ_AT, WRITE, WRITE_AT, SYNC, SYNC_DATA = 2, 257, 3, 0, 17, 1, 18, 74, 75
+OPEN, OPEN_AT, CLOSE, READ, READ_AT, WRITE, WRITE_AT, SYNC, SYNC_DATA, LOCK = 2, 257, 3, 0, 17, 1, 18, 74, 75, 73
 
 
 def ptrace(request, pid, address=0, data=0):

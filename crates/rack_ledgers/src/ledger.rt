@@ -18,7 +18,8 @@ pub struct Nodes<D: Disk> {
     pub shards: Vec<ShardNode<D>>,
 }
 
-/// Puts the disks of all nodes back.
+/// Puts the disks of all nodes back, the last one first and that of node 0 last. So another program, which takes node 0 before all others, finds it
+/// taken as long as any of them is (tested by `tools/two-at-once`).
 pub fn close_nodes<R: Rack>(rack: &mut R, nodes: Nodes<R::Disk>)
     requires { MayClose R.Disk.Disk
         (R.can_put rack.old) (R.can_take rack.old) nodes.logs.items nodes.shards.items }
@@ -41,6 +42,6 @@ pub fn close_nodes<R: Rack>(rack: &mut R, nodes: Nodes<R::Disk>)
         shards,
     } = nodes;
     let first = logs.len() as u32;
-    close_all(rack, 0, logs);
     close_all(rack, first, shards);
+    close_all(rack, 0, logs);
 }
