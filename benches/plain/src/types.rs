@@ -91,6 +91,9 @@ pub enum Refusal {
     InputOverflow,
     OutputOverflow,
     Unbalanced(u64, u64),
+    BurnedInput(u8),
+    PermitCount(u8, u8),
+    PermitRaised(u64, u64),
     BadWitness(u8),
     Unverified(u8),
 }
