@@ -12,6 +12,10 @@ import hashlib
 AMPLE = 60_000
 LIMIT = 2**64
 
+# What the first 16 bytes of a program are for a permit to issue money and for what is burnt.
+MARKS = {"permit": bytes([254]) * 16, "burn": bytes([255]) * 16}
+
+# An owner is a number, or the digits of a program.
 Input = collections.namedtuple("Input", "id index owner value")
 Shape = collections.namedtuple("Shape", "shards coordinators lanes batch")
 
@@ -24,8 +28,27 @@ def number(n):
     return n.to_bytes(8, "little")
 
 
+def program(owner):
+    return bytes.fromhex(owner) if isinstance(owner, str) else number(owner) + bytes(24)
+
+
+def word(owner):
+    """An owner as rows spell it."""
+    return owner if isinstance(owner, str) else f"k{owner}"
+
+
+def kind(owner):
+    """permit, burn or money."""
+    return next((it for it, mark in MARKS.items() if program(owner).startswith(mark)), "money")
+
+
+def worth(outputs, of):
+    """The values of the outputs of a kind, each an owner and a value."""
+    return [value for owner, value in outputs if kind(owner) == of]
+
+
 def output_bytes(owner, value):
-    return number(owner) + bytes(24) + number(value)
+    return program(owner) + number(value)
 
 
 def input_bytes(it):
@@ -57,12 +80,24 @@ class Tx:
         self.bytes = body + counted([number(64) + bytes(64)] * self.witnesses)
 
     def line(self):
-        spent = [f"{it.id.hex()}/{it.index}/k{it.owner}:{it.value}" for it in self.inputs]
-        made = [f"k{owner}:{value}" for owner, value in self.outputs]
+        spent = [f"{it.id.hex()}/{it.index}/{word(it.owner)}:{it.value}" for it in self.inputs]
+        made = [f"{word(owner)}:{value}" for owner, value in self.outputs]
         return " ".join(["tx", self.name, *spent, "->", *made, "witnesses", str(self.witnesses)])
+
+    def permits(self):
+        """The values of the permits that it spends, and of those that it makes."""
+        return worth([it[2:] for it in self.inputs], "permit"), worth(self.outputs, "permit")
+
+    def issued(self):
+        old, new = map(sum, self.permits())
+        return max(0, old - new)
+
+    def redeemed(self):
+        return sum(worth(self.outputs, "burn"))
 
     def refusal(self, verdicts):
         """The first reason for which a sentinel refuses it, or None."""
+        old, new = self.permits()
         ins, outs = [it.value for it in self.inputs], [value for _, value in self.outputs]
         points = [(it.id, it.index) for it in self.inputs]
         of = [verdicts.get((self.id, at)) for at in range(len(ins))]
@@ -80,6 +115,9 @@ class Tx:
             "input-overflow" if sum(ins) >= LIMIT else None,
             "output-overflow" if sum(outs) >= LIMIT else None,
             f"unbalanced {sum(ins)} {sum(outs)}" if sum(ins) != sum(outs) else None,
+            first("burned-input", [kind(it.owner) == "burn" for it in self.inputs]),
+            f"permit-count {len(old)} {len(new)}" if len(old) != len(new) or len(old) > 1 else None,
+            f"permit-raised {sum(old)} {sum(new)}" if sum(new) > sum(old) else None,
             first("bad-witness", [it == "bad" for it in of]),
             first("unverified", [it is None for it in of]),
         ]
@@ -92,6 +130,8 @@ class Mint:
     def __init__(self, outputs):
         self.tx = Tx("g", [], outputs)
         self.value = sum(value for _, value in outputs)
+        self.money = sum(worth(outputs, "money"))
+        self.permits = worth(outputs, "permit")
 
     def hashes_on(self, shard, shards):
         return [it for it in self.tx.made if it[0] * shards // 256 == shard]
@@ -124,7 +164,9 @@ class Case:
         one = dice.random() < 0.45
         self.shape = Shape(dice.randint(1, 4), 1 if one else dice.randint(1, 3), 1 if one else dice.randint(1, 3), dice.randint(1, 8))
         self.nodes = self.shape.coordinators + self.shape.shards
-        self.mint = Mint([(dice.randrange(2**20), self.value()) for _ in range(dice.choice((dice.randint(0, 3), 4, 6, 8, 10, 12)))])
+        # whether the ledger has permits and what is burnt
+        self.issues = dice.random() < 0.5
+        self.mint = Mint([(self.any_owner(0.3), self.value()) for _ in range(dice.choice((dice.randint(0, 3), 4, 6, 8, 10, 12)))])
         self.txs, self.files, self.verdicts = [], {}, {}
         self.make_txs()
         self.make_files()
@@ -134,6 +176,23 @@ class Case:
     def value(self):
         dice = self.dice
         return dice.choice((1, 2, dice.randint(1, 100), dice.randint(1, 100), dice.randint(1, 10**6), dice.randrange(1, 2**59)))
+
+    def owner(self, of="money"):
+        """Somebody's money, a permit or what is burnt, of a random program."""
+        dice = self.dice
+        if of != "money":
+            return (MARKS[of] + dice.choice((MARKS[of], dice.randbytes(16)))).hex()
+        if self.issues and dice.random() < 0.05:
+            # 15 of the 16 bytes
+            mark = dice.choice(list(MARKS.values()))
+            other = bytes([mark[0] ^ 1])
+            return (dice.choice((mark[:15] + other, other + mark[1:], mark[:15] + bytes(1))) + mark).hex()
+        return dice.randrange(2**20)
+
+    def any_owner(self, many):
+        """Where the ledger issues, so many are permits, and a third as many burnt."""
+        at = self.dice.random() if self.issues else 1
+        return self.owner("permit" if at < many else "burn" if at < many * 4 / 3 else "money")
 
     # Transactions.
 
@@ -159,25 +218,48 @@ class Case:
 
     def coin(self):
         """A coin that no transaction makes."""
-        return Input(sha(number(self.dice.randrange(10**6))), self.dice.randrange(3), self.dice.randrange(2**20), self.value())
+        return Input(sha(number(self.dice.randrange(10**6))), self.dice.randrange(3), self.any_owner(0.1), self.value())
 
     def split(self, total):
         """Outputs of this sum."""
         cuts = sorted(self.dice.randint(0, total) for _ in range(self.dice.choice((0, 0, 1, 1, 2, 3))))
         parts = [b - a for a, b in zip([0, *cuts], [*cuts, total])]
-        return [(self.dice.randrange(2**20), it) for it in parts if it]
+        return [(self.owner(), it) for it in parts if it]
+
+    def shared(self, inputs, total):
+        """Outputs of this sum where the ledger issues: most often the permit goes on with less and something is burnt, else anything."""
+        dice, permits = self.dice, worth([it[2:] for it in inputs], "permit")
+        if dice.random() < 0.1:
+            return [(self.any_owner(0.4), value) for _, value in self.split(total)]
+        if len(permits) != 1:
+            outputs = self.split(total)
+        else:
+            most = total if dice.random() < 0.1 else permits[0]
+            left = dice.choice((1, most, dice.randint(1, most), dice.randint(1, most)))
+            outputs = self.split(total - left)
+            outputs.insert(dice.randint(0, len(outputs)), (self.owner("permit"), left))
+        return [(self.owner("burn"), value) if kind(owner) == "money" and dice.random() < 0.15 else (owner, value) for owner, value in outputs]
+
+    def spendable(self, coins):
+        """What is not burnt of these, in a random order with one permit at most."""
+        coins = [it for it in self.dice.sample(coins, len(coins)) if kind(it.owner) != "burn"]
+        permits = [it for it in coins if kind(it.owner) == "permit"]
+        return [it for it in coins if it not in permits[1:]]
 
     def parts(self, pool, spent):
         dice = self.dice
-        kind = dice.random()
-        source = pool + spent if spent and (kind < 0.2 or not pool) else pool
+        how = dice.random()
+        source = pool + spent if spent and (how < 0.2 or not pool) else pool
+        if self.issues and dice.random() < 0.9:
+            source = self.spendable(source)
         inputs = dice.sample(source, min(len(source), dice.choice((1, 1, 1, 2, 2, 3)))) if source else [self.coin()]
-        if 0.2 < kind < 0.23:
+        if 0.2 < how < 0.23:
             inputs.append(self.coin())
-        if 0.23 < kind < 0.25:
+        if 0.23 < how < 0.25:
             inputs[0] = inputs[0]._replace(value=inputs[0].value + 1)
-        outputs = self.split(min(sum(it.value for it in inputs), LIMIT - 1))
-        return self.spoilt(inputs, outputs) if kind > 0.9 else (inputs, outputs)
+        total = min(sum(it.value for it in inputs), LIMIT - 1)
+        outputs = self.shared(inputs, total) if self.issues else self.split(total)
+        return self.spoilt(inputs, outputs) if how > 0.9 else (inputs, outputs)
 
     def spoilt(self, inputs, outputs):
         """Something that a sentinel refuses, most often."""
@@ -343,7 +425,7 @@ class Rows:
         case = self.case
         for tx in case.txs:
             self.put(tx.line())
-        self.put(" ".join(["file m mint", *(f"k{owner}:{value}" for owner, value in case.mint.tx.outputs)]))
+        self.put(" ".join(["file m mint", *(f"{word(owner)}:{value}" for owner, value in case.mint.tx.outputs)]))
         for name, txs in case.files.items():
             self.put(" ".join([f"file {name} client", *(tx.name for tx in txs)]))
         self.put("file v text", *(f"| {tx.hex()} {at} {word}" for (tx, at), word in case.verdicts.items()))

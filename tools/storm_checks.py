@@ -7,6 +7,7 @@ what was done.
 import collections
 
 import racks
+from storm_cases import Tx, kind, worth
 
 HELD = racks.HELD
 PHASES = {"Prepare": "prepare", "Commit": "commit", "Discard": "discard"}
@@ -429,11 +430,21 @@ class Checks:
         sound = {tx.id: tx for txs in self.case.files.values() for tx in txs if not tx.refusal(self.case.verdicts)}
         for form in committed:
             must(form.id in sound and form == form_of(sound[form.id]), f"{form.id.hex()} is committed, and no file has it")
-        values = {hash_: it.value for tx in (self.case.mint.tx, *sound.values()) for hash_, it in zip(tx.made, tx.coins)}
-        value = sum(values[it] for it in unspent)
-        must(self.spoil == "output" or value == self.case.mint.value, f"of a mint of {self.case.mint.value} there is {value}")
-        sums = f"coins {len(unspent)}\nvalue {value}\nminted {self.case.mint.value}\ncommitted {len(committed)}\n"
-        return f"{sums}money {value}\nissued 0\nredeemed 0\n"
+        mint = self.case.mint
+        outputs = {hash_: output for tx in (mint.tx, *sound.values()) for hash_, output in zip(tx.made, tx.outputs)}
+        left = [outputs[it] for it in unspent]
+        value, money, permits = sum(it for _, it in left), sum(worth(left, "money")), worth(left, "permit")
+        issued, redeemed = (sum(of(sound[it.id]) for it in committed) for of in (Tx.issued, Tx.redeemed))
+        if self.spoil != "output":
+            must(value == mint.value, f"of a mint of {mint.value} there is {value}")
+            must(money == mint.money + issued - redeemed, f"of {mint.money} of money {issued} issued and {redeemed} redeemed leave {money}")
+            must(len(permits) == len(mint.permits), f"of {len(mint.permits)} permits there are {len(permits)}")
+            must(sum(permits) + issued == sum(mint.permits), f"of permits of {sum(mint.permits)} {issued} were issued, and {sum(permits)} are left")
+        must(all(kind(it.owner) != "burn" for form in committed for it in sound[form.id].inputs), "what was burnt was spent")
+        for word, many in (("issued", issued), ("redeemed", redeemed)):
+            self.tally[f"audits with money {word}"] += bool(many)
+        sums = f"coins {len(unspent)}\nvalue {value}\nminted {mint.value}\ncommitted {len(committed)}\n"
+        return f"{sums}money {money}\nissued {issued}\nredeemed {redeemed}\n"
 
     def end(self, seen):
         must(seen.is_ledger, "at the end there is no ledger")
