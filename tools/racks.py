@@ -7,7 +7,10 @@ what it rests on, and what each shard holds.
 import collections
 import json
 import os
+import stat
 import struct
+
+import least  # ends here where Python is older than that
 
 KINDS = "Genesis Lock Finish Forget Start Prepare Commit Discard Done".split()
 MAGIC = b"HAMJRNL1"
@@ -93,7 +96,8 @@ class Body:
 
 def read_header(body):
     need(body.take(8) == MAGIC, "its first record has no magic")
-    header = Header(*(body.number() for _ in range(5)), body.take(32))
+    numbers = [body.number() for _ in range(5)]  # ahead of the hash: before Python 3.9 a generator here would be read behind it
+    header = Header(*numbers, body.take(32))
     limits = (("shards", 64), ("coordinators", 16), ("lanes", 16), ("batch", 1024))
     for name, most in limits:
         many = getattr(header, name)
@@ -307,21 +311,24 @@ def node_name(node):
 
 
 def read_file(folder, node):
-    """The bytes of a node's file; none where it is missing, as the program makes it then."""
+    """The bytes of a node's file; none where it is missing, as the program makes it then. What is no file, as a pipe, is not waited for."""
+    name = f"{folder}/{node_name(node)}"
     try:
-        with open(f"{folder}/{node_name(node)}", "rb") as file:
+        if not stat.S_ISREG(os.stat(name).st_mode):
+            raise NoRack(f"{name} is no file")
+        with open(name, "rb") as file:
             return file.read()
     except FileNotFoundError:
         return b""
 
 
-def open_rack(folder):
-    """The rack in a folder."""
+def open_rack(folder, only_coordinators=False):
+    """The rack in a folder, or that of its coordinators alone."""
     if not os.path.isdir(folder):
         raise NoRack(f"{folder}: there is no such folder")
     if not os.path.exists(f"{folder}/{node_name(0)}"):
         raise NoRack(f"{folder}: no rack, it has no file {node_name(0)}")
-    return Rack(lambda node: read_file(folder, node), folder)
+    return Rack(lambda node: read_file(folder, node), folder, only_coordinators)
 
 
 def rack_of(disks):
@@ -332,7 +339,7 @@ def rack_of(disks):
 class Rack:
     """The journals of a rack, and what is wrong with them, in the order of the nodes. The header of the first that has one says how many they are."""
 
-    def __init__(self, read, name):
+    def __init__(self, read, name, only_coordinators=False):
         journals = [Journal(0, read(0))]
         while not journals[-1].header and len(journals) < NODES:
             journals.append(Journal(len(journals), read(len(journals))))
@@ -340,7 +347,7 @@ class Rack:
         if not self.header:
             why = journals[0].fault.why
             raise NoRack(f"{name}: no rack, none of its journals has a whole first record ({node_name(0)}: {why})")
-        nodes = self.header.coordinators + self.header.shards
+        nodes = self.header.coordinators + (0 if only_coordinators else self.header.shards)
         journals += [Journal(node, read(node)) for node in range(len(journals), nodes)]
         self.journals = journals[:nodes]
         self.faults = [fault for it in self.journals for fault in self.fault_of(it)]
@@ -575,6 +582,15 @@ def json_line(record):
     elif record.kind == "Commit":
         value["outcomes"] = [result_value(it) for it in record.items]
     return json.dumps(value)
+
+
+def outcome_words(outcome, lane, number):
+    """What `hamilton run` says of an outcome, with the batch that it is of."""
+    if outcome == HELD:
+        return f"confirmed {lane} {number}"
+    kind, shard, hash_, *by = outcome
+    behind = " by {} {}".format(*by) if by else ""
+    return f"rejected {kind.lower()} {hash_.hex()} {shard} {lane} {number}{behind}"
 
 
 def held_lines(held):

@@ -122,14 +122,6 @@ def counts(forms_outcomes):
     return confirmed, len(forms_outcomes) - confirmed
 
 
-def outcome_words(outcome, lane, own):
-    if outcome == HELD:
-        return f"confirmed {lane} {own}"
-    kind, shard, hash_, *by = outcome
-    behind = " by {} {}".format(*by) if by else ""
-    return f"rejected {kind.lower()} {hash_.hex()} {shard} {lane} {own}{behind}"
-
-
 class Plan:
     """What a run of client files prepares: the submissions of each file by place, with the refusal or the batch and place in it; and each batch."""
 
@@ -345,7 +337,7 @@ class Checks:
             words = f"refused {refusal}"
             if not refusal:
                 (key, at), = of
-                words = outcome_words(begun[key].outcomes[at], *key)
+                words = racks.outcome_words(begun[key].outcomes[at], *key)
             sums[words.split()[0]] += 1
             text += f"{file} {place} {tx.id.hex()} {words}\n"
         self.lively(plan, entry, live)
