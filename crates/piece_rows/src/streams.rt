@@ -6,14 +6,18 @@ use crate::kinds::tell_bad;
 use crate::state::State;
 use client_files::{BadFile, StreamFault, stream_clients};
 use outside::{Failed, Inbox};
-use row_records::Told;
+use row_records::{Told, place_of};
 
-/// One file, of which a read brings at most so many bytes; reads from a place on fail.
+// The most that a read may ask for.
+const MOST: usize = 65_536;
+
+/// One file, of which a read brings at most so many bytes; reads from a place on fail, and so does one that asks for more than it may. It counts them.
 #[derive(Drop)]
 struct ShortInbox {
     bytes: Vec<u8>,
     piece: usize,
     fails: u64,
+    reads: u64,
     faults: u64,
 }
 
@@ -23,7 +27,8 @@ impl Inbox for ShortInbox {
     ghost count = { λ m name. m.faults };
 
     fn read(&mut self, _name: &str, at: u64, buf: &mut [u8]) -> Result<usize, Failed> {
-        if self.fails <= at {
+        self.reads = self.reads.saturating_add(1);
+        if self.fails <= at || buf.len() > MOST {
             self.faults = self.faults.saturating_add(1);
             return Err(Failed);
         }
@@ -34,13 +39,17 @@ impl Inbox for ShortInbox {
     }
 }
 
-/// `streams NAME before N pieces N [fails AT]`: a client file that comes in pieces of at most so many bytes; a read from that place on fails.
-/// `N transactions`, which are written again as they stood there, `at N KIND`, or `no`.
+/// `streams NAME before N pieces N [fails AT] [reads]`: a client file that comes in pieces of at most so many bytes; a read from that place on fails.
+/// `N transactions`, which are written again as they stood there, `at N KIND`, or `no`; and `reads N`, how many reads were made.
 pub fn streamed(state: &State, words: &[&str], told: &mut Told) {
     let bytes = state.bytes_at(words, 0, told);
     let before = told.number_at(words, 2);
     let mut inbox = inbox_of(bytes, words, told);
     stream(&mut inbox, bytes, before, told);
+    if place_of(words, "reads").is_some() {
+        told.word("reads");
+        told.number(inbox.reads);
+    }
 }
 
 // The file of these bytes, by the words of its step.
@@ -51,11 +60,12 @@ fn inbox_of(bytes: &[u8], words: &[&str], told: &mut Told) -> ShortInbox {
             .made(Vec::from_slice(alloc, bytes))
             .unwrap_or(Vec::new(alloc)),
         piece: told.small_at(words, 4) as usize,
-        fails: if words.len() > 5 {
+        fails: if place_of(words, "fails").is_some() {
             told.number_at(words, 6)
         } else {
             u64::MAX
         },
+        reads: 0,
         faults: 0,
     }
 }
