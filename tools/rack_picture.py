@@ -221,6 +221,9 @@ class Picture:
         else:
             yield fitting(x, y - 3, name, size.kind, size.box - 4, f' font-weight="bold" fill="{ink}"')
             yield fitting(x, y + 11, self.batch_name(key), size.batch, size.box - 4, f' fill="{ink}"')
+        if turned_down(record):
+            yield f'<circle cx="{x + size.box // 2}" cy="{y - height // 2}" r="7" fill="#ffffff" stroke="{ALARM}" stroke-width="2"/>'
+            yield text(x + size.box // 2, y - height // 2 + 4, "\u00d7", 12, f' text-anchor="middle" font-weight="bold" fill="{ALARM}"')
         yield "</g>"
 
     def batch_name(self, key):
@@ -245,6 +248,8 @@ class Picture:
             lines.append("A dashed outline: the batch is open, it was not brought to its end.")
         if len(self.rows) < self.header.coordinators * self.header.lanes + self.header.shards:
             lines.append("Lanes and shards without a record here are left out.")
+        if any(map(turned_down, self.records)):
+            lines.append("A cross: a transaction of the batch was not held there (Lock), or is not committed (Commit, Finish).")
         if self.left_out:
             lines.append(f"Only the first {len(self.records)} records are drawn, {self.left_out} more follow.")
         return lines
@@ -271,6 +276,15 @@ class Picture:
             yield "".join(self.box(it, spelling))
         yield from self.legend(legend)
         yield "</svg>"
+
+
+def turned_down(record):
+    """Whether a transaction of the batch was not held by this Lock, or is not committed by this Commit or Finish."""
+    if record.kind == "Lock":
+        return any(reply != racks.HELD for _, reply in record.items)
+    if record.kind == "Commit":
+        return any(it != racks.HELD for it in record.items)
+    return record.kind == "Finish" and not all(record.items)
 
 
 def draw(rack, records, title=None, left_out=0):
