@@ -546,6 +546,29 @@ class Spelling:
         return ""
 
 
+def summary(rack):
+    """A line of a whole rack: how many records and batches it has, and how long its journals are."""
+    records = [record for journal in rack.journals for record in journal.records]
+    last = batches_of(records)
+    still = sum(map(is_open, last.values()))
+    used = ", ".join(f"{node_name(it.node)} {it.used}" for it in rack.journals)
+    return f"{count(len(records), 'record')}, {count(len(last), 'batch')}, {still} open; bytes used: {used}"
+
+
+def told_wrong(rack, with_causes):
+    """Lines of what is wrong with a rack: of each journal that is not in order, or else, where that is asked, of the first record without a cause."""
+    lines = []
+    for fault in rack.faults:
+        place = f" at {fault.at}" if fault.kind == "damaged" else ""
+        lines.append(f"{node_name(fault.node)}: {fault.kind}{place}: {fault.why}")
+    found = rack.uncaused() if with_causes and not lines else None
+    if found:
+        place, record, why = found
+        what = f"{record.kind} of batch {record.lane} {record.number} on {node_name(record.node)}, stamp {record.stamp}"
+        lines.append(f"not caused at {place}: {what}: {why}")
+    return lines
+
+
 def cells(record, spelling):
     """The columns of a record's line."""
     batch = [str(record.lane), str(record.number)] if record.lane is not None else ["", ""]
