@@ -4,7 +4,7 @@ import sys
 
 LEAST = (3, 7)
 NEEDS = """It needs Python 3.7 or later, and nothing else of Python's. The program is for Linux on x86-64. Building it, and every proof, needs the kit (`rt`,
-13b or 13f); to prove the program takes up to 6 GB of free memory, all that the gate proves up to 9 GB."""
+13b or 13f); `rt ci` reckons with up to 6 GB of free memory for a crate of the program, and with 9 GB for the dearest one of the gate."""
 
 if sys.version_info < LEAST:
     name = os.path.basename(sys.argv[0])
