@@ -12,16 +12,6 @@ if sys.version_info < LEAST:
     sys.exit(2)
 
 
-def hook(kind, why, trace):
-    """Ctrl-C while modules are still read ends a script as it does later: without a traceback."""
-    if issubclass(kind, KeyboardInterrupt):
-        os._exit(130)
-    sys.__excepthook__(kind, why, trace)
-
-
-sys.excepthook = hook
-
-
 def fail(why, status=2):
     """Ends the script with a line."""
     print(f"{os.path.basename(sys.argv[0])}: {why}", file=sys.stderr)
