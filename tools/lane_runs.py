@@ -11,7 +11,7 @@ import subprocess
 
 # The words of a command in a folder beside the files. Ledgers are made in three shapes, in turn: many lanes, each of which makes one call after
 # another; one lane, which makes the calls of a phase at all shards at once, as it does with the largest batches and fewer lanes than shards, and whose
-# submissions all processors check before; and two lanes with sentinels ahead of them.
+# submissions all processors check before; and two lanes. The eight and the two have sentinels ahead of them.
 SHAPES = {
     "8 lanes": "--shards 8 --coordinators 4 --lanes 2 --batch 16",
     "1 lane": "--shards 8 --coordinators 1 --lanes 1 --batch 1024",

@@ -17,20 +17,21 @@ use std::alloc::Global;
 use std::marker::{Brand, Model, PhantomData};
 use std::sync::Wait;
 use std::thread::Threads;
+use std::vec::IntoIter;
 use std::{mem, thread};
 
 // From how many submissions of a lane on no feeder checks them.
 const SHARE: usize = 2048;
 
-// So many lanes may have feeders on any machine.
-const FEW: usize = 2;
+// So many feeders have a thread each, on any machine.
+const FEW: usize = 4;
 
 /// Who checks the submissions of a file.
 #[derive(Clone, Copy)]
 pub(crate) enum Checkers {
     /// All processors, before the wave.
     Processors,
-    /// A feeder of each lane, beside it.
+    /// A feeder of each lane with a submission, beside it.
     Feeders,
     /// Each lane, as it comes to them.
     Lanes,
@@ -44,35 +45,35 @@ fn are_few<W: Threads>(rt: &W, lanes: usize) -> bool {
     }
 }
 
-// Whether lanes with fewer submissions have feeders: few lanes do, since many keep all processors at work. One lane over one shard has none: all that it
-// does, but for the last of its run, is done on one thread then, and to wake another processor takes as long as that saves.
-fn are_fed<W: Threads>(rt: &W, shape: &Shape, lanes: usize) -> bool {
-    let is_alone = lanes == 1 && shape.shards() == 1;
-    !is_alone && (lanes <= FEW || are_few(rt, lanes))
-}
-
-/// Who checks the submissions of a file, by the largest share of a lane. A lane with no more than a batch would have to wait for all of them.
+/// Who checks the submissions of a file, by the largest share of a lane.
 pub(crate) fn checkers_of<W: Threads, V: Verifier, F: Deals>(
     rt: &W,
-    shape: &Shape,
     file: &FileOf<'_, V, F>,
 ) -> Checkers {
     let lanes = file.lanes();
-    let share = file.txs().len().div_ceil(lanes);
-    if share <= shape.batch() as usize {
-        Checkers::Lanes
-    } else if share < SHARE && are_fed(rt, shape, lanes) {
+    if file.txs().len().div_ceil(lanes) < SHARE {
         Checkers::Feeders
-    } else if share >= SHARE && are_few(rt, lanes) {
+    } else if are_few(rt, lanes) {
         Checkers::Processors
     } else {
         Checkers::Lanes
     }
 }
 
-// The feeder of a lane is put to the others, and what it sends is ahead of it; nothing is where memory runs out.
-fn fed<F: Deals>(alloc: Global, lane: LaneId, feeders: &mut Vec<Feeder<F>>) -> Ahead<F> {
-    let Ok((feeder, messages)) = pipe(alloc, lane) else {
+// The feeder of a lane is put to the others, and what it sends is ahead of it; nothing is where the lane gets nothing, or memory runs out.
+fn fed<V: Verifier, F: Deals>(
+    alloc: Global,
+    shape: &Shape,
+    file: &FileOf<'_, V, F>,
+    lane: usize,
+    feeders: &mut Vec<Feeder<F>>,
+) -> Ahead<F>
+    requires { lane < 2 ^ 32 }
+{
+    if lane >= file.txs().len() {
+        return Ahead::Nothing;
+    }
+    let Ok((feeder, messages)) = pipe(alloc, shape, file, LaneId(lane as u32)) else {
         return Ahead::Nothing;
     };
     match feeders.push(feeder) {
@@ -99,6 +100,7 @@ fn found<W: Threads + Sync, V: Verifier + Sync, F: Deals + Send + Sync>(
 pub(crate) fn ahead_of<W: Threads + Sync, V: Verifier + Sync, F: Deals + Send + Sync>(
     rt: &W,
     alloc: Global,
+    shape: &Shape,
     file: &FileOf<'_, V, F>,
     lane: usize,
     checkers: Checkers,
@@ -108,12 +110,12 @@ pub(crate) fn ahead_of<W: Threads + Sync, V: Verifier + Sync, F: Deals + Send + 
 {
     match checkers {
         Checkers::Processors => found(rt, alloc, file, lane),
-        Checkers::Feeders => fed(alloc, LaneId(lane as u32), feeders),
+        Checkers::Feeders => fed(alloc, shape, file, lane, feeders),
         Checkers::Lanes => Ahead::Nothing,
     }
 }
 
-// Lanes that memory kept from running let go of their feeders, too, so that each that still waits for room ends.
+// Lanes that memory kept from running let go of their feeders, too, so that each ends at its next message.
 fn end_ahead<X: Source>(works: &mut Vec<Work<X>>)
     ensures { works.new.items ≡ works.old.items }
 {
@@ -184,7 +186,36 @@ fn run_held<
     }
 }
 
-// Runs the wave, with a feeder of each lane beside it, on a thread of its own. One that can't be started is dropped.
+// How many threads so many feeders have: one each, but no more than there are processors, where there are more than a few of both.
+fn threads_for<W: Threads>(rt: &W, feeders: usize) -> usize {
+    if feeders <= FEW {
+        return feeders;
+    }
+    match thread::available_parallelism(rt) {
+        Ok(processors) => feeders.min(processors.get().max(FEW)),
+        Err(_) => FEW,
+    }
+}
+
+// The next ones of some feeders, up to so many; as far as memory is there for them.
+fn next_of<F: Deals>(
+    alloc: Global,
+    feeders: &mut IntoIter<Feeder<F>>,
+    many: usize,
+) -> Vec<Feeder<F>> {
+    let mut own = Vec::new(alloc);
+    for _ in 0..many {
+        let Some(feeder) = feeders.next() else {
+            break;
+        };
+        if own.push(feeder).is_err() {
+            break;
+        }
+    }
+    own
+}
+
+// Runs the wave, with the feeders of its lanes beside it, some on each of a few threads. Those of a thread that can't be started are dropped.
 fn run_beside<
     'a,
     W: Wait + Threads + Sync,
@@ -202,6 +233,9 @@ fn run_beside<
     feeders: Vec<Feeder<F>>,
     gate: &G,
 ) {
+    let threads = threads_for(rt, feeders.len());
+    let each = feeders.len().div_ceil(threads.max(1));
+    let mut feeders = feeders.into_iter();
     thread::scope(
         thread::scope_env(),
         rt,
@@ -209,8 +243,12 @@ fn run_beside<
             requires { IsSync W.row
                 × IsSend D.row × IsSync V.row × IsSend F.row × IsSync F.row × IsSync G.row }
         {
-            'feeders: for feeder in feeders {
-                let _ = scope.spawn(move || feed(rt, alloc, &shape, file, feeder, gate));
+            for _ in 0..threads {
+                let own = next_of(alloc, &mut feeders, each);
+                if own.is_empty() {
+                    break;
+                }
+                let _ = scope.spawn(move || feed(rt, alloc, &shape, file, own, gate));
             }
             run_held(rt, alloc, held, gate);
         },

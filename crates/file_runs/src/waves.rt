@@ -12,7 +12,7 @@ ghost use Rattle.file_runs.specs.Runs.{AreLanesOf};
 
 use crate::Ledger;
 use crate::fed::{Checkers, Waved, ahead_of, checkers_of, run_fed};
-use cbdc_types::FullTx;
+use cbdc_types::{FullTx, Shape};
 use lane_driver::{LaneFault, no_memory};
 use lane_sources::{Deals, Feeder, FileOf, LaneSource, checks_of};
 use ledger_runs::{Lane, Work, first_fault};
@@ -68,6 +68,7 @@ fn wave_room<'a, W: Wait, V: Verifier, F: Deals>(
 fn works_of<'a, W: Wait + Threads + Sync, V: Verifier + Sync, F: Deals + Send + Sync>(
     rt: &'a W,
     alloc: Global,
+    shape: &Shape,
     file: &'a FileOf<'a, V, F>,
     repeats: u32,
     checkers: Checkers,
@@ -78,7 +79,7 @@ fn works_of<'a, W: Wait + Threads + Sync, V: Verifier + Sync, F: Deals + Send + 
     let count = file.lanes();
     let mut works = Vec::with_capacity(alloc, count)?;
     'lanes: for lane in 0..count {
-        let ahead = ahead_of(rt, alloc, file, lane, checkers, feeders);
+        let ahead = ahead_of(rt, alloc, shape, file, lane, checkers, feeders);
         let source = LaneSource::new(rt, alloc, file, lane, ahead)?;
         works.push(Work::new(alloc, source, repeats))?;
     }
@@ -138,9 +139,17 @@ fn run_dealt<
     requires checked { IsChecked ledger }
     ensures { RanFile D.Disk F.verdicts F.file ledger result.ledger result.came }
 {
-    let checkers = checkers_of(rt, ledger.shape(), file);
+    let checkers = checkers_of(rt, file);
     let mut feeders = Vec::new(alloc);
-    let Ok(works) = works_of(rt, alloc, file, repeats, checkers, &mut feeders) else {
+    let Ok(works) = works_of(
+        rt,
+        alloc,
+        ledger.shape(),
+        file,
+        repeats,
+        checkers,
+        &mut feeders,
+    ) else {
         return FileRun {
             ledger,
             came: Err(no_memory()),

@@ -1,4 +1,4 @@
-// A sentinel ahead of a lane: it checks the lane's submissions in a thread of its own, and sends what it makes of each.
+// Sentinels ahead of lanes: a thread of their own checks the submissions of one lane, or of several in turn, and sends what it makes of each.
 ghost use Rattle.cbdc_model.specs.Ranges.{home_of};
 ghost use Rattle.std.specs.Prelude.{◌≡◌};
 
@@ -11,27 +11,41 @@ use sentinel::Verifier;
 use std::alloc::{AllocError, Global};
 use std::sync::Wait;
 
-// How many messages a lane's channel holds.
-const MESSAGES: usize = 8;
+// How many messages a lane gets at most.
+const MESSAGES: usize = 64;
 
-// A message is of one part in so many of a lane's submissions, where they are as many.
-const PARTS: usize = 16;
-
-/// A feeder that has not begun: the lane that it feeds, and the sending end of its channel. Where it is dropped the lane computes everything
-/// itself.
+/// A feeder that has not ended: the lane that it feeds, the place of the next submission that it checks, how many it sends in a message, and the sending
+/// end of the lane's channel. Where it is dropped the lane computes everything itself that was not sent.
 #[derive(Drop)]
 pub struct Feeder<F: Deals> {
     lane: LaneId,
+    at: usize,
+    size: usize,
     sender: Sender<Vec<RuledAt<F>>>,
 }
 
-/// The feeder of a lane and the receiving end of its channel, or memory ran out.
-pub fn pipe<F: Deals>(
+/// The feeder of a lane and the receiving end of its channel, which has room for all that is sent to it, so that no feeder waits; or memory ran out. A
+/// message is of as many submissions as a batch has, since a lane that waits for one is woken by it, which takes longer than a check does; or of more
+/// where there would be very many messages.
+pub fn pipe<V: Verifier, F: Deals>(
     alloc: Global,
+    shape: &Shape,
+    file: &FileOf<'_, V, F>,
     lane: LaneId,
 ) -> Result<(Feeder<F>, Receiver<Vec<RuledAt<F>>>), AllocError> {
-    let (sender, receiver) = bounded(alloc, MESSAGES)?;
-    Ok((Feeder { lane, sender }, receiver))
+    let share = file.txs().len().div_ceil(file.lanes());
+    let size = share.div_ceil(MESSAGES).max(shape.batch() as usize).max(1);
+    let (sender, receiver) = bounded(alloc, share.div_ceil(size).max(1))?;
+    let at = lane.0 as usize;
+    Ok((
+        Feeder {
+            lane,
+            at,
+            size,
+            sender,
+        },
+        receiver,
+    ))
 }
 
 // Where a run passes its gate behind each message for a lane: at its coordinator, with no kind of record.
@@ -47,12 +61,6 @@ fn point_of(shape: &Shape, lane: LaneId) -> Point
         kind: 0,
         when: When::After,
     }
-}
-
-// How many submissions a message is of, for a lane that has so many: no more than a batch. A lane that waits for a message is woken by it, which
-// takes longer than a check does.
-fn size_of(shape: &Shape, share: usize) -> usize {
-    (share / PARTS).min(shape.batch() as usize).max(1)
 }
 
 // Sends what a sentinel makes of so many submissions of a lane from a place on. The answer is whether that came about: memory can run out, and
@@ -71,29 +79,43 @@ fn send_some<W: Wait, V: Verifier, F: Deals>(
     }
 }
 
-/// Checks the submissions of a lane, one after another, and sends what a sentinel makes of each, with its place: where they are few, each in a
-/// message of its own, else several in a message, the first of which is its last one. Behind each message it passes the gate. It ends where nobody
-/// receives any more, or memory runs out.
+// Sends what a sentinel makes of a lane's next submissions, and passes the gate behind that. Whether there are more to send, and someone who
+// receives them.
+fn send_next<W: Wait, V: Verifier, F: Deals, G: Gate>(
+    rt: &W,
+    alloc: Global,
+    shape: &Shape,
+    file: &FileOf<'_, V, F>,
+    feeder: &mut Feeder<F>,
+    gate: &G,
+) -> bool {
+    if !send_some(rt, alloc, file, &feeder.sender, feeder.at, feeder.size) {
+        return false;
+    }
+    gate.pass(rt, &point_of(shape, feeder.lane));
+    let step = file.lanes().saturating_mul(feeder.size);
+    feeder.at = feeder.at.saturating_add(step);
+    feeder.at < file.txs().len()
+}
+
+/// Checks the submissions of some lanes, a message of each lane in turn, and sends what a sentinel makes of each, with its place, the first one of a
+/// message last. Behind each message it passes the gate. It ends with a lane where nobody receives any more, or
+/// memory runs out.
 pub fn feed<W: Wait, V: Verifier, F: Deals, G: Gate>(
     rt: &W,
     alloc: Global,
     shape: &Shape,
     file: &FileOf<'_, V, F>,
-    feeder: Feeder<F>,
+    feeders: Vec<Feeder<F>>,
     gate: &G,
 ) {
-    let Feeder { lane, sender } = feeder;
-    let point = point_of(shape, lane);
-    let lanes = file.lanes();
-    let count = file.txs().len();
-    let size = size_of(shape, count / lanes);
-    let step = lanes.saturating_mul(size);
-    let mut place = lane.0 as usize;
-    'messages: for _ in 0..count {
-        if place >= count || !send_some(rt, alloc, file, &sender, place, size) {
+    let mut feeders = feeders;
+    'rounds: for _ in 0..file.txs().len() {
+        if feeders.is_empty() {
             break;
         }
-        gate.pass(rt, &point);
-        place = place.saturating_add(step);
+        feeders.retain_mut(|feeder: &mut Feeder<F>| -> bool {
+            send_next(rt, alloc, shape, file, feeder, gate)
+        });
     }
 }

@@ -73,10 +73,12 @@ pub(crate) fn feed_or_drop<R: Wait, V: Verifier, F: Deals>(
     feeder: Feeder<F>,
     starts: bool,
 ) {
-    if starts {
-        feed(rt, alloc, shape, file, feeder, &OpenGate);
+    let mut feeders = Vec::new(alloc);
+    let is_there = feeders.push(feeder).is_ok();
+    if starts && is_there {
+        feed(rt, alloc, shape, file, feeders, &OpenGate);
     } else {
-        drop(feeder);
+        drop(feeders);
     }
 }
 
@@ -89,7 +91,7 @@ fn sent<R: Wait, V: Verifier, F: Deals>(
     lane: LaneId,
     starts: bool,
 ) -> Result<Receiver<Vec<RuledAt<F>>>, AllocError> {
-    let (feeder, messages) = pipe(alloc, lane)?;
+    let (feeder, messages) = pipe(alloc, shape, file, lane)?;
     feed_or_drop(rt, alloc, shape, file, feeder, starts);
     Ok(messages)
 }
@@ -167,6 +169,35 @@ pub(crate) fn given<R: Wait, V: Verifier, F: Deals>(
     taken(alloc, &mut source)
 }
 
+// A gate that keeps the points behind messages for the first lane.
+fn keeping() -> RowGate {
+    RowGate::Keep(KeepGate::new(Point {
+        lane: LaneId(0),
+        node: NodeId(0),
+        kind: 0,
+        when: When::After,
+    }))
+}
+
+// How the sentinels of two lanes on one thread pass their gate: 3 behind a message for the first lane, and 9 behind one for the second.
+fn passes_in_turn<R: Wait, V: Verifier, F: Deals>(
+    rt: &R,
+    alloc: Global,
+    shape: &Shape,
+    file: &FileOf<'_, V, F>,
+) -> Result<u64, AllocError> {
+    let mut feeders = Vec::new(alloc);
+    let (first, to_first) = pipe(alloc, shape, file, LaneId(0))?;
+    feeders.push(first)?;
+    let (second, to_second) = pipe(alloc, shape, file, LaneId(1))?;
+    feeders.push(second)?;
+    let gate = keeping();
+    feed(rt, alloc, shape, file, feeders, &gate);
+    drop(to_first);
+    drop(to_second);
+    Ok(gate.passed())
+}
+
 // How often the sentinel of a lane passes its gate, a digit for each time, where the lane has let go of it before, or not.
 fn passes<R: Wait, V: Verifier, F: Deals>(
     rt: &R,
@@ -177,21 +208,18 @@ fn passes<R: Wait, V: Verifier, F: Deals>(
 ) -> Result<u64, AllocError>
     requires { 0 < file.now }
 {
-    let (feeder, messages) = pipe(alloc, LaneId(0))?;
+    let (feeder, messages) = pipe(alloc, shape, file, LaneId(0))?;
+    let mut feeders = Vec::new(alloc);
+    feeders.push(feeder)?;
     let Ok(mut source) = LaneSource::new(rt, alloc, file, 0, Ahead::Sent(messages)) else {
-        drop(feeder);
+        drop(feeders);
         return Err(AllocError);
     };
     if lets_go {
         source.end_ahead();
     }
-    let gate = RowGate::Keep(KeepGate::new(Point {
-        lane: LaneId(0),
-        node: NodeId(0),
-        kind: 0,
-        when: When::After,
-    }));
-    feed(rt, alloc, shape, file, feeder, &gate);
+    let gate = keeping();
+    feed(rt, alloc, shape, file, feeders, &gate);
     Ok(gate.passed())
 }
 
@@ -270,6 +298,7 @@ fn tried<R: Wait, V: Verifier, F: Deals>(
     Ok(Fed {
         comes: all_come(rt, alloc, shape, &file)?,
         is_same: are_same(rt, alloc, shape, &file)?,
+        in_turn: passes_in_turn(rt, alloc, shape, &file)?,
         kept: passes(rt, alloc, shape, &file, false)?,
         let_go: passes(rt, alloc, shape, &file, true)?,
     })
@@ -280,12 +309,13 @@ fn tried<R: Wait, V: Verifier, F: Deals>(
 struct Fed {
     comes: bool,
     is_same: bool,
+    in_turn: u64,
     kept: u64,
     let_go: u64,
 }
 
 fn try_all<R: Wait, V: Verifier>(rt: &R, alloc: Global, lanes: u32, verifier: &V) -> Option<Fed> {
-    let shape = Shape::new(1, 1, lanes, 16).ok()?;
+    let shape = Shape::new(1, 1, lanes, 1).ok()?;
     let txs = three(alloc).ok()?;
     tried::<R, V, Brand>(rt, alloc, &shape, txs.as_slice(), verifier).ok()
 }
@@ -298,6 +328,11 @@ pub fn sends_three<R: Wait>(rt: &R, alloc: Global) -> Option<bool> {
 /// Of three submissions each of two lanes gets those that go to it.
 pub fn send_their_own<R: Wait>(rt: &R, alloc: Global) -> Option<bool> {
     Some(try_all(rt, alloc, 2, &AllGood)?.comes)
+}
+
+/// The sentinels of two lanes on one thread send a message of each lane in turn.
+pub fn take_turns<R: Wait>(rt: &R, alloc: Global) -> Option<bool> {
+    Some(try_all(rt, alloc, 2, &AllGood)?.in_turn == 393)
 }
 
 /// A lane has the same transactions whether its sentinel sends them, ends before the first or was never there.

@@ -108,12 +108,17 @@ fn tell_sentinels<R: Print + Threads + Wait + Sync>(rt: &R, alloc: Global, tally
     );
     tally.tell(
         rt,
+        "row the sentinels ahead of two lanes, on one thread, send three submissions a message of each lane in turn",
+        feeding::take_turns(rt, alloc),
+    );
+    tally.tell(
+        rt,
         "row a lane whose sentinel sends, one whose sentinel was dropped before its first message and one that has none get the same transactions",
         feeding::has_the_same(rt, alloc),
     );
     tally.tell(
         rt,
-        "row sixty-seven submissions of the second of two lanes come from its sentinel in sixteen messages of four and one of three, in their order, and then no more",
+        "row sixty-seven submissions of the second of two lanes, in batches of sixteen, come from its sentinel in four messages of sixteen and one of three, in their order, and then no more",
         sending::come_in_messages(rt, alloc),
     );
     tally.tell(

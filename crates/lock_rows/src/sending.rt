@@ -62,18 +62,18 @@ fn are_from<F: Deals>(message: &[RuledAt<F>], many: usize, from: usize) -> bool 
     message.len() == many
 }
 
-// Whether sixteen messages of four rulings come and one of three, in the order of the second lane's places, and then no more.
+// Whether four messages of sixteen rulings come and one of three, in the order of the second lane's places, and then no more.
 fn come_in_order<R: Wait, F: Deals>(rt: &R, messages: Receiver<Vec<RuledAt<F>>>) -> bool {
     let mut from = 1usize;
-    for number in 0..17usize {
+    for number in 0..5usize {
         let Ok(message) = messages.recv(rt) else {
             return false;
         };
-        let many = if number < 16 { 4 } else { 3 };
+        let many = if number < 4 { 16 } else { 3 };
         if !are_from(message.as_slice(), many, from) {
             return false;
         }
-        from = from.saturating_add(8);
+        from = from.saturating_add(32);
     }
     messages.recv(rt).is_err()
 }
@@ -85,7 +85,7 @@ fn are_sent<R: Threads + Wait + Sync, F: Deals + Send + Sync>(
     shape: &Shape,
     file: &FileOf<'_, Counting, F>,
 ) -> Result<bool, AllocError> {
-    let (feeder, messages) = pipe(alloc, LaneId(1))?;
+    let (feeder, messages) = pipe(alloc, shape, file, LaneId(1))?;
     let (_, come) = join(
         rt,
         || feed_or_drop(rt, alloc, shape, file, feeder, true),
@@ -104,7 +104,7 @@ fn has_all<R: Threads + Wait + Sync, F: Deals + Send + Sync>(
 ) -> Result<bool, AllocError>
     requires { 0 < file.now }
 {
-    let (feeder, messages) = pipe(alloc, LaneId(0))?;
+    let (feeder, messages) = pipe(alloc, shape, file, LaneId(0))?;
     let (_, given) = join(
         rt,
         || feed_or_drop(rt, alloc, shape, file, feeder, starts),
@@ -166,7 +166,7 @@ fn tried<R: Threads + Wait + Sync>(rt: &R, alloc: Global, trial: Trial) -> Optio
     Some((holds, verifier.asked.load(Ordering::SeqCst)))
 }
 
-/// Sixty-seven submissions of the second of two lanes come in seventeen messages, in order.
+/// Sixty-seven submissions of the second of two lanes come in five messages, in order.
 pub fn come_in_messages<R: Threads + Wait + Sync>(rt: &R, alloc: Global) -> Option<bool> {
     Some(tried(rt, alloc, Trial::Messages)?.0)
 }
