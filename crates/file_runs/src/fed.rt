@@ -250,6 +250,8 @@ fn run_beside<
                 }
                 let _ = scope.spawn(move || feed(rt, alloc, &shape, file, own, gate));
             }
+            // Those for which memory ran out, whose lanes would wait for them.
+            drop(feeders);
             run_held(rt, alloc, held, gate);
         },
     );
