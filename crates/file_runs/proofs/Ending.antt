@@ -1,5 +1,6 @@
 -- Whose fault ended files.
-use Rattle.std.proofs.Common.{◌≡◌, inl, inr, ℕ, ◌*◌, ◌+◌, ◌<◌, List, [], ◌∷◌, ◌++◌, length, take, drop, get_or, Some, refl, sym, ap, ◌∙◌, subst}
+use Rattle.std.proofs.Common.{◌≡◌, inl, inr, ℕ, ◌*◌, ◌+◌, ◌<◌, List, [], ◌∷◌, ◌++◌, length, take, drop, get_or, Option, Some, None, refl, sym, ap, ◌∙◌, subst, arith}
+use Rattle.std.specs.Prelude.{slice_get}
 use Rattle.std.proofs.lemmas.List.{append_assoc, take-append-drop}
 use Rattle.cbdc_model.specs.Records.{Shape, Compact, Record}
 use Rattle.cbdc_model.specs.Coins.{FullTx}
@@ -11,24 +12,45 @@ use Rattle.lane_driver.specs.declared.fault.LaneFault.{LaneFault}
 use Rattle.lane_driver.specs.declared.fault.LaneFaultKind.TheVariants.{Memory as NoMemory}
 use Rattle.ledger_runs.specs.Waving.{HaveSent, FirstFaultIs}
 use Rattle.ledger_runs.specs.Faults.{HaveCauses}
-use Rattle.ledger_runs.specs.Least.{RunTheirs}
+use Rattle.ledger_runs.specs.Least.{LaneHasRun, RunTheirs}
+use Rattle.ledger_runs.specs.Pieces.{IsNextPiece}
 use Rattle.ledger_runs.specs.Lanes.{LaneOf}
 use Rattle.ledger_runs.proofs.Least.{least_fault}
+use Rattle.ledger_runs.proofs.Faulting.{cause_since}
+use Rattle.ledger_runs.proofs.WaveKeeping.{at_place}
+use Rattle.ledger_laws.proofs.Cuts.{end_self}
 use Rattle.file_runs.proofs.Sending.{sent_is}
 use Rattle.file_runs.specs.Runs.{AreLanesOf, HavePreparedFiles, HaveBegunFile, IsSentPiece}
-use Rattle.file_runs.specs.Endings.{EndsFile, EndsFirst, EndsFiles}
+use Rattle.file_runs.specs.Endings.{HasRunOrMet, EndsFile, EndsFirst, EndsFiles}
 use Rattle.file_runs.proofs.Causing.{sent_piece}
 use Rattle.file_runs.proofs.Pieces.{file_unbegun}
 use Rattle.file_runs.proofs.Joining.{so_far}
+
+-- each lane has run all that it got, or met a fault of its own
+run_or_met : (K : Shape) (sent : ℕ → List Compact) (next : ℕ → List Compact → Type 0) (I J : ℕ → List Record) (failed : ℕ → Type 0) (holds : ℕ → ℕ → Type 0) (lanes : List LaneOf) → HaveSent sent lanes
+    → ((lane : ℕ) (x : LaneOf) → slice_get lanes lane ≡ Some x → (txs : List Compact) → IsNextPiece K lane x.txs I J txs → next lane txs) → HaveCauses K I J failed holds lanes → RunTheirs K I J lanes
+    → (lane : ℕ) → lane < length lanes → HasRunOrMet K lane (sent lane) (next lane) I J failed holds
+run_or_met K sent next I J failed holds lanes have piece causes theirs lane inside =
+    let y = at_place lanes lane inside in
+    go y.0 y.1 y.0.fault refl
+  where
+    go : (x : LaneOf) → slice_get lanes lane ≡ Some x → (met : Option LaneFault) → x.fault ≡ met → HasRunOrMet K lane (sent lane) (next lane) I J failed holds
+    go x there None none = inl (subst (λ all. LaneHasRun K lane all I J) (have lane x there) (theirs lane x there none))
+    go x there (Some own) some = inr (own, cause_since K lane (IsNextPiece K lane x.txs I J) (next lane) I I J failed holds (λ n. end_self (I n)) (piece lane x there) own (causes lane x there own some))
 
 -- the first fault of a file's lanes
 pub file_ends : (K : Shape) (verdicts : VerdictsOf) (file : List FullTx) (lanes after : List LaneOf) (I J : ℕ → List Record) (failed : ℕ → Type 0) (holds : ℕ → ℕ → Type 0)
     → length after ≡ K.coordinators * K.lanes → AreLanesOf K verdicts file lanes → ((sent : ℕ → List Compact) → HaveSent sent lanes → HaveSent sent after)
     → HaveCauses K I J failed holds after → RunTheirs K I J after → (e : LaneFault) → FirstFaultIs after (Some e) → EndsFile K verdicts file I J failed holds e
 file_ends K verdicts file lanes after I J failed holds count are keeps causes theirs e first =
-    inr (λ sound tells. least_fault K (sent_to K sound file) (IsSentPiece K verdicts file I J) I J failed holds after count
-    (keeps (sent_to K sound file) (λ l y t. sent_is K verdicts file lanes are sound tells l y t))
-    (λ lane x there txs piece. sent_piece K verdicts file lanes after I J are keeps lane x there txs piece) causes theirs e first)
+    inr (λ sound tells.
+    let have : HaveSent (sent_to K sound file) after = keeps (sent_to K sound file) (λ l y t. sent_is K verdicts file lanes are sound tells l y t) in
+    let next : ℕ → List Compact → Type 0 = IsSentPiece K verdicts file I J in
+    record {
+      least = least_fault K (sent_to K sound file) next I J failed holds after count have (λ lane x there txs piece. sent_piece K verdicts file lanes after I J are keeps lane x there txs piece) causes theirs e first;
+      greater = λ lane inside low.
+          run_or_met K (sent_to K sound file) next I J failed holds after have (λ l x there txs piece. sent_piece K verdicts file lanes after I J are keeps l x there txs piece) causes theirs lane (omega (arith, inside, count));
+    })
 
 unbegun_first : (K : Shape) (verdicts : VerdictsOf) (more : List (List FullTx)) (I : ℕ → List Record) (failed : ℕ → Type 0) (holds : ℕ → ℕ → Type 0) (e : LaneFault) → e.fault ≡ NoMemory → EndsFirst K verdicts more I I failed holds e
 unbegun_first K verdicts [] I failed holds e is = (is, λ n. refl)

@@ -42,5 +42,6 @@ pub record RanFile {D : Type 0} (device : Ghosts D) (verdicts : VerdictsOf) (txs
   pub fault : IfErr came (IsRunCause before.header.shape (IsSentPiece before.header.shape verdicts txs (ledger_journals before) (ledger_journals now)) (ledger_journals before) (ledger_journals now) (HaveFailed (ledger_opened now) (ledger_faults now)) (MayHoldBytes (ledger_capacity now)))
   -- whatever came, each lane is between batches, or its batch lacks a Lock, or the disk of a node that it asks has failed
   pub rests : LanesRest before.header.shape (ledger_journals now) (HaveFailed (ledger_opened now) (ledger_faults now))
-  -- it is that of the least lane that met one: each lesser lane has run all that the file sends it
+  -- it is that of the least lane that met one: each lesser lane has run all that the file sends it, and each greater one has, too, or met a fault of
+  -- its own
   pub least : IfErr came (EndsFile before.header.shape verdicts txs (ledger_journals before) (ledger_journals now) (HaveFailed (ledger_opened now) (ledger_faults now)) (MayHoldBytes (ledger_capacity now)))

@@ -28,7 +28,7 @@ use Rattle.file_runs.specs.Stretches.{ledger_sight, Stretch}
 use Rattle.file_runs.specs.declared.waves.Wave.{Wave}
 use Rattle.file_runs.specs.declared.ran.Ran.{Ran}
 use Rattle.file_runs.specs.Runs.{joined, IsSentPiece, HaveBegunFiles, IsFilesPiece, FliesWith}
-use Rattle.file_runs.specs.Endings.{EndsFirst, EndsFiles, AreRunOrCut}
+use Rattle.file_runs.specs.Endings.{HasRunOrMet, EndsWave, EndsFirst, EndsFiles, AreRunOrCut}
 use Rattle.file_runs.specs.Telling.{TellFiles}
 use Rattle.file_runs.proofs.Filing.{stays_more}
 use Rattle.file_runs.proofs.Flying.{flies_none}
@@ -195,6 +195,11 @@ files_worked device verdicts files l now came some s = record {
 
 module _ (K : Shape) (failed fails : ℕ → Type 0) (holds held : ℕ → ℕ → Type 0)
     (failed_on : (n : ℕ) → n < node_count K → failed n → fails n) (held_on : (n c : ℕ) → n < node_count K → holds n c → held n c) where
+  met_by : (sent : ℕ → List Compact) (next : ℕ → List Compact → Type 0) (I J : ℕ → List Record) (lane : ℕ) → IsLaneOf K lane
+      → HasRunOrMet K lane (sent lane) (next lane) I J failed holds → HasRunOrMet K lane (sent lane) (next lane) I J fails held
+  met_by sent next I J lane inside (inl ran) = inl ran
+  met_by sent next I J lane inside (inr (own, cause)) = inr (own, cause_by K failed fails holds held failed_on held_on lane (next lane) I J inside own.node own.fault cause)
+
   least_fault_by : (sent : ℕ → List Compact) (next : ℕ → List Compact → Type 0) (I J : ℕ → List Record) (e : LaneFault) → IsLeastFault K sent next I J failed holds e → IsLeastFault K sent next I J fails held e
   least_fault_by sent next I J e h = record {
     lane = h.lane;
@@ -203,10 +208,17 @@ module _ (K : Shape) (failed fails : ℕ → Type 0) (holds held : ℕ → ℕ �
     lesser = h.lesser;
   }
 
+  wave_by : (sent : ℕ → List Compact) (next : ℕ → List Compact → Type 0) (I J : ℕ → List Record) (e : LaneFault) → EndsWave K sent next I J failed holds e → EndsWave K sent next I J fails held e
+  unfolding least_fault_by
+  wave_by sent next I J e h = record {
+    least = least_fault_by sent next I J e h.least;
+    greater = λ lane inside low. met_by sent next I J lane inside (h.greater lane inside low);
+  }
+
   first_by : (verdicts : VerdictsOf) (more : List (List FullTx)) (I J : ℕ → List Record) (e : LaneFault) → EndsFirst K verdicts more I J failed holds e → EndsFirst K verdicts more I J fails held e
   first_by verdicts [] I J e h = h
   first_by verdicts (file ∷ more) I J e (inl none, begun) = (inl none, begun)
-  first_by verdicts (file ∷ more) I J e (inr least, begun) = (inr (λ sound tells. least_fault_by (sent_to K sound file) (IsSentPiece K verdicts file I J) I J e (least sound tells)), begun)
+  first_by verdicts (file ∷ more) I J e (inr least, begun) = (inr (λ sound tells. wave_by (sent_to K sound file) (IsSentPiece K verdicts file I J) I J e (least sound tells)), begun)
 
   files_by : (verdicts : VerdictsOf) (files : List (List FullTx)) (I J : ℕ → List Record) (e : LaneFault) → EndsFiles K verdicts files I J failed holds e → EndsFiles K verdicts files I J fails held e
   files_by verdicts files I J e h = record {

@@ -31,9 +31,10 @@
 //!   lesser lane has its batch open still; or that is the answer, and nothing was written; and
 //!   the fault is that of the least lane that met one, by its cause as of `run_files`: it came as the open batches were brought to their end, and all
 //!   lesser lanes are idle (where memory ran out that lane is prepared still, or nothing at all was done); or behind that a file, of which each
-//!   lesser lane has run all, as `run_files` says.
-//! - Open: that the lanes above the one whose fault ended a file have run all that it sends them (`run_wave` says so of each that met no fault;
-//!   running out of memory, which is free, may stop any of them between two batches; tested in `ledger_rows`: `lanes.rows`).
+//!   lesser lane has run all, and each greater one, too, or it met a fault of its own, as `run_files` says.
+//! - Open: that memory did run out for a lane above the one whose fault ended a file, which has something left and stands between two batches or
+//!   lacks a Lock: nothing counts refusals, so a body that does not run such a lane at all meets the clauses of `run_on` (`run_wave` tells each lane's
+//!   fault; tested in `ledger_rows`: `lanes.rows`).
 #![tactic(auto)]
 
 mod faults;
