@@ -7,9 +7,9 @@
 //!   a shard that had its record of the least lane's phase before its disk failed, in another lane's call (that the lane asks the node, each lesser
 //!   shard of its batch having the record of the phase, and each shard where the node is the coordinator, and that the node's disk failed, or has no
 //!   room or no stamp for what the lane lacks there, is proved); and of a node whose disk failed and has no room or no stamp either, which of these
-//!   is reported; which help is shown; that a file or a disk that is not there is refused (tested for files); where memory ran out, which file that
-//!   ended, and which lane is the least; that memory did run out for a lane above the one whose fault ended a file, which has something left and
-//!   stands between two batches or lacks a Lock; that two causes of a refusal at an opening are one answer (of each disk there is one, `one_answer_law`; not
+//!   is reported; which help is shown; that a file or a disk that is not there is refused (tested for files); which lane memory ran
+//!   out for, beyond that each lane below it has run all that its file sends it, and that it did run out for a lane above the one whose fault ended
+//!   a file, which has something left and stands between two batches or lacks a Lock; that two causes of a refusal at an opening are one answer (of each disk there is one, `one_answer_law`; not
 //!   so of a whole rack, nor of Foreign).
 #![tactic(auto)]
 

@@ -29,7 +29,7 @@ use Rattle.rack_runs.specs.Kinds.{answer_at, answer_to, IsLaneAnswer, MayComeNex
 use Rattle.rack_runs.specs.Endings.{IsLeastAnswer}
 use Rattle.rack_runs.specs.Resting.{RestsBehind, AllRestBehind}
 use Rattle.rack_runs.specs.Runs.{IsCutShort, KeepsFlights, IsLaneFault, DiskMayHold, RoseAt, TookLedger}
-use Rattle.rack_runs.specs.Works.{Deed, FitsBatch, BeginsWork, EndsWork, LeavesAll, AllWell, AllBadly, AreSeen, work_turns}
+use Rattle.rack_runs.specs.Works.{Deed, FitsBatch, BeginsWork, EndsWork, LeavesAll, AllWell, CameThrough, AllBadly, AreSeen, work_turns}
 use Rattle.rack_runs.proofs.Checking.{same_journals}
 use Rattle.rack_runs.proofs.Resting.{idle_rest, tell_rest}
 use Rattle.rack_runs.proofs.Wanted.{wanted_inside, wants_there, stays_caused}
@@ -47,14 +47,15 @@ answered K next E X failed holds e h = go e.fault h
 
 -- a work that a lane's fault ended, or for which memory ran out: its answer has its cause, and is the least lane's
 pub came_badly : {T Done : Type 0} (d : Deed Done) (K : Shape) (E X : ℕ → List Record) (failed : ℕ → Type 0) (holds : ℕ → ℕ → Type 0) (told : Result T Answer) (resumed : List ResumedBatch) (came : Result Done LaneFault)
-    → IfErr told (λ a. (a ≡ answers.Memory) ⊎ ((e : LaneFault) × (came ≡ Err e) × (a ≡ answer_to e))) → IfOk came (AllWell d K E X resumed) → IfErr came (AllBadly d K E X failed holds)
-    → IfErr told (λ a. IsLaneAnswer K (d.next K E X) E X failed holds a × IsLeastAnswer (EndsWork d K E X failed holds) a × AllRestBehind K E X failed (a ≡ answers.Memory))
+    → IfErr told (λ a. ((a ≡ answers.Memory) × ((x : Done) × (came ≡ Ok x))) ⊎ ((e : LaneFault) × (came ≡ Err e) × (a ≡ answer_to e))) → IfOk came (AllWell d K E X resumed) → IfErr came (AllBadly d K E X failed holds)
+    → IfErr told (λ a. IsLaneAnswer K (d.next K E X) E X failed holds a × IsLeastAnswer (CameThrough d K E X) (EndsWork d K E X failed holds) a × AllRestBehind K E X failed (a ≡ answers.Memory))
 came_badly d K E X failed holds (Ok t) resumed came is well badly = tt
-came_badly {Done = Done} d K E X failed holds (Err a) resumed came (inl memory) well badly = (subst (λ x. IsLaneAnswer K (d.next K E X) E X failed holds x) (sym memory) tt, inl memory, go came well badly)
-  where
-    go : (c : Result Done LaneFault) → IfOk c (AllWell d K E X resumed) → IfErr c (AllBadly d K E X failed holds) → AllRestBehind K E X failed (a ≡ answers.Memory)
-    go (Ok x) all b = idle_rest K E X failed (a ≡ answers.Memory) all.well.idle
-    go (Err e) all b = tell_rest K E X failed (e.fault ≡ NoMemory) (a ≡ answers.Memory) (λ _. memory) b.rests
+came_badly d K E X failed holds (Err a) resumed came (inl (memory, (x, is))) well badly =
+    let all : AllWell d K E X resumed x = subst (λ o. IfOk o (AllWell d K E X resumed)) is well in (
+      subst (λ y. IsLaneAnswer K (d.next K E X) E X failed holds y) (sym memory) tt,
+      inl (memory, record { resumed = resumed; done = x; well = all }),
+      idle_rest K E X failed (a ≡ answers.Memory) all.well.idle,
+    )
 came_badly d K E X failed holds (Err a) resumed came (inr (e, err, is)) well badly =
     let b : AllBadly d K E X failed holds e = subst (λ o. IfErr o (AllBadly d K E X failed holds)) err badly in (
       subst (λ x. IsLaneAnswer K (d.next K E X) E X failed holds x) (sym is) (answered K (d.next K E X) E X failed holds e b.cause),
@@ -125,8 +126,9 @@ module _ (K : Shape) (failed fails : ℕ → Type 0) (holds held : ℕ → ℕ �
     },
   )
 
-  least_by : {Done : Type 0} (d : Deed Done) (E X : ℕ → List Record) (a : Answer) → IsLeastAnswer (EndsWork d K E X failed holds) a → IsLeastAnswer (EndsWork d K E X fails held) a
-  least_by d E X a (inl memory) = inl memory
+  least_by : {Done : Type 0} (d : Deed Done) (E X : ℕ → List Record) (a : Answer) → IsLeastAnswer (CameThrough d K E X) (EndsWork d K E X failed holds) a
+      → IsLeastAnswer (CameThrough d K E X) (EndsWork d K E X fails held) a
+  least_by d E X a (inl all) = inl all
   least_by d E X a (inr (e, is, ends)) = inr (e, is, ends_by d E X e ends)
 
   answer_by : (next : ℕ → List Compact → Type 0) (E X : ℕ → List Record) (a : Answer) → IsLaneAnswer K next E X failed holds a → IsLaneAnswer K next E X fails held a
@@ -215,7 +217,7 @@ module _ {D : Type 0} (device : Ghosts D) (held back : ℕ → Option D) (h g : 
       (HaveFailed (opened_of h.shape logs shards) (faults_of h.shape now after)) → Flown → (a : Answer)
       → IsLaneAnswer h.shape (d.next h.shape (node_journals h.shape logs shards) (node_journals h.shape now after)) (node_journals h.shape logs shards) (node_journals h.shape now after)
       (HaveFailed (opened_of h.shape logs shards) (faults_of h.shape now after)) (MayHoldBytes (capacity_of h.shape logs shards)) a
-      → IsLeastAnswer (EndsWork d h.shape (node_journals h.shape logs shards) (node_journals h.shape now after)
+      → IsLeastAnswer (CameThrough d h.shape (node_journals h.shape logs shards) (node_journals h.shape now after)) (EndsWork d h.shape (node_journals h.shape logs shards) (node_journals h.shape now after)
       (HaveFailed (opened_of h.shape logs shards) (faults_of h.shape now after)) (MayHoldBytes (capacity_of h.shape logs shards))) a
       → AllRestBehind h.shape (node_journals h.shape logs shards) (node_journals h.shape now after) (HaveFailed (opened_of h.shape logs shards) (faults_of h.shape now after)) (a ≡ answers.Memory)
       → AllHaveRoom device held h.shape (node_journals h.shape logs shards) → ((n : ℕ) → n < node_count h.shape → SameRoom device (held n) (back n)) → HaveCheckedJournals h.shape now after
@@ -250,7 +252,7 @@ module _ {D : Type 0} (device : Ghosts D) (held back : ℕ → Option D) (h g : 
         cause = subst (λ L. IsLaneAnswer K (d.next K L X) L X Rises Holds a) entry (answer_by K failed Rises holds Holds risen may (d.next K E X) E X a cause);
         may_come = subst (λ L. MayComeNext K h.genesis (d.next K L X) L X) entry
             (wants_there device h g logs now shards after (is_ledger device held h logs shards are) is shape checked (d.next K E X) fits);
-        least = subst (λ L. IsLeastAnswer (EndsWork d K L X Rises Holds) a) entry (least_by K failed Rises holds Holds risen may d E X a least);
+        least = subst (λ L. IsLeastAnswer (CameThrough d K L X) (EndsWork d K L X Rises Holds) a) entry (least_by K failed Rises holds Holds risen may d E X a least);
         rests = subst (λ L. AllRestBehind K L X Rises (a ≡ answers.Memory)) entry (rest_by K failed Rises holds Holds risen may E X (a ≡ answers.Memory) rests);
         room = subst (λ L. AllHaveRoom device held K L) entry room;
         same_room = same_room;
@@ -259,15 +261,16 @@ module _ {D : Type 0} (device : Ghosts D) (held back : ℕ → Option D) (h g : 
         spared = spared;
       }
 
--- the same fault, said in other words of whose it is and of what has been begun
+-- the same fault, said in other words of whose it is, of what has been begun and of what came through
 pub fault_as : {D : Type 0} (device : Ghosts D) (before after : Disks D)
     (next : Shape → (ℕ → List Record) → (ℕ → List Record) → ℕ → List Compact → Type 0) (ends others : Shape → (ℕ → List Record) → (ℕ → List Record) → (ℕ → Type 0) → (ℕ → ℕ → Type 0) → LaneFault → Type 0)
-    (begun starts : Shape → (ℕ → List Record) → (ℕ → List Record) → Type 0) (handed : List (List FullTx))
+    (begun starts through comes : Shape → (ℕ → List Record) → (ℕ → List Record) → Type 0) (handed : List (List FullTx))
     → ((K : Shape) (E X : ℕ → List Record) (failed : ℕ → Type 0) (holds : ℕ → ℕ → Type 0) (e : LaneFault) → ends K E X failed holds e → others K E X failed holds e)
     → ((K : Shape) (E X : ℕ → List Record) → begun K E X → starts K E X)
-    → (a : Answer) → IsLaneFault device before after (record { handed = handed; next = next; ends = ends; begun = begun }) a
-    → IsLaneFault device before after (record { handed = handed; next = next; ends = others; begun = starts }) a
-fault_as device before after next ends others begun starts handed ends_as begun_as a f =
+    → ((K : Shape) (E X : ℕ → List Record) → through K E X → comes K E X)
+    → (a : Answer) → IsLaneFault device before after (record { handed = handed; next = next; ends = ends; begun = begun; through = through }) a
+    → IsLaneFault device before after (record { handed = handed; next = next; ends = others; begun = starts; through = comes }) a
+fault_as device before after next ends others begun starts through comes handed ends_as begun_as through_as a f =
     let E : ℕ → List Record = λ n. journal n (reverse f.ledger.rows) in
     record {
       ledger = f.ledger;
@@ -290,9 +293,9 @@ fault_as device before after next ends others begun starts handed ends_as begun_
       spared = f.spared;
     }
   where
-    Whose : (Shape → (ℕ → List Record) → (ℕ → List Record) → (ℕ → Type 0) → (ℕ → ℕ → Type 0) → LaneFault → Type 0) → Type 0
-    Whose which = IsLeastAnswer (which f.ledger.shape (λ n. journal n (reverse f.ledger.rows)) f.exit (RoseAt before after) (DiskMayHold device before)) a
+    Whose : (Shape → (ℕ → List Record) → (ℕ → List Record) → Type 0) → (Shape → (ℕ → List Record) → (ℕ → List Record) → (ℕ → Type 0) → (ℕ → ℕ → Type 0) → LaneFault → Type 0) → Type 0
+    Whose all which = IsLeastAnswer (all f.ledger.shape (λ n. journal n (reverse f.ledger.rows)) f.exit) (which f.ledger.shape (λ n. journal n (reverse f.ledger.rows)) f.exit (RoseAt before after) (DiskMayHold device before)) a
 
-    go : Whose ends → Whose others
-    go (inl memory) = inl memory
+    go : Whose through ends → Whose comes others
+    go (inl (memory, all)) = inl (memory, through_as f.ledger.shape (λ n. journal n (reverse f.ledger.rows)) f.exit all)
     go (inr (e, is, so)) = inr (e, is, ends_as f.ledger.shape (λ n. journal n (reverse f.ledger.rows)) f.exit (RoseAt before after) (DiskMayHold device before) e so)

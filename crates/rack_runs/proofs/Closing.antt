@@ -120,7 +120,7 @@ module _ {D Done : Type 0} (device : Ghosts D) (held : ℕ → Option D) (h g : 
     same_room = rooms_same device held back h logs now shards after are g shape is seen logs_back shards_back capacity_at
 
     -- the result, and what that leaves of the disks
-    pub done : (told : Result (Told Done) Answer) → IfErr told (λ a. (a ≡ answers.Memory) ⊎ ((e : LaneFault) × (came ≡ Err e) × (a ≡ answer_to e))) → IfOk told (λ t. (t.resumed.items ≡ resumed) × (came ≡ Ok t.done))
+    pub done : (told : Result (Told Done) Answer) → IfErr told (λ a. ((a ≡ answers.Memory) × ((d : Done) × (came ≡ Ok d))) ⊎ ((e : LaneFault) × (came ≡ Err e) × (a ≡ answer_to e))) → IfOk told (λ t. (t.resumed.items ≡ resumed) × (came ≡ Ok t.done))
         → IfOk told (λ t. CountAll (map (λ s. s.journal) after) t.unspent) → AllNextFit deed → HasDoneWork device (record { held = held; faults = before }) (record { held = back; faults = behind }) deed told
     done (Ok t) fault same unspent fits =
         let quiet : AreQuiet logs shards → AreQuiet now after = when_whole came t.done same.1 ran.quiet in
@@ -169,7 +169,7 @@ module _ {D Done : Type 0} (device : Ghosts D) (deed : Deed Done) (e : AtEntry D
 
   pub closed : (back : ℕ → Option D) → ByPlace (λ n l. OfTold (back n) (λ d. d ≡ l.disk)) now → ByPlace (λ s x. OfTold (back (length now + s)) (λ d. d ≡ x.disk)) after → (counts : ℕ → ℕ)
       → ByPlace (λ n l. device.count l.disk ≤ counts n) now → ByPlace (λ s x. device.count x.disk ≤ counts (length now + s)) after → ((n : ℕ) → length now + length after ≤ n → back n ≡ middle n)
-      → (told : Result (Told Done) Answer) → IfErr told (λ a. (a ≡ answers.Memory) ⊎ ((f : LaneFault) × (came ≡ Err f) × (a ≡ answer_to f))) → IfOk told (λ t. (t.resumed.items ≡ resumed) × (came ≡ Ok t.done))
+      → (told : Result (Told Done) Answer) → IfErr told (λ a. ((a ≡ answers.Memory) × ((d : Done) × (came ≡ Ok d))) ⊎ ((f : LaneFault) × (came ≡ Err f) × (a ≡ answer_to f))) → IfOk told (λ t. (t.resumed.items ≡ resumed) × (came ≡ Ok t.done))
       → IfOk told (λ t. CountAll (map (λ s. s.journal) after) t.unspent) → AllNextFit deed → HasDoneWork device e.disks (record { held = back; faults = counts }) deed told
   closed back logs_back shards_back counts logs_counted shards_counted others_put told fault same unspent fits =
       done device e.disks.held e.header g e.logs now e.shards after deed resumed came has.begun.nodes is seen there has.begun.caused middle back logs_back shards_back e.disks.faults counts

@@ -36,9 +36,9 @@ use Rattle.file_runs.proofs.Pieces.{files_unbegun}
 use Rattle.printed_lines.specs.Unspent.{IsUnspentCount}
 use Rattle.cbdc_model.specs.Ranges.{node_count}
 use Rattle.rack_runs.specs.Endings.{EndsRun, IsRunOrCut}
-use Rattle.rack_runs.specs.Runs.{IsCutWaves, NonePrepared, NothingNext, PieceNext, PiecesPrepared}
+use Rattle.rack_runs.specs.Runs.{AllRan, AllResumed, IsCutWaves, NonePrepared, NothingNext, PieceNext, PiecesPrepared}
 use Rattle.rack_runs.specs.Telling.{IsRunTold}
-use Rattle.rack_runs.specs.Works.{LeavesWork, WorkEndsWell, EndsBadly, HasWorked, BeginsWork, EndsWork, HasEndedWork}
+use Rattle.rack_runs.specs.Works.{LeavesWork, WorkEndsWell, EndsBadly, HasWorked, BeginsWork, EndsWork, CameThrough, HasEndedWork}
 use Rattle.rack_runs.specs.Deeds.{files_deed, no_deed}
 use Rattle.rack_runs.specs.declared.told.Told.{Told}
 use Rattle.rack_runs.proofs.Answering.{cause_by}
@@ -259,6 +259,19 @@ ends_none K E X failed holds e (inr (middle, grows, unprepared, idle, by)) = abs
 pub begun_none : (K : Shape) (E X : ℕ → List Record) → BeginsWork no_deed K E X → NonePrepared K E X
 begun_none K E X (inl alone, order) = (λ lane inside. alone.unprepared lane, alone.adds, order)
 begun_none K E X (inr alone, order) = (λ lane inside. alone.unprepared lane, alone.adds, order)
+
+pub through_run : (verdicts : VerdictsOf) (files : List (List FullTx)) (K : Shape) (E X : ℕ → List Record) → CameThrough (files_deed verdicts files) K E X → AllRan verdicts files K E X
+through_run verdicts files K E X all =
+    let w = all.well in (
+      w.well.idle,
+      λ mint submissions kept sound tells. (w.well.did mint submissions (w.behind.keeps mint submissions kept).kept).0 sound E tells (w.behind.resumed mint submissions kept),
+    )
+
+pub through_none : (K : Shape) (E X : ℕ → List Record) → CameThrough no_deed K E X → AllResumed K E X
+through_none K E X all =
+    let w = all.well in
+    let ends : w.middle ≡ X = λ i n. sym (w.well.did n) i in
+    (w.well.idle, λ mint submissions kept. subst (λ L. IsResumed K E L) ends (w.behind.resumed mint submissions kept))
 
 -- ---- what they did
 

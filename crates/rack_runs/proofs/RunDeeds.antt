@@ -1,22 +1,15 @@
 -- A run of client files: the resuming, and the files behind it.
 use Rattle.std.proofs.Common.{◌≡◌, ◌<◌, ◌++◌, inl, inr, [], ℕ, List, length, Result, Ok, Err, refl, sym, subst}
-use Rattle.std.specs.Prelude.{IfOk, IfErr, OnOk}
 use Rattle.std.specs.Global.{Vec}
 use Rattle.std.proofs.lemmas.List.{append-nil}
 use Rattle.outside.specs.declared.disk.Disk.{Ghosts}
-use Rattle.cbdc_types.specs.Limits.{IsWithinLimits}
 use Rattle.cbdc_model.specs.Records.{Shape, Record}
 use Rattle.cbdc_model.specs.Coins.{FullTx}
-use Rattle.cbdc_model.specs.World.{AreIdle}
-use Rattle.cbdc_model.specs.Waves.{IsResumed}
-use Rattle.ledger_laws.proofs.Cuts.{end_self}
 use Rattle.lane_driver.specs.declared.fault.LaneFault.{LaneFault}
 use Rattle.lane_driver.specs.declared.fault.LaneFaultKind.TheVariants.{Memory as NoMemory}
 use Rattle.recovery.specs.declared.resumed.ResumedBatch.{ResumedBatch}
 use Rattle.submissions.specs.Checks.{VerdictsOf}
 use Rattle.ledger_runs.specs.Turning.{OfKept, StaysKept}
-use Rattle.ledger_runs.specs.Telling.{TellResumed}
-use Rattle.ledger_runs.specs.Least.{IsUnbegunForMemory, IsLeastOpen}
 use Rattle.ledger_runs.specs.Faults.{HaveFailed, MayHoldBytes}
 use Rattle.file_runs.specs.declared.waves.Wave.{Wave}
 use Rattle.file_runs.specs.Ledgers.{LedgerOf, ledger_journals, ledger_flights, ledger_faults, ledger_opened, ledger_capacity, KeepsLedgerOf}
@@ -31,7 +24,7 @@ use Rattle.rack_runs.specs.Deeds.{files_deed}
 use Rattle.rack_runs.specs.Endings.{EndsRun}
 use Rattle.rack_runs.specs.Resuming.{HasResumed}
 use Rattle.rack_runs.specs.Works.{EndsWork, LeavesAll, HasRunWork}
-use Rattle.rack_runs.specs.RunDeeds.{DidResume, resume_deed, RanAll, run_deed}
+use Rattle.rack_runs.specs.RunDeeds.{resume_deed, RanAll, run_deed}
 use Rattle.rack_runs.proofs.Filed.{over_keeps, over_cuts, cut_waves, resumed_begun, filed_begun, files_since}
 use Rattle.rack_runs.proofs.Resting.{rest_all, rests_behind}
 use Rattle.rack_runs.proofs.Working.{only_open}

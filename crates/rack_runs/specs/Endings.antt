@@ -21,9 +21,9 @@ EndsRun verdicts files K E X failed may_hold e =
     (SamePrepared K E X × IsLeastOpen K E X failed may_hold e)
     ⊎ ((middle : ℕ → List Record) × ((n : ℕ) → IsEnd (E n) (middle n)) × SamePrepared K E middle × AreIdle K middle × EndsFiles K verdicts files middle X failed may_hold e)
 
--- memory ran out, or the answer is that to a fault that ended it
-abbrev pub IsLeastAnswer : (LaneFault → Type 0) → Answer → Type 0
-IsLeastAnswer ends answer = (answer ≡ answers.Memory) ⊎ ((e : LaneFault) × (answer ≡ answer_to e) × ends e)
+-- all came through, and memory ran out behind that; or the answer is that to a fault that ended it
+abbrev pub IsLeastAnswer : Type 0 → (LaneFault → Type 0) → Answer → Type 0
+IsLeastAnswer through ends answer = ((answer ≡ answers.Memory) × through) ⊎ ((e : LaneFault) × (answer ≡ answer_to e) × ends e)
 
 -- open batches are taken up in rising order of their lanes, and nothing else comes before all lanes are idle
 abbrev pub IsInOrder : Shape → (ℕ → List Record) → (ℕ → List Record) → Type 0

@@ -8,7 +8,7 @@ use Rattle.cbdc_model.specs.Records.{Shape, Batch, Compact, Record, Prepare, jou
 use Rattle.cbdc_model.specs.Coins.{Output, FullTx}
 use Rattle.cbdc_model.specs.Clean.{Clean}
 use Rattle.cbdc_model.specs.Lanes.{IsEnd}
-use Rattle.cbdc_model.specs.World.{KeptJournals}
+use Rattle.cbdc_model.specs.World.{AreIdle, KeptJournals}
 use Rattle.cbdc_model.specs.Headline.{Headline}
 use Rattle.cbdc_model.specs.Waves.{Adds, has_prepare, has_done, IsResumed, Waves}
 use Rattle.lane_driver.specs.declared.fault.LaneFault.{LaneFault}
@@ -105,12 +105,14 @@ abbrev pub KeepsFlights : {D : Type 0} → Ghosts D → (ℕ → Option D) → S
 KeepsFlights device held K X flights = (n : ℕ) → n < node_count K → OfTold (held n) (λ d. (c : List ℕ) → device.images d c → OpensToEither (reverse (X n)) (flights n) c)
 
 -- what lanes do over a ledger, as relations between journals: the transactions that are handed in, group by group; those that may be next for a lane,
--- from journals at entry to later ones; whose fault ends it, by the nodes whose disks have failed and by what disks may hold; and what has been begun
+-- from journals at entry to later ones; whose fault ends it, by the nodes whose disks have failed and by what disks may hold; what has been begun; and
+-- what is so where all of it came through
 pub record Turns : Type 1 where
   pub handed : List (List FullTx)
   pub next : Shape → (ℕ → List Record) → (ℕ → List Record) → ℕ → List Compact → Type 0
   pub ends : Shape → (ℕ → List Record) → (ℕ → List Record) → (ℕ → Type 0) → (ℕ → ℕ → Type 0) → LaneFault → Type 0
   pub begun : Shape → (ℕ → List Record) → (ℕ → List Record) → Type 0
+  pub through : Shape → (ℕ → List Record) → (ℕ → List Record) → Type 0
 
 -- the node's count of faults rose
 abbrev pub RoseAt : {D : Type 0} → Disks D → Disks D → ℕ → Type 0
@@ -141,8 +143,8 @@ pub record IsLaneFault {D : Type 0} (device : Ghosts D) (before after : Disks D)
       (RoseAt before after) (DiskMayHold device before) answer
   -- whatever a lane wants may come next where it would stand
   pub may_come : MayComeNext ledger.shape ledger.genesis (turns.next ledger.shape (entry_journals ledger) exit) (entry_journals ledger) exit
-  -- the fault is that of the least lane that met one
-  pub least : IsLeastAnswer (turns.ends ledger.shape (entry_journals ledger) exit (RoseAt before after) (DiskMayHold device before)) answer
+  -- the fault is that of the least lane that met one; or all came through, and memory ran out behind that
+  pub least : IsLeastAnswer (turns.through ledger.shape (entry_journals ledger) exit) (turns.ends ledger.shape (entry_journals ledger) exit (RoseAt before after) (DiskMayHold device before)) answer
   -- each lane is between batches, or its batch lacks a Lock, or the disk of a node that it asks has failed; or its batch was prepared and is so still,
   -- and the answer is that memory ran out, or a lesser lane has its batch open still; or that is the answer and nothing was written
   pub rests : AllRestBehind ledger.shape (entry_journals ledger) exit (RoseAt before after) (answer ≡ answers.Memory)
@@ -188,9 +190,17 @@ abbrev pub PiecesPrepared : VerdictsOf → List (List FullTx) → Shape → (ℕ
 PiecesPrepared verdicts files K E X =
     HaveBegunFiles K verdicts files E X × OfKept K E (λ _ _. (sound : FullTx → Bool) → TellsSound verdicts sound → IsCutWaves K sound files E X) × IsInOrder K E X
 
+-- all lanes are idle, and where the journals at entry are kept the open batches are at their end
+abbrev pub AllResumed : Shape → (ℕ → List Record) → (ℕ → List Record) → Type 0
+AllResumed K E X = AreIdle K X × OfKept K E (λ _ _. IsResumed K E X)
+
+-- all lanes are idle, and where the journals at entry are kept the open batches and the waves of these files are at their end
+abbrev pub AllRan : VerdictsOf → List (List FullTx) → Shape → (ℕ → List Record) → (ℕ → List Record) → Type 0
+AllRan verdicts files K E X = AreIdle K X × OfKept K E (λ _ _. (sound : FullTx → Bool) → TellsSound verdicts sound → Waves K sound files E X)
+
 -- a recovery: nothing is handed in, and the open batches alone are brought to their end
 abbrev pub open_turns : Turns
-open_turns = record { handed = []; next = NothingNext; ends = IsLeastOpen; begun = NonePrepared }
+open_turns = record { handed = []; next = NothingNext; ends = IsLeastOpen; begun = NonePrepared; through = AllResumed }
 
 -- a run of these files: the open batches, and then one file after another
 abbrev pub file_turns : VerdictsOf → List (List FullTx) → Turns
@@ -199,4 +209,5 @@ file_turns verdicts files = record {
   next = PieceNext verdicts files;
   ends = EndsRun verdicts files;
   begun = PiecesPrepared verdicts files;
+  through = AllRan verdicts files;
 }

@@ -128,10 +128,6 @@ EndsWork d K E X failed may_hold e =
     (SamePrepared K E X × IsLeastOpen K E X failed may_hold e)
     ⊎ ((middle : ℕ → List Record) × ((n : ℕ) → IsEnd (E n) (middle n)) × SamePrepared K E middle × AreIdle K middle × WorkEndsBy d K middle X failed may_hold e)
 
--- the turns that a work takes, the resuming before it being part of them
-abbrev pub work_turns : {Done : Type 0} → Deed Done → Turns
-work_turns d = record { handed = d.handed; next = d.next; ends = EndsWork d; begun = BeginsWork d }
-
 -- whatever the result: as `LeavesWork`, from the journals at entry
 pub record LeavesAll {Done : Type 0} (d : Deed Done) (K : Shape) (E X : ℕ → List Record) (before after : ℕ → Option Record) (failed : ℕ → Type 0) : Type 0 where
   pub grows : (n : ℕ) → IsEnd (E n) (X n)
@@ -146,6 +142,16 @@ pub record AllWell {Done : Type 0} (d : Deed Done) (K : Shape) (E X : ℕ → Li
   pub behind : IsBehind K E middle
   pub batches : OfKept K E (λ _ _. TellResumed K E middle (K.coordinators * K.lanes) resumed)
   pub well : WorkEndsWell d K middle X done
+
+-- all came through, whatever it told
+pub record CameThrough {Done : Type 0} (d : Deed Done) (K : Shape) (E X : ℕ → List Record) : Type 0 where
+  pub resumed : List ResumedBatch
+  pub done : Done
+  pub well : AllWell d K E X resumed done
+
+-- the turns that a work takes, the resuming before it being part of them
+abbrev pub work_turns : {Done : Type 0} → Deed Done → Turns
+work_turns d = record { handed = d.handed; next = d.next; ends = EndsWork d; begun = BeginsWork d; through = CameThrough d }
 
 -- a lane's fault ended the resuming or the work
 pub record AllBadly {Done : Type 0} (d : Deed Done) (K : Shape) (E X : ℕ → List Record) (failed : ℕ → Type 0) (may_hold : ℕ → ℕ → Type 0) (e : LaneFault) : Type 0 where

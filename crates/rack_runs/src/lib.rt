@@ -31,7 +31,8 @@
 //!   lesser lane has its batch open still; or that is the answer, and nothing was written; and
 //!   the fault is that of the least lane that met one, by its cause as of `run_files`: it came as the open batches were brought to their end, and all
 //!   lesser lanes are idle (where memory ran out that lane is prepared still, or nothing at all was done); or behind that a file, of which each
-//!   lesser lane has run all, and each greater one, too, or it met a fault of its own, as `run_files` says.
+//!   lesser lane has run all, and each greater one, too, or it met a fault of its own, as `run_files` says. Where the answer is that memory ran out
+//!   this is so as well, of a lane that memory ran out for; or all came through, and it ran out behind that.
 //! - Open: that memory did run out for a lane above the one whose fault ended a file, which has something left and stands between two batches or
 //!   lacks a Lock: nothing counts refusals, so a body that does not run such a lane at all meets the clauses of `run_on` (`run_wave` tells each lane's
 //!   fault; tested in `ledger_rows`: `lanes.rows`).

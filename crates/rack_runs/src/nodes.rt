@@ -55,7 +55,7 @@ pub(crate) fn told_of<D: Disk, T: Drop>(
     came: Result<T, LaneFault>,
     shards: &[ShardNode<D>],
 ) -> Result<Told<T>, Answer>
-    ensures fault { IfErr result (λ a. (a ≡ Answer.Memory)
+    ensures fault { IfErr result (λ a. ((a ≡ Answer.Memory) × ((d : _) × (came ≡ Ok d)))
         ⊎ ((e : FaultOf) × (came ≡ Err e) × (a ≡ answer_to e))) }
     ensures same { IfOk result (λ t. (t.resumed.items ≡ resumed.items) × (came ≡ Ok t.done)) }
     ensures unspent { IfOk result (λ t. CountAll (map (λ s. s.journal) shards.now) t.unspent) }

@@ -3,15 +3,15 @@ use Rattle.cbdc_model.specs.World.{AreIdle}
 use Rattle.file_runs.specs.Ledgers.{ledger_journals}
 use Rattle.file_runs.proofs.Whole.{of_whole, of_fault, when_whole}
 use Rattle.rack_ledgers.specs.Racked.{disks_in}
-use Rattle.rack_runs.specs.Works.{entry_ledger, HasOpenedAndRun, HasDoneWork, BeginsWork, EndsWork}
+use Rattle.rack_runs.specs.Works.{entry_ledger, HasOpenedAndRun, HasDoneWork, BeginsWork, EndsWork, CameThrough}
 use Rattle.rack_runs.proofs.Answering.{fault_as}
 use Rattle.rack_runs.proofs.Working.{worked_run}
 use Rattle.submissions.specs.Checks.{VerdictsOf}
 use Rattle.sentinel.specs.declared.verifier.Verdict.TheVariants.{Good}
 use Rattle.ledger_runs.specs.Least.{IsLeastOpen}
-use Rattle.rack_runs.specs.Runs.{NonePrepared, NothingNext}
+use Rattle.rack_runs.specs.Runs.{AllResumed, NonePrepared, NothingNext}
 use Rattle.rack_runs.specs.Deeds.{no_deed}
-use Rattle.rack_runs.proofs.Filed.{ends_none, begun_none, told_none}
+use Rattle.rack_runs.proofs.Filed.{ends_none, begun_none, through_none, told_none}
 use Rattle.rack_runs.proofs.Ledgers.{recovered}
 use Rattle.rack_runs.proofs.racks.recover_on.Goals as goal
 
@@ -44,7 +44,7 @@ end_on-requires-clause-come g c =
 pub returns-in-Err-clause-stopped : goal.returns-in-Err-clause-stopped
 returns-in-Err-clause-stopped g c =
     ⊎_elim (λ turns. ⊎_elim (λ refused. inl refused) (λ cut. inr (fault_as g.R.Disk.Disk (disks_in g.R.Rack c.args.rack.now) (disks_in g.R.Rack c.begin_on.new.rack)
-    NothingNext (EndsWork no_deed) IsLeastOpen (BeginsWork no_deed) NonePrepared [] ends_none begun_none c.in-Err.fault cut)) turns) (λ tested. absurd tested.refused) c.in-Err.ensures.stopped
+    NothingNext (EndsWork no_deed) IsLeastOpen (BeginsWork no_deed) NonePrepared (CameThrough no_deed) AllResumed [] ends_none begun_none through_none c.in-Err.fault cut)) turns) (λ tested. absurd tested.refused) c.in-Err.ensures.stopped
 
 pub returns-in-Ok-end_on-clause-caused : goal.returns-in-Ok-end_on-clause-caused
 returns-in-Ok-end_on-clause-caused g c =
@@ -94,7 +94,7 @@ returns-in-Err-end_on-clause-stopped g c =
     let done : HasDoneWork g.R.Disk.Disk (disks_in g.R.Rack c.args.rack.now) (disks_in g.R.Rack c.end_on.new.rack) no_deed c.end_on.result =
     subst (λ d. HasDoneWork g.R.Disk.Disk d (disks_in g.R.Rack c.end_on.new.rack) no_deed c.end_on.result) begun.1 (c.end_on.ensures.done begun.0 has) in
     ⊎_elim (λ refused. inl refused) (λ cut. inr (fault_as g.R.Disk.Disk (disks_in g.R.Rack c.args.rack.now) (disks_in g.R.Rack c.end_on.new.rack)
-    NothingNext (EndsWork no_deed) IsLeastOpen (BeginsWork no_deed) NonePrepared [] ends_none begun_none c.in-Err-end_on.fault cut)) (of_fault _ c.end_on.result c.in-Err-end_on.fault c.in-Err-end_on.is done.stopped)
+    NothingNext (EndsWork no_deed) IsLeastOpen (BeginsWork no_deed) NonePrepared (CameThrough no_deed) AllResumed [] ends_none begun_none through_none c.in-Err-end_on.fault cut)) (of_fault _ c.end_on.result c.in-Err-end_on.fault c.in-Err-end_on.is done.stopped)
 
 pub returns-in-Ok-end_on-clause-later : goal.returns-in-Ok-end_on-clause-later
 returns-in-Ok-end_on-clause-later g c n = omega (arith, c.in-Ok.ensures.later n, c.end_on.ensures.later n)

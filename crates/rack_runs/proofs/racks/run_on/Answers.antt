@@ -3,13 +3,13 @@ use Rattle.cbdc_model.specs.World.{AreIdle}
 use Rattle.file_runs.specs.Ledgers.{ledger_journals}
 use Rattle.file_runs.proofs.Whole.{of_whole, of_fault, when_whole}
 use Rattle.rack_ledgers.specs.Racked.{disks_in}
-use Rattle.rack_runs.specs.Works.{entry_ledger, HasOpenedAndRun, HasDoneWork, BeginsWork, EndsWork}
+use Rattle.rack_runs.specs.Works.{entry_ledger, HasOpenedAndRun, HasDoneWork, BeginsWork, EndsWork, CameThrough}
 use Rattle.rack_runs.proofs.Answering.{fault_as}
 use Rattle.rack_runs.proofs.Working.{worked_run}
 use Rattle.rack_runs.specs.Endings.{EndsRun}
-use Rattle.rack_runs.specs.Runs.{PieceNext, PiecesPrepared}
+use Rattle.rack_runs.specs.Runs.{AllRan, PieceNext, PiecesPrepared}
 use Rattle.rack_runs.specs.Deeds.{files_deed}
-use Rattle.rack_runs.proofs.Filed.{ends_run, begun_run, told_run}
+use Rattle.rack_runs.proofs.Filed.{ends_run, begun_run, through_run, told_run}
 use Rattle.rack_runs.proofs.Wanted.{piece_fits}
 use Rattle.rack_runs.proofs.racks.run_on.Goals as goal
 
@@ -39,7 +39,9 @@ end_on-requires-clause-come g c =
 pub returns-in-Err-clause-stopped : goal.returns-in-Err-clause-stopped
 returns-in-Err-clause-stopped g c =
     ⊎_elim (λ turns. ⊎_elim (λ refused. inl refused) (λ cut. inr (fault_as g.R.Disk.Disk (disks_in g.R.Rack c.args.rack.now) (disks_in g.R.Rack c.begin_on.new.rack)
-    (PieceNext (g.V.Verifier.verdict_of c.args.verifier.now) c.args.files.now) (EndsWork (files_deed (g.V.Verifier.verdict_of c.args.verifier.now) c.args.files.now)) (EndsRun (g.V.Verifier.verdict_of c.args.verifier.now) c.args.files.now) (BeginsWork (files_deed (g.V.Verifier.verdict_of c.args.verifier.now) c.args.files.now)) (PiecesPrepared (g.V.Verifier.verdict_of c.args.verifier.now) c.args.files.now) c.args.files.now (ends_run (g.V.Verifier.verdict_of c.args.verifier.now) c.args.files.now) (begun_run (g.V.Verifier.verdict_of c.args.verifier.now) c.args.files.now) c.in-Err.fault cut)) turns) (λ tested. absurd tested.refused) c.in-Err.ensures.stopped
+    (PieceNext (g.V.Verifier.verdict_of c.args.verifier.now) c.args.files.now) (EndsWork (files_deed (g.V.Verifier.verdict_of c.args.verifier.now) c.args.files.now)) (EndsRun (g.V.Verifier.verdict_of c.args.verifier.now) c.args.files.now) (BeginsWork (files_deed (g.V.Verifier.verdict_of c.args.verifier.now) c.args.files.now)) (PiecesPrepared (g.V.Verifier.verdict_of c.args.verifier.now) c.args.files.now)
+    (CameThrough (files_deed (g.V.Verifier.verdict_of c.args.verifier.now) c.args.files.now)) (AllRan (g.V.Verifier.verdict_of c.args.verifier.now) c.args.files.now) c.args.files.now (ends_run (g.V.Verifier.verdict_of c.args.verifier.now) c.args.files.now) (begun_run (g.V.Verifier.verdict_of c.args.verifier.now) c.args.files.now)
+    (through_run (g.V.Verifier.verdict_of c.args.verifier.now) c.args.files.now) c.in-Err.fault cut)) turns) (λ tested. absurd tested.refused) c.in-Err.ensures.stopped
 
 pub returns-in-Ok-end_on-clause-caused : goal.returns-in-Ok-end_on-clause-caused
 returns-in-Ok-end_on-clause-caused g c =
@@ -86,7 +88,9 @@ returns-in-Err-end_on-clause-stopped g c =
     let done : HasDoneWork g.R.Disk.Disk (disks_in g.R.Rack c.args.rack.now) (disks_in g.R.Rack c.end_on.new.rack) (files_deed (g.V.Verifier.verdict_of c.args.verifier.now) c.args.files.now) c.end_on.result =
     subst (λ d. HasDoneWork g.R.Disk.Disk d (disks_in g.R.Rack c.end_on.new.rack) (files_deed (g.V.Verifier.verdict_of c.args.verifier.now) c.args.files.now) c.end_on.result) begun.1 (c.end_on.ensures.done begun.0 has) in
     ⊎_elim (λ refused. inl refused) (λ cut. inr (fault_as g.R.Disk.Disk (disks_in g.R.Rack c.args.rack.now) (disks_in g.R.Rack c.end_on.new.rack)
-    (PieceNext (g.V.Verifier.verdict_of c.args.verifier.now) c.args.files.now) (EndsWork (files_deed (g.V.Verifier.verdict_of c.args.verifier.now) c.args.files.now)) (EndsRun (g.V.Verifier.verdict_of c.args.verifier.now) c.args.files.now) (BeginsWork (files_deed (g.V.Verifier.verdict_of c.args.verifier.now) c.args.files.now)) (PiecesPrepared (g.V.Verifier.verdict_of c.args.verifier.now) c.args.files.now) c.args.files.now (ends_run (g.V.Verifier.verdict_of c.args.verifier.now) c.args.files.now) (begun_run (g.V.Verifier.verdict_of c.args.verifier.now) c.args.files.now) c.in-Err-end_on.fault cut)) (of_fault _ c.end_on.result c.in-Err-end_on.fault c.in-Err-end_on.is done.stopped)
+    (PieceNext (g.V.Verifier.verdict_of c.args.verifier.now) c.args.files.now) (EndsWork (files_deed (g.V.Verifier.verdict_of c.args.verifier.now) c.args.files.now)) (EndsRun (g.V.Verifier.verdict_of c.args.verifier.now) c.args.files.now) (BeginsWork (files_deed (g.V.Verifier.verdict_of c.args.verifier.now) c.args.files.now)) (PiecesPrepared (g.V.Verifier.verdict_of c.args.verifier.now) c.args.files.now)
+    (CameThrough (files_deed (g.V.Verifier.verdict_of c.args.verifier.now) c.args.files.now)) (AllRan (g.V.Verifier.verdict_of c.args.verifier.now) c.args.files.now) c.args.files.now (ends_run (g.V.Verifier.verdict_of c.args.verifier.now) c.args.files.now) (begun_run (g.V.Verifier.verdict_of c.args.verifier.now) c.args.files.now)
+    (through_run (g.V.Verifier.verdict_of c.args.verifier.now) c.args.files.now) c.in-Err-end_on.fault cut)) (of_fault _ c.end_on.result c.in-Err-end_on.fault c.in-Err-end_on.is done.stopped)
 
 pub returns-in-Ok-end_on-clause-later : goal.returns-in-Ok-end_on-clause-later
 returns-in-Ok-end_on-clause-later g c n = omega (arith, c.in-Ok.ensures.later n, c.end_on.ensures.later n)
