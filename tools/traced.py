@@ -1,8 +1,4 @@
-<<<<<<< HEAD
-"""What tools/trace-syncs, two-at-once and lets-go share: a program that is stopped at its system calls (ptrace, Linux on x86-64)."""
-=======
-"""A program that is stopped at its system calls (ptrace, Linux on x86-64)."""
->>>>>>> 3d42a9ef (A sentinel goes ahead of each lane with a submission where shares are below 2,048: a batch in a message, room for all that is sent, a few threads for many lanes)
+"""What tools/trace-syncs and two-at-once share: a program that is stopped at its system calls (ptrace, Linux on x86-64)."""
 import ctypes
 import os
 
