@@ -1,4 +1,4 @@
-"""What tools/trace-syncs and two-at-once share: a program that is stopped at its system calls (ptrace, Linux on x86-64)."""
+"""What tools/trace-syncs, two-at-once and closed-descriptors share: a program that is stopped at its system calls (ptrace, Linux on x86-64)."""
 import ctypes
 import os
 
@@ -30,12 +30,14 @@ def set_register(pid, place, value):
     ptrace(SET_REGS, pid, 0, ctypes.addressof(given))
 
 
-def started(words, folder, options, output=None):
-    """Starts a program in a folder, its text to a file that is open or to nowhere, and stops it before its first instruction."""
+def started(words, folder, options, output=None, closed=()):
+    """Starts a program in a folder, its text to a file that is open or to nowhere, some descriptors closed, and stops it before its first instruction."""
     pid = os.fork()
     if not pid:
         os.chdir(folder)
         os.dup2(os.open(os.devnull, os.O_WRONLY) if output is None else output, 1)
+        for descriptor in closed:
+            os.close(descriptor)
         ptrace(TRACE_ME, 0)
         os.execv(words[0], words)
     os.waitpid(pid, 0)
