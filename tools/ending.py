@@ -13,6 +13,10 @@ BAD_WORDS, UNWRITTEN, STOPPED = 2, 3, 130
 PROGRAMS = ("rt", "cc", "git", "bash")
 # Folders that a script keeps where it found something wrong, and that go where it was stopped.
 rooms = []
+# Whether standard output was closed as the script began: what is printed goes nowhere then, and the status says so.
+is_closed = sys.stdout is None
+if is_closed:
+    sys.stdout = open(os.devnull, "w")
 
 
 class Stopped(Exception):
@@ -85,7 +89,9 @@ def end(main, doc):
         status = STOPPED
     except BrokenPipeError:
         status = UNWRITTEN
-    except (OSError, subprocess.SubprocessError) as why:
+    except OSError as why:
+        status = tell(reason(why), BAD_WORDS if why.filename else UNWRITTEN)
+    except subprocess.SubprocessError as why:
         status = tell(reason(why), BAD_WORDS)
     else:
         rooms.clear()
@@ -135,7 +141,7 @@ def written(status):
     """The same status, or another one where the rest of what was printed can't be written."""
     try:
         sys.stdout.flush()
-        return status
+        return status or (UNWRITTEN if is_closed else 0)
     except OSError:
         # nobody reads it, so what is left of it may go anywhere
         os.dup2(os.open(os.devnull, os.O_WRONLY), sys.stdout.fileno())
