@@ -10,11 +10,10 @@ pub fn kind(output: &Output) -> Kind
     ensures { result ≡ kind_of output.now }
 {
     let program = output.program.0.as_slice();
-    if program.starts_with(&[254; 16]) {
-        Kind::Permit
-    } else if program.starts_with(&[255; 16]) {
-        Kind::Burn
-    } else {
-        Kind::Money
+    // Most programs are told apart by their first byte.
+    match program.first() {
+        Some(254) if program.starts_with(&[254; 16]) => Kind::Permit,
+        Some(255) if program.starts_with(&[255; 16]) => Kind::Burn,
+        _ => Kind::Money,
     }
 }

@@ -34,7 +34,7 @@ impl<
     B: Locks + Send + Sync,
     X: Source,
 > LaneRun<'a, W, D, S, B, X> {
-    /// Runs the lane's transactions, and keeps its result. Then it lets go of its sentinel, which needs no room any more where the lane has ended early.
+    /// Runs the lane's transactions, and keeps its result. Then it lets go of its sentinel, which makes nothing more for it.
     ///
     /// A settled, idle lane at seats of the wave's locks ends so: it is the same lane with the same transactions, and its seats are of the same
     /// locks; either it has done all that it got and is idle, and reports its batches, each done behind the one before it with the outcomes of its

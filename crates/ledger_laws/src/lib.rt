@@ -22,9 +22,9 @@ pub fn flow_law()
     ensures { FlowLaw }
 {}
 
-/// A transaction that names money alone, with equal sums, keeps the money. So what was proper before
-/// there were permits is proper, and a ledger that was kept then is kept, where nothing that was handed
-/// in before names a permit or a burn output.
+/// A transaction that names money alone, with equal sums, has none of the refusals of permits and burnt
+/// outputs, and keeps the money. So one that was proper before there were permits is proper still, where
+/// it names neither a permit nor a burnt output.
 pub fn plain_law()
     ensures { PlainLaw }
 {}
