@@ -1,4 +1,4 @@
-//! Whether hashes, entries, replies, outcomes, transactions, records and journals are the same, whether a reply or an outcome is Held, what of a
+//! Whether hashes, batches, entries, outcomes, outputs, transactions and journals are the same, whether a reply or an outcome is Held, what of a
 //! batch lies on a shard, and what a journal says of a batch and of a lane, by looking back. Journals are lists whose newest record comes first.
 //!
 //! - Tested in `journal_rows`.
@@ -20,12 +20,9 @@ pub use lookups::{
     txs_of,
 };
 pub use parts::{
-    are_elsewhere, entry_at, hashes_on, home_of, is_concerned, is_entry_at, is_part_from, part_of,
+    are_elsewhere, entry_at, hashes_on, home_of, is_concerned, is_entry_at, is_part_from,
 };
-pub use records::{are_compacts, is_compact, is_journal, is_record};
-pub use same::{
-    are_answered, are_decisions, are_hashes, are_outcomes, is_batch, is_entry, is_hash, is_header,
-    is_outcome, is_part, is_reply,
-};
+pub use records::{are_compacts, is_compact, is_journal};
+pub use same::{are_answered, are_outcomes, is_batch, is_hash};
 pub use slots::{Phase, Slot, slot_of, slot_stamp};
 pub use values::{is_held, is_same_batch, is_same_hash, is_won};

@@ -4,7 +4,7 @@ ghost use Rattle.cbdc_model.specs.Replies.{entries};
 ghost use Rattle.cbdc_model.specs.Ranges.{on_shard, is_empty, entry_of, part, is_no_part, home_of, Concerned};
 
 use crate::is_hash;
-use cbdc_types::{Answered, CompactTx, Entry, Hash, LaneId, List, NodeId, Part, Shape};
+use cbdc_types::{Answered, CompactTx, Entry, Hash, LaneId, List, NodeId, Shape};
 use shard_ranges::shard_of;
 use std::alloc::{AllocError, Global};
 
@@ -72,46 +72,6 @@ pub fn are_elsewhere(shards: u32, shard: u32, xs: &[Hash]) -> bool
         None => true,
         Some((x, rest)) => shard_of(x, shards) != shard && are_elsewhere(shards, shard, rest),
     }
-}
-
-// Puts the part of the transactions from this place on behind the entries so far.
-fn add_part(
-    alloc: Global,
-    shards: u32,
-    shard: u32,
-    place: u32,
-    txs: &[CompactTx],
-    out: &mut Vec<Entry>,
-) -> Result<(), AllocError>
-    requires shards { shards < 2 ^ 24 }
-    requires places { place + length txs.now < 2 ^ 32 }
-    ensures { OnOk result (out.new.items ≡ out.old.items ++ part shards shard place txs.now) }
-{
-    let Some((t, rest)) = txs.split_first() else {
-        return Ok(());
-    };
-    if !(are_elsewhere(shards, shard, t.inputs.as_slice())
-        && are_elsewhere(shards, shard, t.outputs.as_slice()))
-    {
-        out.push(entry_at(alloc, shards, shard, place, t)?)?;
-    }
-    add_part(alloc, shards, shard, place + 1, rest, out)
-}
-
-/// The part of a batch's transactions for a shard: an entry for each that has a hash there.
-pub fn part_of(
-    alloc: Global,
-    shards: u32,
-    shard: u32,
-    txs: &[CompactTx],
-) -> Result<Part, AllocError>
-    requires shards { shards < 2 ^ 24 }
-    requires places { length txs.now < 2 ^ 32 }
-    ensures { IfOk result (λ l. l ≡ part shards shard 0 txs.now) }
-{
-    let mut out = Vec::new(alloc);
-    add_part(alloc, shards, shard, 0, txs, &mut out)?;
-    Ok(List::from_vec(out))
 }
 
 // Whether no transaction, the first of which has this place, has a hash on a shard.

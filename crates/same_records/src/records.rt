@@ -19,14 +19,6 @@ pub fn are_compacts(ts: &[CompactTx], us: &[CompactTx]) -> bool
     ts == us
 }
 
-/// Whether two records are the same.
-#[tactic(auto, using(crate::proofs::Deciding::record_decides))]
-pub fn is_record(r: &Record, q: &Record) -> bool
-    ensures { IsTrue result ↔ (r.now ≡ q.now) }
-{
-    r == q
-}
-
 /// Whether two journals are the same.
 #[tactic(auto, using(crate::proofs::Deciding::records_decide))]
 pub fn is_journal(rs: &[Record], qs: &[Record]) -> bool
