@@ -1,6 +1,8 @@
 /* Refuses one growth of memory to the program before which it is loaded (LD_PRELOAD): the REFUSE_AT-th time, from 1, that the program itself, and
-   no library of its, calls malloc, calloc or realloc. The file REFUSE_TOLD has how often the program did, as a number of eight bytes. */
+   no library of its, calls malloc, calloc or realloc. The file REFUSE_TOLD has how often the program did, as a number of eight bytes. Where REFUSE_BEHIND
+   is set, only the calls of its first thread count, from the first write to a file on (pwrite, which a pipe can't have). */
 #define _GNU_SOURCE
+#include <dlfcn.h>
 #include <errno.h>
 #include <link.h>
 #include <stdatomic.h>
@@ -16,6 +18,10 @@ static atomic_ulong none_told;
 static atomic_ulong *calls = &none_told;
 static unsigned long refused_at;
 static char *low, *high;
+static int only_behind;
+static atomic_int has_written;
+static __thread int is_first;
+static ssize_t (*write_at)(int, const void *, size_t, off_t);
 
 /* The first object that is told is the program. */
 static int bounds(struct dl_phdr_info *info, size_t size, void *data)
@@ -39,6 +45,9 @@ __attribute__((constructor)) static void begin(void)
 {
     const char *at = getenv("REFUSE_AT");
     refused_at = at ? strtoul(at, NULL, 10) : 0;
+    only_behind = getenv("REFUSE_BEHIND") != NULL;
+    is_first = 1;
+    write_at = (ssize_t (*)(int, const void *, size_t, off_t))dlsym(RTLD_NEXT, "pwrite");
     calls = told_in("REFUSE_TOLD", &none_told, sizeof none_told);
     dl_iterate_phdr(bounds, NULL);
 }
@@ -46,6 +55,8 @@ __attribute__((constructor)) static void begin(void)
 static int refuses(const void *caller)
 {
     if ((char *)caller < low || (char *)caller >= high)
+        return 0;
+    if (only_behind && !(is_first && atomic_load(&has_written)))
         return 0;
     if (atomic_fetch_add(calls, 1) + 1 != refused_at)
         return 0;
@@ -66,4 +77,10 @@ void *calloc(size_t count, size_t size)
 void *realloc(void *old, size_t size)
 {
     return refuses(__builtin_return_address(0)) ? NULL : __libc_realloc(old, size);
+}
+
+ssize_t pwrite(int file, const void *bytes, size_t size, off_t at)
+{
+    atomic_store(&has_written, 1);
+    return write_at(file, bytes, size, at);
 }

@@ -1,4 +1,4 @@
-//! Rows on the real devices, which stand in code, and measures of parts of the program. The program `ledger_rows` runs both.
+//! Rows on the real devices, which stand in code, and measures of parts of the program. The program `part_rows` runs both.
 //!
 //! - Rows: a disk, a rack and an inbox over real files; and what the gate that measures calls finds slow, by a clock that stands in. Each line is
 //!   written to the real output.

@@ -1,11 +1,9 @@
 // Two runs of the program over devices in memory that never fail.
-use crate::play::{files_of, owned, text_in};
-use crate::state::{ROOM, State};
-use crate::words::count_at;
 use commands::{Done, process_in_memory};
 use line_text::status_code;
 use mem_devices::{PlainRack, PlainSink};
 use outside::OpenGate;
+use rack_rows::{ROOM, State, count_at, files_of, owned, text_in};
 use row_records::{Told, rest, words_around};
 use std::sync::Wait;
 use std::thread::Threads;

@@ -1,9 +1,8 @@
 // A run of a work with a test of its own over devices in memory.
 use crate::few::resume_few;
-use crate::play::{Ran, gate_of, output_of, rack_of};
-use crate::state::State;
 use cbdc_types::Answer;
 use line_text::{status_code, write_fault};
+use rack_rows::{Ran, State, gate_of, output_of, rack_of, ran};
 use row_records::Told;
 use std::sync::Wait;
 use std::thread::Threads;
@@ -26,12 +25,5 @@ pub fn play_tested<W: Wait + Threads + Sync>(
     if write_fault(&mut out, &answer, "").is_err() {
         told.refuse("the output is full");
     }
-    Some(Ran {
-        status: u64::from(status_code(&answer)),
-        points: gate.into_points(told),
-        files: Vec::new(alloc),
-        nodes: rack.nodes,
-        out,
-        rack: rack.disks,
-    })
+    Some(ran(status_code(&answer), gate, Vec::new(alloc), rack, out, told))
 }

@@ -1,6 +1,6 @@
 //! Rows on the lock round a node, which need threads: what lanes that run beside each other leave, what a look tells, and where calls wait; on a
 //! sentinel ahead of a lane; and on the calls of a phase, made at once.
-//! A row whose name begins with `differs` does not hold. The program `ledger_rows` runs them, ahead of its files.
+//! A row whose name begins with `differs` does not hold. The program `part_rows` runs them, ahead of its files.
 #![tactic(auto)]
 
 mod book;

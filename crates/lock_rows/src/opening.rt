@@ -1,7 +1,8 @@
 // A shard in memory that has one coin.
 use cbdc_types::{Hash, Header, List, Record};
+use gate_journal::Journal;
 use mem_devices::PlainDisk;
-use rack_ledgers::{Wrote, write_first};
+use record_log::write_record;
 use shard_node::ShardNode;
 use std::alloc::Global;
 
@@ -14,13 +15,31 @@ pub fn only<T: Drop>(alloc: Global, item: T) -> Option<List<T>> {
     }
 }
 
-// A disk of this size with a record that is to be its first; nothing is there where that fails.
-fn written(alloc: Global, first: &Record, header: &Header, size: usize) -> Option<PlainDisk> {
+// More bytes than the Genesis of one coin has.
+const ROOM: usize = 200;
+
+// The disk of a journal that has no body yet, with this one; nothing is there where that fails.
+fn appended(mut journal: Journal<PlainDisk>, body: &[u8]) -> Option<PlainDisk> {
+    if body.len() > ROOM {
+        return None;
+    }
+    match journal.reserve(ROOM as u64) {
+        Ok(()) => {}
+        Err(_) => return None,
+    }
+    match journal.append(body) {
+        Ok(()) => Some(journal.into_disk()),
+        Err(_) => None,
+    }
+}
+
+// A disk of this size with a body that is to be its first; nothing is there where that fails.
+fn written(alloc: Global, body: &[u8], size: usize) -> Option<PlainDisk> {
     match PlainDisk::new(alloc, size) {
-        Ok(disk) => {
-            let Wrote { disk, result: _ } = write_first(alloc, disk, first, header);
-            Some(disk)
-        }
+        Ok(disk) => match Journal::format(alloc, disk) {
+            Ok(journal) => appended(journal, body),
+            Err(_) => None,
+        },
         Err(_) => None,
     }
 }
@@ -29,9 +48,11 @@ fn written(alloc: Global, first: &Record, header: &Header, size: usize) -> Optio
 fn disk_of(alloc: Global, header: Header, coin: Hash, size: usize) -> Option<PlainDisk> {
     let hashes = only(alloc, coin)?;
     let first = Record::Genesis { header, hashes };
-    let disk = written(alloc, &first, &header, size);
-    drop(first);
-    disk
+    let mut body = Vec::new(alloc);
+    match write_record(&first, &header, &mut body) {
+        Ok(()) => written(alloc, body.as_slice(), size),
+        Err(_) => None,
+    }
 }
 
 // The shard on a disk.

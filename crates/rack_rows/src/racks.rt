@@ -1,7 +1,7 @@
 // Steps that lay disks, keep them and change them.
 use crate::disks::{DiskState, cut, digits_of};
 use crate::files::change_bytes;
-use crate::play::{Left, Ran};
+use crate::runs::{Left, Ran};
 use crate::state::State;
 use crate::verbs::{Verb, verb_of};
 use crate::words::{count_at, hex, hex_at};

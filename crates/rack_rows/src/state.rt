@@ -1,7 +1,7 @@
 // What a row has made so far: names, disks, and what the last run left.
 use crate::disks::{DiskState, cut, tell_digits, text_of};
 use crate::ordering::Holding;
-use crate::play::Ran;
+use crate::runs::Ran;
 use crate::words::{count_at, hex};
 use outside::Point;
 use row_records::{Names, Told, Wrong};

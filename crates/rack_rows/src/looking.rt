@@ -1,6 +1,6 @@
 // Steps that look at what is there: each tells what came, which is then compared with what the row says.
 use crate::disks::{DiskState, digits_of, kind_word, tell_gates, tell_records, text_of};
-use crate::play::Ran;
+use crate::runs::Ran;
 use crate::state::State;
 use crate::verbs::Verb;
 use crate::words::{count_at, hex_at};
