@@ -6,11 +6,11 @@ use Rattle.std.proofs.lemmas.Nat.{div-mul-add, div_below}
 use Rattle.std.specs.Global.{Vec}
 use Rattle.node_lock.specs.declared.lock.Guarded.{Guarded}
 use Rattle.node_lock.specs.declared.seat.Seat.{Seat}
-use Rattle.node_lock.specs.Seats.{TableId, AllAt, all_known, knows, table_of, lanes_of}
+use Rattle.node_lock.specs.Seats.{TableId, AllAt, all_known, knows, table_of}
 use Rattle.port_sets.specs.declared.coordinators.SharedLog.{SharedLog}
 use Rattle.port_sets.specs.declared.tables.Locks.{Ghosts}
 use Rattle.thread_laws.specs.Closing.{IsHand}
-use Rattle.lane_waves.specs.NodeRows.{HaveAllSeats}
+use Rattle.lane_waves.specs.NodeRows.{HaveAllSeats, lanes_of}
 use Rattle.lane_waves.proofs.Closing.{first_last}
 use Rattle.lane_waves.specs.declared.runs.LaneRun.{LaneRun}
 use Rattle.lane_waves.specs.Among.{hands_at}

@@ -1,7 +1,9 @@
 pub mod Closing
 pub mod Locking
 pub mod Rounds
+pub mod Numbers
 pub mod Passing
+pub mod Beside
 pub mod NodePlaces
 pub mod Porting
 pub mod Going
@@ -9,7 +11,6 @@ pub mod Returning
 pub mod Fresh
 pub mod Making
 pub mod Places
-pub mod Numbers
 pub mod Opening
 pub mod Lists
 pub mod Seating

@@ -5,13 +5,13 @@ use Rattle.std.specs.Global.{Vec}
 use Rattle.cbdc_model.specs.Sights.{Sight}
 use Rattle.node_lock.specs.declared.lock.Guarded.{Guarded}
 use Rattle.node_lock.specs.declared.seat.Seat.{Seat}
-use Rattle.node_lock.specs.Seats.{AreFresh, knows, first_of, opening_of, table_of, lanes_of}
+use Rattle.node_lock.specs.Seats.{AreFresh, knows, first_of, opening_of, table_of}
 use Rattle.node_lock.specs.Tickets.{fresh}
 use Rattle.cbdc_model.specs.Records.{Shape}
 use Rattle.port_sets.specs.Nodes.{log_sight}
 use Rattle.port_sets.specs.declared.coordinators.SharedLog.{SharedLog}
 use Rattle.lane_waves.specs.Dealing.{PopsEach, HaveOne}
-use Rattle.lane_waves.specs.NodeRows.{AreLeft}
+use Rattle.lane_waves.specs.NodeRows.{AreLeft, lanes_of}
 use Rattle.lane_waves.proofs.Locking.{fresh_at}
 use Rattle.lane_waves.proofs.Passing.{fresh_last, HaveLanes}
 use Rattle.lane_waves.specs.Places.{AllFrom}

@@ -8,14 +8,15 @@ use Rattle.node_lock.specs.declared.views.Hand.{Hand}
 use Rattle.node_lock.specs.declared.lock.Guarded.{Guarded}
 use Rattle.node_lock.specs.declared.seat.Seat.{Seat}
 use Rattle.node_lock.specs.Moving.{of_lane, Lives, Same}
-use Rattle.node_lock.specs.Seats.{AreFresh, AllAt, all_known, table_of, opening_of, lanes_of}
+use Rattle.node_lock.specs.Seats.{AreFresh, AllAt, all_known, table_of, opening_of}
 use Rattle.node_lock.specs.Tickets.{times, is_at, one_if, total, fresh, HandOk, AllHands, AllDrawn, HasLeft, Done}
-use Rattle.lane_waves.specs.NodeRows.{IsRow, AreRows, IsLocked, AreLocked, HasAllSeats, HaveAllSeats, IsClosed, AreClosed, IsStill, AreStill}
+use Rattle.lane_waves.specs.NodeRows.{IsRow, IsWatchedRow, AreWatchedRows, IsLocked, AreLocked, HasAllSeats, HaveAllSeats, IsClosed, AreClosed, IsStill, AreStill, lanes_of}
+use Rattle.lane_waves.specs.Watching.{IsFreshWatcher, AreFreshWatchers, AreWatching}
 use Rattle.lane_waves.proofs.Closing.{last_first}
 
-pub rows_last : (rs : List (Vec ℕ)) (r : Vec ℕ) → AreRows (rs ++ r ∷ []) → AreRows rs × IsRow r.items
-rows_last [] r k = (tt, k.0)
-rows_last (x ∷ rs) r k = let m = rows_last rs r k.1 in ((k.0, m.0), m.1)
+pub rows_last : (w : ℕ) (rs : List (Vec ℕ)) (r : Vec ℕ) → AreWatchedRows w (rs ++ r ∷ []) → AreWatchedRows w rs × IsWatchedRow w r.items
+rows_last w [] r k = (tt, k.0)
+rows_last w (x ∷ rs) r k = let m = rows_last w rs r k.1 in ((k.0, m.0), m.1)
 
 -- what fresh seats know
 module _ {N : Type 0} (sight : N → Sight) where
@@ -107,39 +108,52 @@ module _ {N : Type 0} (sight : N → Sight) where
       let e : length s.items ≡ length (lanes_of g) = f.1 ∙ sym (ap (λ (xs : List ℕ). length xs) k.0.lanes_are) in
       (record { ready = (f.0, e, let a = f.1 in let b = k.0.row.some in omega (arith, a, b)) }, locked_ready ns rs gs ss k.1)
 
-  pub record Locking (ns0 : List N) (rs0 : List (Vec ℕ)) (ns : List N) (rs : List (Vec ℕ)) (gs : List (Guarded N)) (ss : List (Vec (Seat N))) : Type 0 where
+  pub record Locking (w : ℕ) (ns0 : List N) (rs0 : List (Vec ℕ)) (ns : List N) (rs : List (Vec ℕ)) (gs : List (Guarded N)) (ss : List (Vec (Seat N))) (ws : List (Seat N)) : Type 0 where
     pub made : List N
     pub given : List (Vec ℕ)
     pub nodes : ns0 ≡ ns ++ made
     pub rows : rs0 ≡ rs ++ given
     pub locked : AreLocked sight made given (reverse gs) (reverse ss)
-    pub fit : AreRows rs
+    pub watching : AreFreshWatchers sight w (reverse gs) (reverse ws)
+    pub fit : AreWatchedRows w rs
 
-  pub first_locked : (ns : List N) (rs : List (Vec ℕ)) (gs : List (Guarded N)) (ss : List (Vec (Seat N))) → gs ≡ [] → ss ≡ [] → AreRows rs → Locking ns rs ns rs gs ss
-  first_locked ns rs gs ss e f k = record {
+  pub first_locked : (w : ℕ) (ns : List N) (rs : List (Vec ℕ)) (gs : List (Guarded N)) (ss : List (Vec (Seat N))) (ws : List (Seat N)) → gs ≡ [] → ss ≡ [] → ws ≡ [] → AreWatchedRows w rs → Locking w ns rs ns rs gs ss ws
+  first_locked w ns rs gs ss ws e f h k = record {
     made = [];
     given = [];
     nodes = sym (append-nil ns);
     rows = sym (append-nil rs);
     locked = subst (λ xs. AreLocked sight [] [] (reverse xs) (reverse ss)) (sym e) (subst (λ ys. AreLocked sight [] [] [] (reverse ys)) (sym f) tt);
+    watching = subst (λ xs. AreFreshWatchers sight w (reverse xs) (reverse ws)) (sym e) (subst (λ ys. AreFreshWatchers sight w [] (reverse ys)) (sym h) tt);
     fit = k;
   }
 
-  pub more_locked : (ns0 : List N) (rs0 : List (Vec ℕ)) (ns ns' : List N) (rs rs' : List (Vec ℕ)) (gs gs' : List (Guarded N)) (ss ss' : List (Vec (Seat N))) (n : N) (r : Vec ℕ) (g : Guarded N) (s : Vec (Seat N))
-      → Locking ns0 rs0 ns rs gs ss → ns ≡ ns' ++ n ∷ [] → rs ≡ rs' ++ r ∷ [] → gs' ≡ gs ++ g ∷ [] → ss' ≡ ss ++ s ∷ []
-      → opening_of g ≡ n → lanes_of g ≡ r.items → AreFresh (sight n) n (table_of g) r.items s.items → Locking ns0 rs0 ns' rs' gs' ss'
-  more_locked ns0 rs0 ns ns' rs rs' gs gs' ss ss' n r g s k e f h j o l fresh_seats =
-      let fits = rows_last rs' r (subst AreRows f k.fit) in record {
+  pub more_locked : (w : ℕ) (ns0 : List N) (rs0 : List (Vec ℕ)) (ns ns' : List N) (rs rs' : List (Vec ℕ)) (gs gs' : List (Guarded N)) (ss ss' : List (Vec (Seat N))) (ws ws' : List (Seat N))
+      (n : N) (r : Vec ℕ) (g : Guarded N) (s : Vec (Seat N)) (t : Seat N)
+      → Locking w ns0 rs0 ns rs gs ss ws → ns ≡ ns' ++ n ∷ [] → rs ≡ rs' ++ r ∷ [] → gs' ≡ gs ++ g ∷ [] → ss' ≡ ss ++ s ∷ [] → ws' ≡ ws ++ t ∷ []
+      → opening_of g ≡ n → lanes_of g ≡ r.items → AreFresh (sight n) n (table_of g) r.items s.items → IsFreshWatcher sight w g t → Locking w ns0 rs0 ns' rs' gs' ss' ws'
+  more_locked w ns0 rs0 ns ns' rs rs' gs gs' ss ss' ws ws' n r g s t k e f h j i o l fresh_seats watch =
+      let fits = rows_last w rs' r (subst (AreWatchedRows w) f k.fit) in record {
         made = n ∷ k.made;
         given = r ∷ k.given;
         nodes = k.nodes ∙ (ap (λ xs. xs ++ k.made) e ∙ append_assoc ns' (n ∷ []) k.made);
         rows = k.rows ∙ (ap (λ xs. xs ++ k.given) f ∙ append_assoc rs' (r ∷ []) k.given);
         locked = subst (λ xs. AreLocked sight (n ∷ k.made) (r ∷ k.given) xs (reverse ss')) (sym (last_first gs gs' g h))
-            (subst (λ ys. AreLocked sight (n ∷ k.made) (r ∷ k.given) (g ∷ reverse gs) ys) (sym (last_first ss ss' s j)) (record { node = o; lanes_are = l; seats = fresh_seats; row = fits.1 }, k.locked));
+            (subst (λ ys. AreLocked sight (n ∷ k.made) (r ∷ k.given) (g ∷ reverse gs) ys) (sym (last_first ss ss' s j)) (record { node = o; lanes_are = l; seats = fresh_seats; row = fits.1.row }, k.locked));
+        watching = subst (λ xs. AreFreshWatchers sight w xs (reverse ws')) (sym (last_first gs gs' g h))
+            (subst (λ ys. AreFreshWatchers sight w (g ∷ reverse gs) ys) (sym (last_first ws ws' t i)) (watch, k.watching));
         fit = fits.0;
       }
 
-  pub all_locked : (ns0 : List N) (rs0 : List (Vec ℕ)) (ns : List N) (rs : List (Vec ℕ)) (gs : List (Guarded N)) (ss : List (Vec (Seat N))) → Locking ns0 rs0 ns rs gs ss → ns ≡ [] → rs ≡ [] → AreLocked sight ns0 rs0 (reverse gs) (reverse ss)
-  all_locked ns0 rs0 ns rs gs ss k e f =
+  pub all_locked : (w : ℕ) (ns0 : List N) (rs0 : List (Vec ℕ)) (ns : List N) (rs : List (Vec ℕ)) (gs : List (Guarded N)) (ss : List (Vec (Seat N))) (ws : List (Seat N)) → Locking w ns0 rs0 ns rs gs ss ws → ns ≡ [] → rs ≡ []
+      → AreLocked sight ns0 rs0 (reverse gs) (reverse ss)
+  all_locked w ns0 rs0 ns rs gs ss ws k e f =
       subst (λ xs. AreLocked sight xs rs0 (reverse gs) (reverse ss)) (sym (k.nodes ∙ ap (λ xs. xs ++ k.made) e))
       (subst (λ ys. AreLocked sight k.made ys (reverse gs) (reverse ss)) (sym (k.rows ∙ ap (λ ys. ys ++ k.given) f)) k.locked)
+
+  -- fresh watchers have only looked
+  pub just_fresh : (w : ℕ) (gs : List (Guarded N)) (ws : List (Seat N)) → AreFreshWatchers sight w gs ws → AreWatching gs ws
+  just_fresh w [] [] k = tt
+  just_fresh w [] (t ∷ ws) k = absurd k
+  just_fresh w (g ∷ gs) [] k = absurd k
+  just_fresh w (g ∷ gs) (t ∷ ws) k = (k.0.watching, just_fresh w gs ws k.1)

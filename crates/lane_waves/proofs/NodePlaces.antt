@@ -7,11 +7,11 @@ use Rattle.cbdc_model.specs.Sights.{Sight}
 use Rattle.node_lock.specs.declared.lock.Guarded.{Guarded}
 use Rattle.node_lock.specs.declared.seat.Seat.{Seat}
 use Rattle.node_lock.specs.Moving.{Same}
-use Rattle.node_lock.specs.Seats.{all_known, lanes_of}
+use Rattle.node_lock.specs.Seats.{all_known}
 use Rattle.node_lock.specs.Tickets.{Done}
 use Rattle.node_ports.specs.Nodes.{no_sight, sight_at}
 use Rattle.thread_laws.specs.Running.{NodeRan}
-use Rattle.lane_waves.specs.NodeRows.{IsLocked, AreLocked, IsClosed, AreClosed, AreStill}
+use Rattle.lane_waves.specs.NodeRows.{IsLocked, AreLocked, IsClosed, AreClosed, AreStill, lanes_of}
 use Rattle.lane_waves.specs.Laws.{NodesRanLaw, NodesStillLaw, WentOn, HeldLaw}
 
 module _ {N : Type 0} (sight : N → Sight) (goes : N → N → Type 0) where

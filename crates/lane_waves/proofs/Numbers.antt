@@ -3,7 +3,7 @@ use Rattle.std.proofs.Common.{◌≡◌, ℕ, zero, suc, ◌+◌, ◌<◌, ◌�
 use Rattle.std.proofs.lemmas.Grind.{common_steps}
 use Rattle.std.specs.Global.{Vec}
 use Rattle.node_lock.specs.Tickets.{times, is_at, one_if}
-use Rattle.lane_waves.specs.NodeRows.{IsRow, AreRows}
+use Rattle.lane_waves.specs.NodeRows.{IsRow, AreRows, IsWatchedRow, AreWatchedRows}
 use Rattle.lane_waves.specs.Places.{AllFrom}
 use Rattle.lane_waves.specs.Rows.{lanes_from}
 
@@ -14,7 +14,7 @@ many_lanes first (suc n) = more (lanes_from first n) (first + n) n (many_lanes f
     more : (xs : List ℕ) (x n : ℕ) → length xs ≡ n → length (xs ++ x ∷ []) ≡ suc n
     more xs x n e = let z : length (xs ++ x ∷ []) ≡ n + 1 = grind (arith, common_steps, e) in omega (arith, z)
 
-times_more : (x y : ℕ) (xs : List ℕ) → times x (xs ++ y ∷ []) ≡ times x xs + is_at x y
+pub times_more : (x y : ℕ) (xs : List ℕ) → times x (xs ++ y ∷ []) ≡ times x xs + is_at x y
 times_more x y [] = omega arith
 times_more x y (z ∷ xs) = let e = times_more x y xs in omega (arith, e)
 
@@ -76,3 +76,16 @@ is_row first n some few = record {
 pub are_rows : (at : ℕ → ℕ) (n k : ℕ) (rows : List (Vec ℕ)) → 0 < n → n < 4294967296 → AllFrom (λ j r. r.items ≡ lanes_from (at j) n) k rows → AreRows rows
 are_rows at n k [] some few a = tt
 are_rows at n k (r ∷ rows) some few a = (subst IsRow (sym a.0) (is_row (at k) n some few), are_rows at n (suc k) rows some few a.1)
+
+-- an auditor's lane is beyond all of them
+pub are_watched_rows : (w : ℕ) (at : ℕ → ℕ) (n k : ℕ) (rows : List (Vec ℕ)) → 0 < n → n + 1 < 4294967296 → ((j : ℕ) → j < k + length rows → at j + n ≤ w)
+    → AllFrom (λ j r. r.items ≡ lanes_from (at j) n) k rows → AreWatchedRows w rows
+are_watched_rows w at n k [] some few far a = tt
+are_watched_rows w at n k (r ∷ rows) some few far a = (
+  subst (IsWatchedRow w) (sym a.0) (record {
+    row = is_row (at k) n some (omega (arith, few));
+    none = beyond w (at k) n (far k (omega arith));
+    fits = subst (λ m. m + 1 < 4294967296) (sym (many_lanes (at k) n)) few;
+  }),
+  are_watched_rows w at n (suc k) rows some few (λ j lt. far j (omega (arith, lt))) a.1,
+)

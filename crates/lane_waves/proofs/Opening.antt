@@ -11,13 +11,13 @@ use Rattle.cbdc_model.specs.Sights.{Sight}
 use Rattle.lane_driver.specs.Stops.{IsLaneSettled}
 use Rattle.node_lock.specs.declared.lock.Guarded.{Guarded}
 use Rattle.node_lock.specs.declared.seat.Seat.{Seat}
-use Rattle.node_lock.specs.Seats.{TableId, AreFresh, opening_of, table_of, lanes_of}
+use Rattle.node_lock.specs.Seats.{TableId, AreFresh, opening_of, table_of}
 use Rattle.node_ports.specs.Nodes.{sight_at}
 use Rattle.port_sets.specs.Seated.{no_table}
 use Rattle.port_sets.specs.Nodes.{shard_sight, log_sight}
 use Rattle.port_sets.specs.declared.coordinators.SharedLog.{SharedLog}
 use Rattle.port_sets.specs.declared.locking.SharedShard.{SharedShard}
-use Rattle.lane_waves.specs.NodeRows.{AreLocked}
+use Rattle.lane_waves.specs.NodeRows.{AreLocked, lanes_of}
 use Rattle.lane_waves.proofs.Locking.{fresh_at}
 use Rattle.lane_waves.specs.Ports.{AtTables}
 use Rattle.lane_waves.specs.Places.{AllFrom, BothFrom}

@@ -5,9 +5,9 @@ use Rattle.std.specs.Global.{Vec}
 use Rattle.cbdc_model.specs.Sights.{Sight}
 use Rattle.node_lock.specs.declared.lock.Guarded.{Guarded}
 use Rattle.node_lock.specs.declared.seat.Seat.{Seat}
-use Rattle.node_lock.specs.Seats.{TableId, AreFresh, AllAt, knows, first_of, table_of, opening_of, lanes_of}
+use Rattle.node_lock.specs.Seats.{TableId, AreFresh, AllAt, knows, first_of, table_of, opening_of}
 use Rattle.node_lock.specs.Tickets.{fresh}
-use Rattle.lane_waves.specs.NodeRows.{IsRow, IsLocked, AreLocked, HasAllSeats, HaveAllSeats, IsFreshSeat, AreLeft, AreDealt, AreSeatsBack, AreOf}
+use Rattle.lane_waves.specs.NodeRows.{IsRow, IsLocked, AreLocked, HasAllSeats, HaveAllSeats, IsFreshSeat, AreLeft, AreDealt, AreSeatsBack, AreOf, lanes_of}
 use Rattle.lane_waves.specs.Dealing.{Pops, PopsEach}
 
 module _ {N : Type 0} where

@@ -55,11 +55,20 @@ pub locks_many : {N : Type 0} (sight : N → Sight) (ns : List N) (rs : List (Ve
 locks_many sight ns rs gs ss k = sym (map_many opening_of gs) ∙ ap (λ (xs : List _). length xs) (openings sight ns rs gs ss k)
 
 -- a ledger has lanes, and few
-pub few_lanes : (K : Shape) → IsWithinLimits K → (0 < K.coordinators * K.lanes) × (K.coordinators * K.lanes < 4294967296)
+pub few_lanes : (K : Shape) → IsWithinLimits K → (0 < K.coordinators * K.lanes) × (K.coordinators * K.lanes < 4294967296) × (K.coordinators * K.lanes ≤ 256)
 few_lanes K limits =
     let low = mul-le 1 1 K.coordinators K.lanes limits.some_coordinator limits.some_lane in
     let high = mul-le K.coordinators K.lanes 16 16 limits.coordinators limits.lanes in
-    (omega (arith, low), omega (arith, high))
+    (omega (arith, low), omega (arith, high), high)
+
+-- a row's lanes are below the number of all
+pub rows_below : (c l j : ℕ) → j < c → j * l + l ≤ c * l
+rows_below c l j lt =
+    let one : suc j ≡ j + 1 = omega arith in
+    let row = next_row j (suc j) l one in
+    let same : l ≤ l = omega arith in
+    let all = mul-le (suc j) l c l (omega (arith, lt)) same in
+    omega (arith, row, all)
 
 row_is : (lanes : ℕ → List ℕ) (k : ℕ) (rs : List (Vec ℕ)) (n : ℕ) → AllFrom (λ j r. r.items ≡ lanes j) k rs → n < length rs → lanes_of_lock rs n ≡ lanes (k + n)
 row_is lanes k [] n a lt = absurd (let z : n < 0 = lt in omega (arith, z))

@@ -10,7 +10,7 @@ use Rattle.lane_driver.specs.Stops.{IsLaneSettled}
 use Rattle.ledger_runs.specs.Lanes.{LaneOf}
 use Rattle.node_lock.specs.declared.lock.Guarded.{Guarded}
 use Rattle.node_lock.specs.declared.seat.Seat.{Seat}
-use Rattle.node_lock.specs.Seats.{TableId, AreFresh, knows, opening_of, table_of, lanes_of}
+use Rattle.node_lock.specs.Seats.{TableId, AreFresh, knows, opening_of, table_of}
 use Rattle.node_lock.specs.Tickets.{fresh}
 use Rattle.node_lock.specs.Viewing.{viewed}
 use Rattle.node_ports.specs.Nodes.{sight_at}
@@ -19,7 +19,7 @@ use Rattle.port_sets.specs.declared.coordinators.SharedLog.{SharedLog}
 use Rattle.port_sets.specs.declared.locking.SharedShard.{SharedShard}
 use Rattle.port_sets.specs.declared.logged.LogSeat.{LogSeat}
 use Rattle.port_sets.specs.declared.tables.Locks.{Ghosts}
-use Rattle.lane_waves.specs.NodeRows.{AreLeft, AreDealt}
+use Rattle.lane_waves.specs.NodeRows.{AreLeft, AreDealt, lanes_of}
 use Rattle.lane_waves.specs.Held.{RunBegins, log_of, shards_of}
 use Rattle.lane_waves.specs.Ports.{ArePorts, AreNumbered, AtTables}
 use Rattle.lane_waves.specs.declared.runs.LaneRun.{LaneRun}

@@ -11,4 +11,6 @@ pub mod Lanes
 pub mod Deals
 pub mod Gathers
 pub mod Waves
+pub mod AllEnds
+pub mod Watching
 pub mod Rooms

@@ -1,7 +1,8 @@
 // The lanes of a wave, each on a thread of its own.
-ghost use Rattle.std.specs.Prelude.{◌<◌, ℕ, All, length, slice_index_or};
+ghost use Rattle.std.specs.Prelude.{All};
 ghost use denote.Param.Send.{IsSync, IsSend};
 ghost use Rattle.lane_waves.specs.Held.{RunBegins, RunEnds};
+ghost use Rattle.lane_waves.specs.AllEnds.{AllRunsEnd};
 
 use crate::seats::{SeatSet, run_over};
 use cbdc_types::{LaneId, Shape};
@@ -69,8 +70,7 @@ pub fn run_all<
     G: Gate + Sync,
 >(rt: &W, alloc: Global, shape: &Shape, runs: &mut [LaneRun<'a, W, D, S, B, X>], gate: &G)
     requires begin { All (RunBegins S.sight B.tables shape.now) runs.old }
-    ensures end { (i : ℕ) (d : _) → i < length runs.old
-        → RunEnds S.sight B.tables shape.now (slice_index_or runs.old i d) (slice_index_or runs.new i d) }
+    ensures end { AllRunsEnd S.sight B.tables shape.now runs.old runs.new }
 {
     let count = runs.len().max(1);
     thread::for_each_mut(

@@ -7,7 +7,8 @@ ghost use Rattle.node_journal.specs.Nodes.{sight};
 ghost use Rattle.node_ports.specs.Nodes.{sight_at, IsNodeHeld};
 ghost use Rattle.lane_driver.specs.Stops.{IsLaneSettled};
 ghost use Rattle.port_sets.specs.Nodes.{log_sight, shard_sight};
-ghost use Rattle.lane_waves.specs.NodeRows.{AreRows, AreLocked, AreStill, AreLeft};
+ghost use Rattle.lane_waves.specs.NodeRows.{AreWatchedRows, AreLocked, AreStill, AreLeft};
+ghost use Rattle.lane_waves.specs.Watching.{AreFreshWatchers};
 ghost use Rattle.lane_waves.specs.Held.{RunBegins};
 ghost use Rattle.thread_laws.specs.Running.{WaveRan};
 ghost use Rattle.lane_waves.specs.Laws.{WentOn};
@@ -279,17 +280,22 @@ fn lock_nodes<D: Disk, S: Shard>(
     nodes: SharedNodes<D, S>,
     home_rows: Vec<Vec<LaneId>>,
     shard_rows: Vec<Vec<LaneId>>,
+    watcher: LaneId,
 ) -> Result<LockedNodes<D, S>, SharedNodes<D, S>>
     requires logs_many { length home_rows.items ≡ length nodes.logs.items }
     requires shards_many { length shard_rows.items ≡ length nodes.shards.items }
-    requires logs_fit { AreRows home_rows.items }
-    requires shards_fit { AreRows shard_rows.items }
+    requires logs_fit { AreWatchedRows watcher home_rows.items }
+    requires shards_fit { AreWatchedRows watcher shard_rows.items }
     ensures logs { IfOk result
         (λ k. AreLocked log_sight nodes.logs.items home_rows.items k.logs.locks.items k.logs.seats.items) }
+    ensures logs_watched { IfOk result
+        (λ k. AreFreshWatchers log_sight watcher k.logs.locks.items k.logs.watchers.items) }
     ensures logs_room { IfOk result (λ k. (k.logs.room.items ≡ [])
         × (length nodes.logs.items ≤ vec_capacity k.logs.room)) }
     ensures shards { IfOk result (λ k. AreLocked
         (shard_sight S.sight) nodes.shards.items shard_rows.items k.shards.locks.items k.shards.seats.items) }
+    ensures shards_watched { IfOk result (λ k. AreFreshWatchers
+        (shard_sight S.sight) watcher k.shards.locks.items k.shards.watchers.items) }
     ensures shards_room { IfOk result (λ k. (k.shards.room.items ≡ [])
         × (length nodes.shards.items ≤ vec_capacity k.shards.room)) }
     ensures logs_back { IfErr result
@@ -298,15 +304,20 @@ fn lock_nodes<D: Disk, S: Shard>(
         (λ n. AreStill (shard_sight S.sight) (shard_goes S.goes) nodes.shards.items n.shards.items) }
 {
     let SharedNodes { logs, shards } = nodes;
-    let shards = match lock_all(alloc, shards, shard_rows) {
+    let shards = match lock_all(alloc, shards, shard_rows, watcher) {
         Ok(locked) => locked,
         Err(shards) => return Err(SharedNodes { logs, shards }),
     };
-    match lock_all(alloc, logs, home_rows) {
+    match lock_all(alloc, logs, home_rows, watcher) {
         Ok(logs) => Ok(LockedNodes { logs, shards }),
         Err(logs) => {
-            let Locked { locks, seats, room } = shards;
-            let shards = close_all(locks, seats, room);
+            let Locked {
+                locks,
+                seats,
+                watchers,
+                room,
+            } = shards;
+            let shards = close_all(locks, seats, watchers, room);
             Err(SharedNodes { logs, shards })
         }
     }
@@ -353,7 +364,10 @@ fn wave_shared<
     ensures shards_go { WentOn
         (shard_sight S.sight) (shard_goes S.goes) nodes.shards.items result.shards.items }
 {
-    let LockedNodes { logs, shards } = match lock_nodes(alloc, nodes, home_rows, shard_rows) {
+    let watcher = LaneId(shape.lane_count());
+    let LockedNodes { logs, shards } = match lock_nodes(
+        alloc, nodes, home_rows, shard_rows, watcher,
+    ) {
         Ok(locked) => locked,
         Err(nodes) => {
             stop_all(lanes);
@@ -363,11 +377,13 @@ fn wave_shared<
     let Locked {
         locks: log_locks,
         seats: homes,
+        watchers: log_watchers,
         room: log_room,
     } = logs;
     let Locked {
         locks: shard_locks,
         seats: rows,
+        watchers: shard_watchers,
         room: shard_room,
     } = shards;
     let seated = SeatedLanes {
@@ -390,8 +406,8 @@ fn wave_shared<
     );
     mem::replace(lanes, back).destroy_empty();
     SharedNodes {
-        logs: close_all(log_locks, homes, log_room),
-        shards: close_all(shard_locks, rows, shard_room),
+        logs: close_all(log_locks, homes, log_watchers, log_room),
+        shards: close_all(shard_locks, rows, shard_watchers, shard_room),
     }
 }
 

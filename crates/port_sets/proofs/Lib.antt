@@ -5,3 +5,4 @@ pub mod Deciding
 pub mod Stepping
 pub mod Owning
 pub mod Turning
+pub mod Listing

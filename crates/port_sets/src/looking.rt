@@ -1,14 +1,16 @@
 // What is told of a node that lanes share, from its journal.
 ghost use Rattle.std.specs.Prelude.{◌≡◌, IfOk};
-ghost use Rattle.port_sets.specs.Looks.{tells_of, lists_all};
+ghost use Rattle.node_lock.specs.Seats.{knows, IsSeatOf};
+ghost use Rattle.port_sets.specs.Looks.{tells_of, lists_all, HasListed};
 
 use crate::coordinators::SharedLog;
 use crate::locking::SharedShard;
 use crate::nodes::Shard;
 use cbdc_types::{Hash, Record, Status};
-use node_lock::Asked;
+use node_lock::{Asked, Guarded, Seat};
 use outside::Disk;
 use std::alloc::{AllocError, Global};
+use std::sync::Wait;
 
 /// What a shard can be asked for.
 #[derive(Drop)]
@@ -68,5 +70,36 @@ impl<D: Disk> Asked for SharedLog<D> {
 
     fn ask(&self, alloc: &Global) -> Result<Vec<Record>, AllocError> {
         copied(*alloc, self.node.records())
+    }
+}
+
+/// All records of a coordinator, the oldest first, once the seat's turn has come: they are what the seat has seen then. Nothing is written.
+pub fn list_log<R: Wait, D: Disk>(
+    rt: &R,
+    alloc: Global,
+    guarded: &Guarded<SharedLog<D>>,
+    seat: &mut Seat<SharedLog<D>>,
+) -> Result<Vec<Record>, AllocError>
+    requires seat { IsSeatOf guarded.now seat.old }
+    ensures seat { IsSeatOf guarded.now seat.new }
+    ensures listed { HasListed (knows seat.old) (knows seat.new) result }
+{
+    guarded.look(rt, seat, &alloc)
+}
+
+/// The same of a shard.
+pub fn list_shard<R: Wait, S: Shard>(
+    rt: &R,
+    alloc: Global,
+    guarded: &Guarded<SharedShard<S>>,
+    seat: &mut Seat<SharedShard<S>>,
+) -> Result<Vec<Record>, AllocError>
+    requires seat { IsSeatOf guarded.now seat.old }
+    ensures seat { IsSeatOf guarded.now seat.new }
+    ensures listed { HasListed (knows seat.old) (knows seat.new) result }
+{
+    match guarded.look(rt, seat, &ShardAsk::Records(alloc)) {
+        ShardAnswer::Listed(all) => all,
+        ShardAnswer::Known(_) => unreachable!(),
     }
 }

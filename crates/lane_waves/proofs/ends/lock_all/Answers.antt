@@ -2,8 +2,8 @@ use Rattle.std.proofs.Common.{rules, ◌≡◌, ◌≤◌, ◌<◌, ℕ, List, l
 use Rattle.std.proofs.lemmas.Grind.{common_steps}
 use Rattle.node_lock.specs.Seats.{AreFresh, table_of}
 use Rattle.node_lock.specs.Tickets.{times}
-use Rattle.lane_waves.specs.NodeRows.{AreRows, AreStill}
-use Rattle.lane_waves.proofs.Locking.{rows_last, first_locked, more_locked, locked_ready, all_still, all_same, same_before}
+use Rattle.lane_waves.specs.NodeRows.{AreWatchedRows, AreStill}
+use Rattle.lane_waves.proofs.Locking.{rows_last, first_locked, more_locked, all_locked, locked_ready, just_fresh, all_still, all_same, same_before}
 use Rattle.lane_waves.proofs.Places.{snoc_many, many_less, many_more, many_over, many_fit, many_still}
 use Rattle.lane_waves.proofs.ends.lock_all.Goals as goal
 
@@ -14,9 +14,16 @@ pub returns-in_default-with_capacity-clause-back :
     goal.returns-in_default-with_capacity-clause-back
 returns-in_default-with_capacity-clause-back g c = all_same g.N.Sighted.sight g.N.Sighted.goes g.met.N.Sighted.same c.args.nodes.items
 
+pub returns-in_default-with_capacity-2-clause-back :
+    goal.returns-in_default-with_capacity-2-clause-back
+returns-in_default-with_capacity-2-clause-back g c = all_same g.N.Sighted.sight g.N.Sighted.goes g.met.N.Sighted.same c.args.nodes.items
+
 pub loop-node-init : goal.loop-node-init
 loop-node-init g c = (
-  first_locked g.N.Sighted.sight c.args.nodes.items c.args.rows.items c.in-Ok.locks.items c.in-Ok-with_capacity.seats.items c.in-Ok.ensures.items c.in-Ok-with_capacity.ensures.items c.requires.fit,
+  first_locked g.N.Sighted.sight c.args.watcher c.args.nodes.items c.args.rows.items c.in-Ok.locks.items c.in-Ok-with_capacity.seats.items c.in-Ok-with_capacity-2.watchers.items
+      c.in-Ok.ensures.items c.in-Ok-with_capacity.ensures.items c.in-Ok-with_capacity-2.ensures.items c.requires.fit,
+  search rules,
+  search rules,
   search rules,
   search rules,
   search rules,
@@ -26,14 +33,14 @@ loop-node-init g c = (
   search rules,
 )
 
-pub new-requires-clause-few : goal.new-requires-clause-few
-new-requires-clause-few g c = subst (λ (xs : List ℕ). length xs < 4294967296) (sym c.as_slice.ensures.value) (rows_last c.pop-in-Some.new.self.items c.in-Some-pop.row (subst AreRows c.in-Some-pop.ensures.items c.loop-node.invariant.0.fit)).1.few
-
-pub new-requires-clause-apart : goal.new-requires-clause-apart
-new-requires-clause-apart g c = subst (λ (xs : List ℕ). (x : ℕ) → times x xs ≤ 1) (sym c.as_slice.ensures.value) (rows_last c.pop-in-Some.new.self.items c.in-Some-pop.row (subst AreRows c.in-Some-pop.ensures.items c.loop-node.invariant.0.fit)).1.apart
+pub lock_one-requires : goal.lock_one-requires
+lock_one-requires g c = (rows_last c.args.watcher c.pop-in-Some.new.self.items c.in-Some-pop.row (subst (AreWatchedRows c.args.watcher) c.in-Some-pop.ensures.items c.loop-node.invariant.0.fit)).1
 
 pub close_onto-requires-clause-ready : goal.close_onto-requires-clause-ready
 close_onto-requires-clause-ready g c = let k = c.loop-node.invariant.0 in locked_ready g.N.Sighted.sight k.made k.given (reverse c.loop-node.locks.items) (reverse c.loop-node.seats.items) k.locked
+
+pub close_onto-requires-clause-watching : goal.close_onto-requires-clause-watching
+close_onto-requires-clause-watching g c = let k = c.loop-node.invariant.0 in just_fresh g.N.Sighted.sight c.args.watcher (reverse c.loop-node.locks.items) (reverse c.loop-node.watchers.items) k.watching
 
 pub returns-in-Err-clause-back : goal.returns-in-Err-clause-back
 returns-in-Err-clause-back g c =
@@ -49,37 +56,41 @@ returns-in-Err-clause-back g c =
 pub loop-node-preserved : goal.loop-node-preserved
 loop-node-preserved g c =
     let inv = c.loop-node.invariant in
-    let o = c.in-Ok-new.ensures in
+    let o = c.in-Ok-lock_one.ensures in
     let n = snoc_many c.loop-node.nodes.items c.pop.new.self.items c.in-Some.node c.in-Some.ensures.items in
     let r = snoc_many c.loop-node.rows.items c.pop-in-Some.new.self.items c.in-Some-pop.row c.in-Some-pop.ensures.items in
-    let l = snoc_many c.push_reserved.new.self.items c.loop-node.locks.items c.in-Ok-new.lock c.push_reserved.ensures.items in
-    let s = snoc_many c.push_reserved-in-Ok-new.new.self.items c.loop-node.seats.items c.in-Ok-new.own c.push_reserved-in-Ok-new.ensures.items in (
-      more_locked g.N.Sighted.sight c.args.nodes.items c.args.rows.items c.loop-node.nodes.items c.pop.new.self.items c.loop-node.rows.items c.pop-in-Some.new.self.items
-          c.loop-node.locks.items c.push_reserved.new.self.items c.loop-node.seats.items c.push_reserved-in-Ok-new.new.self.items
-          c.in-Some.node c.in-Some-pop.row c.in-Ok-new.lock c.in-Ok-new.own inv.0 c.in-Some.ensures.items c.in-Some-pop.ensures.items c.push_reserved.ensures.items c.push_reserved-in-Ok-new.ensures.items
-          o.opening.0 (o.opening.1 ∙ c.as_slice.ensures.value)
-          (subst (λ (xs : List ℕ). AreFresh (g.N.Sighted.sight c.in-Some.node) c.in-Some.node (table_of c.in-Ok-new.lock) xs c.in-Ok-new.own.items) c.as_slice.ensures.value o.seats),
+    let l = snoc_many c.push_reserved.new.self.items c.loop-node.locks.items c.in-Ok-lock_one.lock c.push_reserved.ensures.items in
+    let s = snoc_many c.push_reserved-in-Ok-lock_one.new.self.items c.loop-node.seats.items c.in-Ok-lock_one.own c.push_reserved-in-Ok-lock_one.ensures.items in
+    let t = snoc_many c.push_reserved-in-Ok-lock_one-2.new.self.items c.loop-node.watchers.items c.in-Ok-lock_one.watch c.push_reserved-in-Ok-lock_one-2.ensures.items in (
+      more_locked g.N.Sighted.sight c.args.watcher c.args.nodes.items c.args.rows.items c.loop-node.nodes.items c.pop.new.self.items c.loop-node.rows.items c.pop-in-Some.new.self.items
+          c.loop-node.locks.items c.push_reserved.new.self.items c.loop-node.seats.items c.push_reserved-in-Ok-lock_one.new.self.items c.loop-node.watchers.items c.push_reserved-in-Ok-lock_one-2.new.self.items
+          c.in-Some.node c.in-Some-pop.row c.in-Ok-lock_one.lock c.in-Ok-lock_one.own c.in-Ok-lock_one.watch inv.0 c.in-Some.ensures.items c.in-Some-pop.ensures.items c.push_reserved.ensures.items
+          c.push_reserved-in-Ok-lock_one.ensures.items c.push_reserved-in-Ok-lock_one-2.ensures.items o.opening o.lanes o.seats o.watcher,
       many_less _ _ _ _ r n inv.1,
       many_over _ _ _ _ _ n l inv.2,
       many_more _ _ _ _ s l inv.3,
       many_still _ _ _ c.push_reserved.ensures.capacity inv.4,
-      many_still _ _ _ c.push_reserved-in-Ok-new.ensures.capacity inv.5,
+      many_still _ _ _ c.push_reserved-in-Ok-lock_one.ensures.capacity inv.5,
       many_still _ _ _ c.pop.ensures.capacity inv.6,
       inv.7,
+      many_more _ _ _ _ t l inv.8,
+      many_still _ _ _ c.push_reserved-in-Ok-lock_one-2.ensures.capacity inv.9,
     )
-
-pub new-requires-clause-some : goal.new-requires-clause-some
-new-requires-clause-some g c = subst (λ (xs : List ℕ). 0 < length xs) (sym c.as_slice.ensures.value) (rows_last c.pop-in-Some.new.self.items c.in-Some-pop.row (subst AreRows c.in-Some-pop.ensures.items c.loop-node.invariant.0.fit)).1.some
 
 pub push_reserved-requires : goal.push_reserved-requires
 push_reserved-requires g c =
     let inv = c.loop-node.invariant in
     many_fit _ _ _ _ _ _ (snoc_many c.loop-node.nodes.items c.pop.new.self.items c.in-Some.node c.in-Some.ensures.items) inv.2 inv.4 c.loop-node.locks.ok.0
 
-pub push_reserved-requires-in-Ok-new : goal.push_reserved-requires-in-Ok-new
-push_reserved-requires-in-Ok-new g c =
+pub push_reserved-requires-in-Ok-lock_one : goal.push_reserved-requires-in-Ok-lock_one
+push_reserved-requires-in-Ok-lock_one g c =
     let inv = c.loop-node.invariant in
     many_fit _ _ _ _ _ _ (snoc_many c.loop-node.nodes.items c.pop.new.self.items c.in-Some.node c.in-Some.ensures.items) inv.2 inv.5 (c.loop-node.seats.ok.0 ∙ inv.3)
+
+pub push_reserved-requires-in-Ok-lock_one-2 : goal.push_reserved-requires-in-Ok-lock_one-2
+push_reserved-requires-in-Ok-lock_one-2 g c =
+    let inv = c.loop-node.invariant in
+    many_fit _ _ _ _ _ _ (snoc_many c.loop-node.nodes.items c.pop.new.self.items c.in-Some.node c.in-Some.ensures.items) inv.2 inv.9 (c.loop-node.watchers.ok.0 ∙ inv.8)
 
 pub returns-clause-locked : goal.returns-clause-locked
 returns-clause-locked g c = grind (arith, common_steps)

@@ -16,7 +16,7 @@ returns g c =
     let olds = c.args.table.runs in
     let news = c.run_all.new.runs in
     let same : length news ≡ length olds.items = c.run_all.auto.runs ∙ ap (λ (xs : List _). length xs) c.as_mut_slice.ensures.value in
-    let end = subst (λ xs. (i : ℕ) (d : _) → i < length xs → E (slice_index_or xs i d) (slice_index_or news i d)) c.as_mut_slice.ensures.value c.run_all.ensures.end in
+    let end = subst (λ xs. (i : ℕ) (d : _) → i < length xs → E (slice_index_or xs i d) (slice_index_or news i d)) c.as_mut_slice.ensures.value c.run_all.ensures.end.each in
     record {
       runs = _;
       rest = refl;

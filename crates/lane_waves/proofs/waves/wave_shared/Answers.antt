@@ -12,8 +12,9 @@ use Rattle.lane_waves.specs.Deals.{MayRun, AreLocksOpen, IsHomeFresh}
 use Rattle.lane_waves.specs.Places.{AllFrom}
 use Rattle.lane_waves.specs.Waves.{log_goes, shard_goes, AreThrough}
 use Rattle.lane_waves.proofs.Opening.{are_open, homes_fresh, are_fresh, openings, lanes_are, seats_many, tables_of}
-use Rattle.lane_waves.proofs.Numbers.{are_rows}
-use Rattle.lane_waves.proofs.Waving.{fresh_left, unrun_wave, ran_wave, locks_many, few_lanes}
+use Rattle.lane_waves.proofs.Numbers.{are_watched_rows}
+use Rattle.lane_waves.proofs.Locking.{just_fresh}
+use Rattle.lane_waves.proofs.Waving.{fresh_left, unrun_wave, ran_wave, locks_many, few_lanes, rows_below}
 use Rattle.lane_waves.proofs.waves.wave_shared.Goals as goal
 
 pub lock_nodes-requires-clause-logs_many : goal.lock_nodes-requires-clause-logs_many
@@ -27,13 +28,16 @@ lock_nodes-requires-clause-logs_fit g c =
     let K = c.args.shape.now in
     let a = c.requires.limits.some_lane in
     let b = c.requires.limits.lanes in
-    are_rows (λ j. j * K.lanes) K.lanes 0 c.args.home_rows.items (omega (arith, a)) (omega (arith, b)) c.requires.home_rows
+    are_watched_rows c.lane_count.result (λ j. j * K.lanes) K.lanes 0 c.args.home_rows.items (omega (arith, a)) (omega (arith, b))
+    (λ j lt. let m = rows_below K.coordinators K.lanes j (let many = c.requires.home_rows_many in omega (arith, lt, many)) in let e = c.lane_count.ensures.value in omega (arith, m, e)) c.requires.home_rows
 
 pub lock_nodes-requires-clause-shards_fit : goal.lock_nodes-requires-clause-shards_fit
 lock_nodes-requires-clause-shards_fit g c =
     let K = c.args.shape.now in
     let m = few_lanes K c.requires.limits in
-    are_rows (λ j. 0) (K.coordinators * K.lanes) 0 c.args.shard_rows.items m.0 m.1 c.requires.shard_rows
+    let few = m.2 in
+    let e = c.lane_count.ensures.value in
+    are_watched_rows c.lane_count.result (λ j. 0) (K.coordinators * K.lanes) 0 c.args.shard_rows.items m.0 (omega (arith, few)) (λ j lt. omega (arith, e)) c.requires.shard_rows
 
 pub returns-in-Err-clause-ran : goal.returns-in-Err-clause-ran
 returns-in-Err-clause-ran g c =
@@ -137,19 +141,19 @@ returns-clause-ran g c =
     ns ns' ms ms' c.args.home_rows.items c.args.shard_rows.items k.logs.locks.items k.shards.locks.items
     k.logs.seats.items homes k.shards.seats.items rows c.args.lanes.now.items new
     c.requires.logs_many c.requires.shards_many c.requires.home_rows c.requires.home_rows_many c.requires.shard_rows c.requires.shard_rows_many
-    e.logs e.shards c.close_all.ensures c.close_all-2.ensures through)
+    e.logs e.shards c.close_all.ensures.closed c.close_all-2.ensures.closed through)
 
 pub returns-clause-logs_go : goal.returns-clause-logs_go
 returns-clause-logs_go g c =
     let k = c.in-Ok.locked.logs in
     (held log_sight (log_goes g.D.Disk)).0 c.args.nodes.logs.items c.args.home_rows.items k.locks.items
-    k.seats.items c.run_seated-homes.result.homes.items c.close_all.result.items c.in-Ok.ensures.logs c.close_all.ensures
+    k.seats.items c.run_seated-homes.result.homes.items c.close_all.result.items c.in-Ok.ensures.logs c.close_all.ensures.closed
 
 pub returns-clause-shards_go : goal.returns-clause-shards_go
 returns-clause-shards_go g c =
     let k = c.in-Ok.locked.shards in
     (held (shard_sight g.S.Shard.sight) (shard_goes g.S.Shard.goes)).0 c.args.nodes.shards.items c.args.shard_rows.items k.locks.items
-    k.seats.items c.run_seated-homes.result.rows.items c.close_all-2.result.items c.in-Ok.ensures.shards c.close_all-2.ensures
+    k.seats.items c.run_seated-homes.result.rows.items c.close_all-2.result.items c.in-Ok.ensures.shards c.close_all-2.ensures.closed
 
 pub run_seated-homes-requires-clause-lanes_many : goal.run_seated-homes-requires-clause-lanes_many
 run_seated-homes-requires-clause-lanes_many g c κs within = ap (λ v. length v.items) c.replace.ensures.value ∙ c.requires.lanes_many
@@ -165,3 +169,9 @@ close_all-requires-2-clause-ready g c = subst (λ xs. HaveAllSeats xs c.run_seat
 
 pub close_all-requires-2-clause-empty : goal.close_all-requires-2-clause-empty
 close_all-requires-2-clause-empty g c = c.in-Ok.ensures.shards_room.0
+
+pub close_all-requires-clause-watching : goal.close_all-requires-clause-watching
+close_all-requires-clause-watching g c = just_fresh log_sight c.lane_count.result c.in-Ok.locked.logs.locks.items c.in-Ok.locked.logs.watchers.items c.in-Ok.ensures.logs_watched
+
+pub close_all-requires-2-clause-watching : goal.close_all-requires-2-clause-watching
+close_all-requires-2-clause-watching g c = just_fresh (shard_sight g.S.Shard.sight) c.lane_count.result c.in-Ok.locked.shards.locks.items c.in-Ok.locked.shards.watchers.items c.in-Ok.ensures.shards_watched
