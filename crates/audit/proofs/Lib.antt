@@ -21,3 +21,6 @@ pub mod Begun
 pub mod Twice
 pub mod AtRest
 pub mod Accounts
+pub mod Standing
+pub mod Sizing
+pub mod KeptParts

@@ -44,7 +44,7 @@ places (z ∷ b) (w ∷ c) x y d e s = further (places b c x y d e (heads z w (b
     further (second k p) = second k (λ i. h i ∷ p i)
 
 -- what is spent leaves one book
-one_book : (mint : List Output) (handed : List FullTx) (ks : List Compact) (b c : Book) → AreSpent mint handed ks b → AreSpent mint handed ks c → b ≡ c
+pub one_book : (mint : List Output) (handed : List FullTx) (ks : List Compact) (b c : Book) → AreSpent mint handed ks b → AreSpent mint handed ks c → b ≡ c
 one_book mint handed ks b c s t =
     let e : s.txs ≡ t.txs = one_list handed ks s.txs t.txs s.handed_in t.handed_in in
     let f : Some b ≡ Some c = sym s.folds ∙ ap (fold_txs (Some (genesis_book mint))) e ∙ t.folds in
@@ -172,7 +172,7 @@ module _ (K : Shape) (mint : List Output) (handed : List FullTx) where
   one_kind past row Unfinished other f g = absurd f
 
   module _ (rows : List Row) where
-    fault_not_passed : (place : ℕ) (kind : UnsoundKind) (b : Book) → IsFirstUnsound K mint handed rows place kind → Passes K mint handed (reverse rows) b → ⊥
+    pub fault_not_passed : (place : ℕ) (kind : UnsoundKind) (b : Book) → IsFirstUnsound K mint handed rows place kind → Passes K mint handed (reverse rows) b → ⊥
     fault_not_passed place kind b f p = no_earlier f.before f.after f.row kind b (subst (λ l. Passes K mint handed (reverse l) b) f.rows_are p) f.fault
 
     faults_same : (p q : ℕ) (kind other : UnsoundKind) → IsFirstUnsound K mint handed rows p kind → IsFirstUnsound K mint handed rows q other → (p ≡ q) × (kind ≡ other)

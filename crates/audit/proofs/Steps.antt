@@ -12,6 +12,8 @@ use Rattle.audit.specs.declared.folding.Fold.{Fold}
 use Rattle.audit.specs.declared.verdict.Verdict.TheVariants.{Unsound}
 use Rattle.audit.specs.Spending.{IsFirstWrong}
 use Rattle.audit.specs.Verdicts.{Passes, IsRowFault, IsFirstUnsound, IsVerdict}
+use Rattle.audit.specs.declared.parts.PartVerdict.TheVariants.{Unsound as Unsound_part}
+use Rattle.audit.specs.Parts.{IsPartVerdict}
 use Rattle.audit.specs.Keeping.{HasSpent}
 use Rattle.cbdc_model.specs.Causes.{IsCaused}
 use Rattle.audit.specs.declared.place.Place.{Place}
@@ -121,3 +123,9 @@ verdict_of K mint handed rows place Cause f = f
 verdict_of K mint handed rows place (Unknown id) f = f
 verdict_of K mint handed rows place (Unfunded id) f = f
 verdict_of K mint handed rows place Unfinished f = absurd f.fault
+
+pub part_verdict_of : (K : Shape) (mint : List Output) (handed : List FullTx) (rows : List Row) (place : ℕ) (kind : UnsoundKind) → IsFirstUnsound K mint handed rows place kind → IsPartVerdict K mint handed rows (Unsound_part place kind)
+part_verdict_of K mint handed rows place Cause f = f
+part_verdict_of K mint handed rows place (Unknown id) f = f
+part_verdict_of K mint handed rows place (Unfunded id) f = f
+part_verdict_of K mint handed rows place Unfinished f = absurd f.fault

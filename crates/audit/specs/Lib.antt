@@ -2,9 +2,13 @@ pub mod Rows
 pub mod Merges
 pub mod OrderLaws
 pub mod Knowing
+pub mod Standing
+pub mod Waiting
 pub mod Walks
 pub mod Spending
 pub mod Verdicts
+pub mod Parts
+pub mod PartLaws
 pub mod Keeping
 pub mod Laws
 pub mod Journals

@@ -23,9 +23,9 @@ use cbdc_types::{CompactTx, FullTx, Output, Record, RecordKind, Shape, Totals, U
 use std::alloc::{AllocError, Global};
 use std::thread::Threads;
 
-// What a walk has come to: all places, with what is known then, or the first place at which something is wrong.
+/// What a walk has come to: all places, with what is known then, or the first place at which something is wrong.
 #[derive(Drop)]
-enum Walked {
+pub(crate) enum Walked {
     Whole(Known),
     Stopped { place: u64, kind: UnsoundKind },
 }
@@ -62,8 +62,8 @@ fn commit(
     }
 }
 
-// Walks over a history, and spends what it commits.
-fn walk(
+/// Walks over a history, and spends what it commits.
+pub(crate) fn walk(
     alloc: Global,
     shape: &Shape,
     journals: &[&[Record]],
@@ -140,8 +140,8 @@ fn first_open(
     None
 }
 
-// The sum of the minted values.
-fn minted(mint: &[Output]) -> u128
+/// The sum of the minted values.
+pub(crate) fn minted(mint: &[Output]) -> u128
     ensures { result ≡ value_out mint.now }
 {
     let mut minted = 0u128;

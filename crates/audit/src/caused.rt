@@ -202,8 +202,8 @@ fn is_commit_caused(
     are_by_locks(alloc, known, journals, shape, batch, given)
 }
 
-// The answered entries of a batch's Lock at a node, none where it has no Lock.
-fn lock_of<'a>(
+/// The answered entries of a batch's Lock at a node, none where it has no Lock.
+pub(crate) fn lock_of<'a>(
     known: &Known,
     journals: &[&'a [Record]],
     node: u32,
@@ -218,8 +218,8 @@ fn lock_of<'a>(
     }
 }
 
-// The outcomes of a batch's Commit, none where it has none.
-fn outcomes_of<'a>(
+/// The outcomes of a batch's Commit, none where it has none.
+pub(crate) fn outcomes_of<'a>(
     known: &Known,
     journals: &[&'a [Record]],
     node: u32,

@@ -134,8 +134,8 @@ pub(crate) fn outcomes_by_locks(
     outcomes_from(alloc, known, journals, shape, batch, txs.len(), 0)
 }
 
-// Whether the outcome at this place is Held.
-fn won_at(outcomes: &[Outcome], place: u32) -> bool
+/// Whether the outcome at this place is Held.
+pub(crate) fn won_at(outcomes: &[Outcome], place: u32) -> bool
     ensures { result ≡ won_at outcomes.now place }
 {
     match outcomes.get(place as usize) {

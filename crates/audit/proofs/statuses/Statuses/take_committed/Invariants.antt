@@ -1,0 +1,9 @@
+use Rattle.std.proofs.Common.{◌≡◌, ◌&&◌, if◌then◌else◌, drop}
+use Rattle.cbdc_model.specs.Records.{Digest}
+use Rattle.cbdc_model.specs.Status.{has, taken_inputs, Absent}
+use Rattle.audit.specs.Standing.{says, is_here}
+use Rattle.audit.proofs.statuses.Statuses.take_committed.Given as goal
+
+abbrev pub invariant-entries : goal.invariant-entries
+invariant-entries l = (y : Digest) → (if has (taken_inputs (drop l.at l.es) (drop l.at l.ds)) y && is_here l.shape l.node y then Absent else says l.self y)
+    ≡ (if has (taken_inputs l.es l.ds) y && is_here l.shape l.node y then Absent else says l.initial.self y)

@@ -1,0 +1,4 @@
+pub mod UpTo
+pub mod Least
+pub mod Falling
+pub mod Keeping
