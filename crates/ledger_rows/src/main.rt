@@ -1,5 +1,5 @@
 //! Runs the rows that its words name: `locks` and `devices`, those of `lock_rows` and `device_rows`, which stand in code; and the files of `piece_rows`,
-//! `node_rows` and `journal_rows` in the folders `pieces`, `nodes` and `journals`. All other words name files of its own rows, of whole runs of the
+//! `node_rows`, `journal_rows` and `cut_rows` in the folders `pieces`, `nodes`, `journals` and `cuts`. All other words name files of its own rows, of whole runs of the
 //! program over devices in memory. Where the first word is `speeds` it runs no rows, and measures the part that the next word names.
 #![tactic(auto)]
 
@@ -28,7 +28,7 @@ use std::thread::Threads;
 use subject::step;
 
 // The folders of files that are not its own.
-const FOLDERS: [&str; 3] = ["pieces/", "nodes/", "journals/"];
+const FOLDERS: [&str; 4] = ["pieces/", "nodes/", "journals/", "cuts/"];
 
 // The words for the rows that stand in code: of the lock round a node, and of the real devices.
 const LOCKS: &str = "locks";
@@ -89,8 +89,16 @@ fn run_rows<R: AllocGlobal + Env + Files + Print + Threads + Wait + Sync>(
     let has_pieces = piece_rows::run_rows(rt)?;
     let has_nodes = node_rows::run_rows(rt)?;
     let has_journals = journal_rows::run_rows(rt)?;
+    let has_cuts = cut_rows::run_rows(rt)?;
     let has_ledgers = run_ledgers(rt)?;
-    if has_locks && has_devices && has_pieces && has_nodes && has_journals && has_ledgers {
+    if has_locks
+        && has_devices
+        && has_pieces
+        && has_nodes
+        && has_journals
+        && has_cuts
+        && has_ledgers
+    {
         Ok(ExitCode::from(0))
     } else {
         Ok(ExitCode::from(1))
