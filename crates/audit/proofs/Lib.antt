@@ -23,4 +23,5 @@ pub mod AtRest
 pub mod Accounts
 pub mod Standing
 pub mod Sizing
+pub mod Coins
 pub mod KeptParts

@@ -48,7 +48,7 @@ same_output_is o p h =
     let e : o.program ≡ p.program = same_digest_is o.program p.program d in
     λ i. record { program = e i; value = v i }
 
-same_coin : (d c : Coin) → point_of d ≡ point_of c → d.output ≡ c.output → d ≡ c
+pub same_coin : (d c : Coin) → point_of d ≡ point_of c → d.output ≡ c.output → d ≡ c
 same_coin d c p o =
     let t : d.point.tx ≡ c.point.tx = cc in
     let i : d.point.index ≡ c.point.index = cc in

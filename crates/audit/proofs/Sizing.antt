@@ -1,5 +1,5 @@
 -- Which hashes are held and owed, row by row, and that those are the waiting and the coming ones.
-use Rattle.std.proofs.Common.{◌≡◌, ◌⊎◌, inl, inr, ℕ, zero, suc, ◌+◌, ◌<◌, ◌≤◌, Bool, true, false, not, cond, ◌&&◌, ◌||◌, ◌==◌, List, [], ◌∷◌, ◌++◌, length, drop, find, reverse, Contains, if◌then◌else◌, Option, Some, None, is_some, refl, sym, ap, ◌∙◌, subst, arith}
+use Rattle.std.proofs.Common.{◌≡◌, ◌⊎◌, inl, inr, ℕ, ◌+◌, ◌<◌, Bool, true, false, not, cond, ◌&&◌, ◌||◌, ◌==◌, List, [], ◌∷◌, ◌++◌, length, drop, find, reverse, if◌then◌else◌, Option, Some, None, is_some, refl, sym, ap, ◌∙◌, subst}
 use mathlib.Core.List.{reverse_aux}
 use Rattle.std.specs.Prelude.{MatchOption}
 use Rattle.std.specs.Borrow.{Bor}
@@ -22,7 +22,7 @@ use Rattle.std.proofs.lemmas.List.{reverse-reverse}
 use Rattle.audit.specs.declared.statuses.Statuses.{Statuses}
 use Rattle.audit.specs.Parts.{IsCount}
 use Rattle.audit.specs.Standing.{said_of, is_here, is_locked_by, HasStatuses}
-use Rattle.audit.specs.Waiting.{waits, waiting_inputs, shard_journal, holds_back, is_due, owes, any_row}
+use Rattle.audit.specs.Waiting.{waits, waiting_inputs, holds_back, is_due, owes, any_row}
 use Rattle.audit.proofs.Standing.{has_append, drop_end}
 
 -- ---- tests

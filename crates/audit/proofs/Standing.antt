@@ -1,17 +1,16 @@
 -- Hashes and their statuses, entry by entry and record by record.
-use Rattle.std.proofs.Common.{◌≡◌, ◌⊎◌, inl, inr, ℕ, zero, suc, ◌+◌, ◌<◌, ◌≤◌, Bool, true, false, not, ◌&&◌, ◌||◌, ◌==◌, List, [], ◌∷◌, ◌++◌, length, drop, get_or, if◌then◌else◌, Option, Some, None, Result, Ok, Err, refl, sym, ap, ◌∙◌, subst, arith}
+use Rattle.std.proofs.Common.{◌≡◌, ◌⊎◌, inl, inr, ℕ, zero, suc, ◌+◌, ◌<◌, ◌≤◌, Bool, true, false, not, ◌&&◌, ◌||◌, ◌==◌, List, [], ◌∷◌, ◌++◌, length, drop, get_or, if◌then◌else◌, Option, None, Result, Ok, Err, refl, sym, ap, ◌∙◌, subst, arith}
 use Rattle.std.specs.Prelude.{OnOk}
 use Rattle.std.proofs.lemmas.List.{drop_more}
 use Rattle.std.proofs.lemmas.Bool.{cases_lt}
-use Rattle.cbdc_model.specs.Records.{Digest, same_digest, Shape, Batch, Answered, Record, Row, journal, lock_of, is_held, same_batch, Genesis, Lock, Finish, Forget, Start, Prepare, Commit, Discard, Done}
-use Rattle.cbdc_model.specs.Status.{Status, status, has, held_inputs, taken_inputs, returned_inputs, made_outputs, finished_status, Unspent, Locked, Absent}
+use Rattle.cbdc_model.specs.Records.{Digest, same_digest, Shape, Batch, Answered, Record, Row, journal, is_held, Genesis, Lock, Finish, Forget, Start, Prepare, Commit, Discard, Done}
+use Rattle.cbdc_model.specs.Status.{Status, status, has, held_inputs, taken_inputs, returned_inputs, made_outputs, finished_status, Unspent, Absent}
 use Rattle.cbdc_model.specs.Ranges.{shard_of, shard_node, journal_at}
-use Rattle.ledger_laws.proofs.Counts.{same_digest_is, same_digest_self}
+use Rattle.ledger_laws.proofs.Counts.{same_digest_is}
 use Rattle.ledger_laws.proofs.Lookups.{number_self}
 use Rattle.ledger_laws.proofs.Rows.{at, away, at_node, head_at, head_away}
 use Rattle.audit.specs.declared.statuses.Statuses.{Statuses}
-use Rattle.audit.specs.Standing.{said_of, says, is_here, is_locked_by, next_status, HasStatuses}
-use Rattle.audit.specs.Waiting.{waits, waiting_inputs}
+use Rattle.audit.specs.Standing.{said_of, says, is_here, next_status, HasStatuses}
 
 pub on_ok : {X E P Q : Type 0} (r : Result X E) → (P → Q) → OnOk r P → OnOk r Q
 on_ok (Ok x) f p = f p

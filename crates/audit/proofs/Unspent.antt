@@ -59,7 +59,7 @@ each_spends-append : (ks ls : List Compact) → EachSpends (ks ++ ls) → EachSp
 each_spends-append [] ls h = tt
 each_spends-append (k ∷ ks) ls h = (h.0, each_spends-append ks ls h.1)
 
-length_hashes : (cs : List Coin) → length (hashes_of cs) ≡ length cs
+pub length_hashes : (cs : List Coin) → length (hashes_of cs) ≡ length cs
 length_hashes [] = refl
 length_hashes (c ∷ cs) = ap suc (length_hashes cs)
 

@@ -1,5 +1,6 @@
 -- What the audit of a part says of a kept ledger, as one statement.
-use Rattle.std.specs.Prelude.{◌≡◌, ◌<◌, List, reverse}
+use Rattle.std.specs.Prelude.{◌≡◌, ◌<◌, ◌+◌, List, reverse}
+use Rattle.std.specs.FinMap.{len}
 use Rattle.cbdc_model.specs.Records.{Shape, Row}
 use Rattle.cbdc_model.specs.Coins.{Output, FullTx}
 use Rattle.cbdc_model.specs.Book.{value, genesis_book}
@@ -11,9 +12,11 @@ use Rattle.audit.specs.declared.parts.PartVerdict.{PartVerdict}
 use Rattle.audit.specs.declared.parts.PartVerdict.TheVariants.{Sound, Unsound}
 use Rattle.audit.specs.Parts.{HasSizes, IsPartVerdict}
 
--- the numbers are those of the book that the committed transactions fold to; its value is what was minted
+-- the numbers are those of the book that the committed transactions fold to, whose coins have as many hashes as the three sets together; its value is
+-- what was minted
 pub record IsPartOf (K : Shape) (mint : List Output) (submissions : List FullTx) (past : List Row) (folds : Folds K mint submissions past) (part : Part) : Type 0 where
   pub sizes : HasSizes K past part.unspent part.held part.owed
+  pub coins_are : part.unspent + part.held + part.owed ≡ len folds.book
   pub value_is : part.value ≡ value folds.book
   pub minted_is : part.minted ≡ value (genesis_book mint)
   pub kept : part.value ≡ part.minted

@@ -217,7 +217,9 @@ impl Statuses {
                 self.lock_held(shape, node, entries.as_slice(), batch)
             }
             Record::Finish {
-                batch, decisions, ..
+                batch,
+                decisions,
+                ..
             } => {
                 let es = lock_of(known, journals, node, batch);
                 self.finish(shape, node, es, decisions.as_slice())

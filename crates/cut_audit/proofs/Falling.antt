@@ -7,7 +7,6 @@ use Rattle.std.proofs.Common.{inl, inr}
 use Rattle.cbdc_model.specs.Records.{Shape, Digest, Header, Compact, Record, Row, journal, stamp_of, last_stamp, Genesis, Lock, Finish, Forget, Start, Prepare, Commit, Discard, Done}
 use Rattle.cbdc_model.specs.After.{After}
 use Rattle.cbdc_model.specs.History.{Minted, header_of, first_rows, IsSteady}
-use Rattle.cbdc_model.specs.World.{first_record}
 use Rattle.ledger_laws.proofs.FirstJournals.{first_is, first_beyond}
 use Rattle.ledger_laws.proofs.Rows.{at, away, at_node, head_at, head_away}
 use Rattle.audit.specs.Rows.{Rises}

@@ -1,10 +1,10 @@
 -- The cut of lists that were taken of kept journals is kept.
-use Rattle.std.proofs.Common.{◌≡◌, inl, inr, ℕ, ◌+◌, ◌<◌, ◌≤◌, List, [], ◌∷◌, ◌++◌, reverse, refl, sym, ap, ◌∙◌, subst, arith}
+use Rattle.std.proofs.Common.{◌≡◌, inl, inr, ℕ, ◌+◌, ◌<◌, ◌≤◌, List, [], ◌∷◌, ◌++◌, refl, sym, ap, ◌∙◌, subst}
 use Rattle.std.proofs.lemmas.Bool.{cases_lt}
 use Rattle.cbdc_model.specs.Records.{Shape, Record, Row, journal, last_stamp}
 use Rattle.cbdc_model.specs.Coins.{Output, FullTx}
 use Rattle.cbdc_model.specs.Clean.{Clean, IsProperCompact}
-use Rattle.cbdc_model.specs.History.{minted, first_rows, history_of, IsKept, IsOrdered}
+use Rattle.cbdc_model.specs.History.{minted, first_rows, history_of, IsKept}
 use Rattle.cbdc_model.specs.Lanes.{IsEnd}
 use Rattle.cbdc_model.specs.Ranges.{node_count}
 use Rattle.cbdc_model.specs.World.{KeptJournals}

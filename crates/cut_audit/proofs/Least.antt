@@ -1,9 +1,9 @@
 -- The least of the last stamps, list by list, and the places of the rows up to a stamp, place by place.
-use Rattle.std.proofs.Common.{◌≡◌, ℕ, zero, suc, ◌+◌, ◌<◌, ◌≤◌, Bool, true, false, nat_lt, if◌then◌else◌, List, [], ◌∷◌, ◌++◌, length, take, reverse, get_or, append-nil, refl, sym, ap, ◌∙◌, subst, arith}
+use Rattle.std.proofs.Common.{◌≡◌, ℕ, ◌+◌, ◌<◌, ◌≤◌, Bool, true, false, nat_lt, if◌then◌else◌, List, [], ◌∷◌, ◌++◌, length, take, reverse, get_or, append-nil, sym, ap, ◌∙◌, subst, arith}
 use Rattle.std.proofs.lemmas.Bool.{cases_lt}
 use Rattle.std.proofs.Common.{inl, inr}
 use Rattle.std.proofs.lemmas.List.{map_more, map-append}
-use Rattle.cbdc_model.specs.Records.{Record, Row, stamp_of, last_stamp}
+use Rattle.cbdc_model.specs.Records.{Record, stamp_of}
 use Rattle.audit.specs.declared.place.Place.{Place}
 use Rattle.audit.specs.Rows.{row_at, rows_at, record_at, newest_first}
 use Rattle.cut_audit.specs.Cuts.{rows_up_to, last_in, IsLeastLast}

@@ -3,7 +3,7 @@ use Rattle.std.proofs.Common.{◌≡◌, ℕ, zero, suc, Bool, true, false, ◌&
 use mathlib.Core.List.{reverse_aux}
 use Rattle.cbdc_model.specs.Records.{Shape, Record, Row, journal, stamp_of, Genesis, Start}
 use Rattle.cbdc_model.specs.Ranges.{shard_node, on_shard}
-use Rattle.cbdc_model.specs.History.{Minted, header_of, starts, geneses, first_rows, goes_above, IsOrdered}
+use Rattle.cbdc_model.specs.History.{Minted, header_of, starts, geneses, first_rows, IsOrdered}
 use Rattle.cut_audit.specs.Cuts.{up_to, rows_up_to}
 
 -- a function of either of two

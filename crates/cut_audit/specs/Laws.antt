@@ -1,5 +1,5 @@
 -- The laws of cuts, each as one statement.
-use Rattle.std.specs.Prelude.{◌≡◌, ℕ, ◌<◌, ◌≤◌, List, reverse}
+use Rattle.std.specs.Prelude.{ℕ, ◌<◌, ◌≤◌, List, reverse}
 use Rattle.cbdc_model.specs.Records.{Shape, Record, Row, last_stamp}
 use Rattle.cbdc_model.specs.Ranges.{node_count}
 use Rattle.cbdc_model.specs.Coins.{Output, FullTx}

@@ -1,14 +1,24 @@
 // Cuts, and what an audit finds of them.
-ghost use Rattle.std.specs.Prelude.{ℕ, ◌<◌, length, IsTrue};
-ghost use Rattle.audit.specs.Rows.{read, journal_in};
+ghost use Rattle.std.specs.Prelude.{ℕ, All, ◌<◌, length, IsTrue};
+ghost use Rattle.audit.specs.Rows.{read, journal_in, IsRecordPlace};
 
 use crate::state::State;
-use audit::{PartVerdict, audit_part};
-use cbdc_types::{FullTx, Record};
+use audit::{PartVerdict, Place, audit_part, record_at};
+use cbdc_types::{FullTx, Record, UnsoundKind};
 use cut_audit::{Cut, cut};
 use row_records::{Known, Told};
+use same_records::stamp_of;
 use std::alloc::AllocError;
 use std::thread::Threads;
+
+/// What a row asks of a cut.
+#[derive(Clone, Copy)]
+pub enum Asked {
+    /// Its stamp, and its records.
+    Cut,
+    /// What an audit finds of it.
+    Part,
+}
 
 // The first so many records of a node.
 fn front(rows: &[(u32, Record)], node: u32, most: usize, told: &mut Told) -> Vec<Record> {
@@ -50,23 +60,38 @@ fn are_full(lists: &[&[Record]]) -> bool
     true
 }
 
-// The sizes of a cut, and what an audit finds of it.
-fn tell_part<R: Threads + Sync>(rt: &R, state: &State, lists: &[&[Record]], told: &mut Told) {
-    let alloc = told.alloc;
-    if lists.is_empty() || 80 < lists.len() || !are_full(lists) {
-        told.refuse("a list without a record");
-        return;
+// The node and the stamp of each record.
+fn tell_places(lists: &[&[Record]], history: &[Place], told: &mut Told)
+    requires { All (IsRecordPlace (read lists.now)) history.now }
+{
+    'places: for at in 0..history.len() {
+        let place = history[at];
+        told.word("at");
+        told.number(u64::from(place.node));
+        told.number(stamp_of(record_at(lists, place)).0);
     }
-    let made = match cut(alloc, lists) {
-        Ok(made) => made,
-        Err(_gone) => {
-            told.no_memory();
-            return;
-        }
-    };
-    let Cut { stamp, history } = made;
-    told.named("stamp", u128::from(stamp.0));
-    told.named("records", history.as_slice().len() as u128);
+}
+
+// What is wrong with a record.
+fn tell_kind(kind: &UnsoundKind, told: &mut Told) {
+    match kind {
+        UnsoundKind::Cause => told.word("cause"),
+        UnsoundKind::Unknown(_) => told.word("unknown"),
+        UnsoundKind::Unfunded(_) => told.word("unfunded"),
+        UnsoundKind::Unfinished => told.word("unfinished"),
+    }
+}
+
+// What an audit finds of a cut.
+fn tell_part<R: Threads + Sync>(
+    rt: &R,
+    state: &State,
+    lists: &[&[Record]],
+    history: &[Place],
+    told: &mut Told,
+)
+    requires { All (IsRecordPlace (read lists.now)) history.now }
+{
     let handed = handed_in(&state.known, state.handed.as_slice(), told);
     let Some(shape) = told.given(state.known.shape()) else {
         return;
@@ -76,10 +101,10 @@ fn tell_part<R: Threads + Sync>(rt: &R, state: &State, lists: &[&[Record]], told
     };
     let found = audit_part(
         rt,
-        alloc,
+        told.alloc,
         &shape,
         lists,
-        history.as_slice(),
+        history,
         mint.coins.as_slice(),
         handed.as_slice(),
     );
@@ -89,15 +114,47 @@ fn tell_part<R: Threads + Sync>(rt: &R, state: &State, lists: &[&[Record]], told
             told.named("value", part.value);
             told.named("minted", part.minted);
         }
-        Some(PartVerdict::Unsound { place, kind: _ }) => {
+        Some(PartVerdict::Unsound { place, kind }) => {
             told.named("unsound", u128::from(place));
+            tell_kind(&kind, told);
         }
         None => {}
     }
 }
 
-/// `cut N..`: the cut of the first so many records of each node.
-pub fn tell_cut<R: Threads + Sync>(rt: &R, state: &State, words: &[&str], told: &mut Told) {
+// What is asked of the cut of some lists.
+fn tell_of<R: Threads + Sync>(
+    rt: &R,
+    state: &State,
+    asked: Asked,
+    lists: &[&[Record]],
+    told: &mut Told,
+) {
+    if lists.is_empty() || 80 < lists.len() || !are_full(lists) {
+        told.refuse("a list without a record");
+        return;
+    }
+    match cut(told.alloc, lists) {
+        Ok(Cut { stamp, history }) => match asked {
+            Asked::Cut => {
+                told.named("stamp", u128::from(stamp.0));
+                told.named("records", history.as_slice().len() as u128);
+                tell_places(lists, history.as_slice(), told);
+            }
+            Asked::Part => tell_part(rt, state, lists, history.as_slice(), told),
+        },
+        Err(_gone) => told.no_memory(),
+    }
+}
+
+/// `cut N..` and `part N..`: what is asked of the cut of the first so many records of each node.
+pub fn tell_cut<R: Threads + Sync>(
+    rt: &R,
+    state: &State,
+    asked: Asked,
+    words: &[&str],
+    told: &mut Told,
+) {
     let alloc = told.alloc;
     let mut fronts = Vec::new(alloc);
     for node in 0..words.len().min(80) as u32 {
@@ -109,5 +166,5 @@ pub fn tell_cut<R: Threads + Sync>(rt: &R, state: &State, words: &[&str], told: 
     for list in &fronts {
         told.push(&mut lists, list.as_slice());
     }
-    tell_part(rt, state, lists.as_slice(), told);
+    tell_of(rt, state, asked, lists.as_slice(), told);
 }

@@ -1,5 +1,5 @@
 // What the steps of these rows do.
-use crate::cutting::tell_cut;
+use crate::cutting::{Asked, tell_cut};
 use crate::state::State;
 use row_records::{Block, Names, Subject, Told, Wrong, mint, name_tx, rest, shape};
 use std::alloc::Global;
@@ -46,7 +46,8 @@ fn tell<R: Threads + Sync>(
             state.ledger(text, told);
             return true;
         }
-        "cut" => tell_cut(rt, state, more, told),
+        "cut" => tell_cut(rt, state, Asked::Cut, more, told),
+        "part" => tell_cut(rt, state, Asked::Part, more, told),
         _ => told.refuse("no such step"),
     }
     false

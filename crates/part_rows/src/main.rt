@@ -1,5 +1,5 @@
 //! Runs the rows on parts of the program that its words name: `locks` and `devices`, those of `lock_rows` and `device_rows`, which stand in code, and the
-//! files in the folders `pieces`, `nodes` and `journals`. Where the first word is `speeds` it runs no rows, and measures the part that the next names.
+//! files in the folders `pieces`, `nodes`, `journals` and `cuts`. Where the first word is `speeds` it runs no rows, and measures the part that the next names.
 #![tactic(auto)]
 
 use row_records::words_where;
@@ -15,7 +15,7 @@ const LOCKS: &str = "locks";
 const DEVICES: &str = "devices";
 
 // The folders of files.
-const FOLDERS: [&str; 3] = ["pieces/", "nodes/", "journals/"];
+const FOLDERS: [&str; 4] = ["pieces/", "nodes/", "journals/", "cuts/"];
 
 // The first word where parts are measured, and no rows are run.
 const SPEEDS: &str = "speeds";
@@ -68,6 +68,7 @@ fn run_rows<R: AllocGlobal + Env + Files + Print + Threads + Wait + Sync>(
     holds &= piece_rows::run_rows(rt)?;
     holds &= node_rows::run_rows(rt)?;
     holds &= journal_rows::run_rows(rt)?;
+    holds &= cut_rows::run_rows(rt)?;
     holds &= tell_others(rt)?;
     Ok(holds)
 }

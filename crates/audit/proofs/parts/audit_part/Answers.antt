@@ -1,6 +1,4 @@
 use Rattle.std.proofs.Common.{◌∙◌, subst}
-use Rattle.cbdc_types.specs.declared.answer.UnsoundKind.{UnsoundKind}
-use Rattle.cbdc_types.specs.declared.answer.UnsoundKind.TheVariants.{Cause, Unknown, Unfunded, Unfinished}
 use Rattle.audit.specs.Rows.{read, rows_at}
 use Rattle.audit.specs.Keeping.{IsWalked}
 use Rattle.audit.proofs.Steps.{part_verdict_of}
@@ -20,6 +18,6 @@ returns g c =
       book = w.2.left;
       pass = record { caused = w.1; spent = w.2.are_spent };
       sizes = c.in_ok-unspent-in-Whole.ensures;
-      value_is = c.value.ensures ∙ w.2.keeps.worth;
+      value_is = c.value.ensures ∙ w.2.keeps.totals (λ o. o.value);
       minted_is = c.minted.ensures;
     }

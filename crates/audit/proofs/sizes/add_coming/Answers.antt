@@ -1,4 +1,4 @@
-use Rattle.std.proofs.Common.{◌≡◌, ◌<◌, ◌+◌, ◌&&◌, ◌||◌, length, drop, ap, ◌∙◌, sym, arith}
+use Rattle.std.proofs.Common.{◌<◌, ◌+◌, ◌&&◌, ◌||◌, length, drop, ap, ◌∙◌, sym, arith}
 use Rattle.cbdc_model.specs.Records.{txs_of, outcomes_of}
 use Rattle.cbdc_model.specs.Ranges.{home_of}
 use Rattle.cbdc_model.specs.Outcomes.{won_txs}

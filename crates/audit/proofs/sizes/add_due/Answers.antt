@@ -1,4 +1,4 @@
-use Rattle.std.proofs.Common.{◌≡◌, true, false, ◌+◌, not, is_some, ap, ◌∙◌, sym, subst}
+use Rattle.std.proofs.Common.{◌≡◌, true, false, ◌+◌, not, is_some, ap, ◌∙◌, subst}
 use Rattle.cbdc_model.specs.Records.{record_of, finish_kind}
 use Rattle.cbdc_model.specs.Ranges.{shard_of}
 use Rattle.cbdc_model.specs.Status.{has}

@@ -1,4 +1,4 @@
-use Rattle.std.proofs.Common.{◌≡◌, suc, true, false, Bool, ◌&&◌, ◌||◌, drop, ap, ◌∙◌, sym, subst}
+use Rattle.std.proofs.Common.{◌≡◌, true, false, Bool, ◌&&◌, ap, ◌∙◌, sym}
 use Rattle.cbdc_model.specs.Records.{Digest}
 use Rattle.cbdc_model.specs.Status.{has}
 use Rattle.audit.specs.Standing.{says, is_here, is_locked_by}

@@ -1,4 +1,4 @@
-use Rattle.std.proofs.Common.{◌+◌, ◌||◌, ◌∷◌, ℕ, Bool, List, [], drop, get_or, sym, ap, ◌∙◌}
+use Rattle.std.proofs.Common.{◌+◌, ◌||◌, ℕ, Bool, List, drop, get_or, sym, ap, ◌∙◌}
 use Rattle.std.proofs.lemmas.List.{drop_more}
 use Rattle.cbdc_model.specs.Records.{Record, Row, journal}
 use Rattle.cbdc_model.specs.Status.{has}

@@ -1,4 +1,4 @@
-use Rattle.std.proofs.Common.{ap, ◌∙◌, sym, refl, get_or, subst, arith}
+use Rattle.std.proofs.Common.{ap, ◌∙◌, refl, get_or, arith}
 use Rattle.std.proofs.lemmas.List.Elements.{All-push, All-get_or, All-same}
 use Rattle.audit.specs.declared.place.Place.{Place}
 use Rattle.audit.specs.Rows.{read, rows_at, IsRecordPlace}

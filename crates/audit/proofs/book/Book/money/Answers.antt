@@ -1,4 +1,4 @@
-use Rattle.std.proofs.Common.{ℕ, ap, arith, length, sum_by}
+use Rattle.std.proofs.Common.{ap, arith, length, sum_by}
 use Rattle.std.proofs.lemmas.List.Sums.{sum_by-cons}
 use Rattle.cbdc_model.specs.Money.{money_of}
 use Rattle.audit.proofs.book.Book.money.Goals as goal

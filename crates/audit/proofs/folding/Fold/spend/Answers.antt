@@ -1,4 +1,4 @@
-use Rattle.std.proofs.Common.{◌≡◌, ◌+◌, Some, None, true, refl, sym, subst, arith}
+use Rattle.std.proofs.Common.{◌≡◌, Some, None, true, refl, sym, subst}
 use Rattle.std.specs.Prelude.{MatchOption}
 use Rattle.cbdc_model.specs.Book.{spend}
 use Rattle.cbdc_model.specs.History.{first_with}

@@ -1,4 +1,4 @@
-use Rattle.std.proofs.Common.{◌≡◌, ◌+◌, ◌&&◌, if◌then◌else◌, [], drop, ap, ◌∙◌, sym}
+use Rattle.std.proofs.Common.{◌+◌, ◌&&◌, if◌then◌else◌, [], drop, ap, ◌∙◌, sym}
 use Rattle.cbdc_model.specs.Status.{has, held_inputs, Locked}
 use Rattle.audit.specs.Standing.{says, is_here}
 use Rattle.audit.proofs.Standing.{drop_at, over_step, over_none, held_more, held_same}

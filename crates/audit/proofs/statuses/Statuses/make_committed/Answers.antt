@@ -1,4 +1,4 @@
-use Rattle.std.proofs.Common.{◌≡◌, ◌<◌, ◌+◌, ◌&&◌, if◌then◌else◌, length, drop, ap, ◌∙◌, sym, arith}
+use Rattle.std.proofs.Common.{◌<◌, ◌+◌, ◌&&◌, if◌then◌else◌, length, drop, ap, ◌∙◌, sym, arith}
 use Rattle.cbdc_model.specs.Status.{has, made_outputs, Unspent}
 use Rattle.audit.specs.Standing.{says, is_here}
 use Rattle.audit.proofs.Spendings.{there}

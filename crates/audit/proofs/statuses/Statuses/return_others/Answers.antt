@@ -1,4 +1,4 @@
-use Rattle.std.proofs.Common.{◌≡◌, ◌<◌, ◌+◌, Bool, true, false, not, ◌&&◌, if◌then◌else◌, length, drop, get_or, refl, ap, ◌∙◌, sym, arith}
+use Rattle.std.proofs.Common.{◌≡◌, ◌<◌, ◌+◌, false, not, ◌&&◌, if◌then◌else◌, length, drop, get_or, refl, ap, ◌∙◌, sym, arith}
 use Rattle.cbdc_model.specs.Records.{is_held}
 use Rattle.cbdc_model.specs.Status.{has, returned_inputs, Unspent}
 use Rattle.audit.specs.Standing.{says, is_here}

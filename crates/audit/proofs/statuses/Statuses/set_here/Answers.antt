@@ -1,4 +1,4 @@
-use Rattle.std.proofs.Common.{◌≡◌, ap, ◌∙◌, sym}
+use Rattle.std.proofs.Common.{ap, ◌∙◌, sym}
 use Rattle.audit.specs.Standing.{says, is_here}
 use Rattle.audit.proofs.Standing.{drop_at, hash_here, hash_away}
 use Rattle.audit.proofs.statuses.Statuses.set_here.Goals as goal

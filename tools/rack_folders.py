@@ -1,0 +1,55 @@
+"""What tools/copy-rack and tools/cut-live share: the folder of a copy, which gets its name when all of it is there, and what is told of it."""
+import os
+import shutil
+import sys
+
+import ending
+import least
+import racks
+
+
+def sync(folder):
+    handle = os.open(folder, os.O_RDONLY)
+    os.fsync(handle)
+    os.close(handle)
+
+
+def target_of(word):
+    """A folder that isn't there yet."""
+    target = word.rstrip("/") or "/"
+    if os.path.lexists(target):
+        least.fail(f"{target} is there: a copy gets a folder of its own")
+    return target
+
+
+def publish(target, files):
+    """Writes files, each by its function, into a new folder, and syncs them; the folder gets its name when all are there."""
+    part = f"{target}.part-{os.getpid()}"
+    ending.rooms.append(part)
+    try:
+        os.mkdir(part)
+        for name, write in files.items():
+            with open(f"{part}/{name}", "xb") as out:
+                write(out)
+                out.flush()
+                os.fsync(out.fileno())
+        sync(part)
+        os.rename(part, target)
+        ending.rooms.append(target)
+        sync(os.path.dirname(target) or ".")
+    except OSError as why:
+        shutil.rmtree(part, ignore_errors=True)
+        least.fail(f"{why.filename or target}: {why.strerror}", 3)
+
+
+def tell(folder):
+    """Reads a copy, tells what it holds and what is wrong with it; the status."""
+    try:
+        rack = racks.open_rack(folder)
+    except racks.NoRack as why:
+        least.fail(why, 1)
+    print(f"{folder}: {racks.summary(rack)}", flush=True)
+    wrong = racks.told_wrong(rack, True)
+    for line in wrong:
+        print(line, file=sys.stderr)
+    return int(bool(wrong))
