@@ -1,10 +1,12 @@
 /* Refuses one growth of memory to the program before which it is loaded (LD_PRELOAD): the REFUSE_AT-th time, from 1, that the program itself, and
    no library of its, calls malloc, calloc or realloc. The file REFUSE_TOLD has how often the program did, as a number of eight bytes. Where REFUSE_BEHIND
-   is set, only the calls of its first thread count, from the first write to a file on (pwrite, which a pipe can't have). */
+   is set, only the calls of its first thread count, from the first write to a file on (pwrite, which a pipe can't have); and where another thread makes
+   that write, it is held until the first one waits for a thread to end, so that what it does of its own beforehand does not count. */
 #define _GNU_SOURCE
 #include <dlfcn.h>
 #include <errno.h>
 #include <link.h>
+#include <pthread.h>
 #include <stdatomic.h>
 #include <stdlib.h>
 
@@ -19,9 +21,10 @@ static atomic_ulong *calls = &none_told;
 static unsigned long refused_at;
 static char *low, *high;
 static int only_behind;
-static atomic_int has_written;
+static atomic_int has_written, is_waiting;
 static __thread int is_first;
 static ssize_t (*write_at)(int, const void *, size_t, off_t);
+static int (*join)(pthread_t, void **);
 
 /* The first object that is told is the program. */
 static int bounds(struct dl_phdr_info *info, size_t size, void *data)
@@ -48,6 +51,7 @@ __attribute__((constructor)) static void begin(void)
     only_behind = getenv("REFUSE_BEHIND") != NULL;
     is_first = 1;
     write_at = (ssize_t (*)(int, const void *, size_t, off_t))dlsym(RTLD_NEXT, "pwrite");
+    join = (int (*)(pthread_t, void **))dlsym(RTLD_NEXT, "pthread_join");
     calls = told_in("REFUSE_TOLD", &none_told, sizeof none_told);
     dl_iterate_phdr(bounds, NULL);
 }
@@ -79,8 +83,22 @@ void *realloc(void *old, size_t size)
     return refuses(__builtin_return_address(0)) ? NULL : __libc_realloc(old, size);
 }
 
+int pthread_join(pthread_t thread, void **value)
+{
+    if (is_first)
+        atomic_store(&is_waiting, 1);
+    int status = join(thread, value);
+    if (is_first)
+        atomic_store(&is_waiting, 0);
+    return status;
+}
+
 ssize_t pwrite(int file, const void *bytes, size_t size, off_t at)
 {
-    atomic_store(&has_written, 1);
+    if (only_behind && !atomic_load(&has_written)) {
+        for (int ms = 0; ms < 10000 && !is_first && !atomic_load(&is_waiting); ms++)
+            usleep(1000);
+        atomic_store(&has_written, 1);
+    }
     return write_at(file, bytes, size, at);
 }

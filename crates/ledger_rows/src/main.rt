@@ -29,6 +29,9 @@ fn run_rows<R: AllocGlobal + Env + Files + Print + Threads + Wait + Sync>(
 }
 
 fn main(rt: HostRuntime) -> io::Result<ExitCode> {
-    let holds = run_rows(&rt)?;
-    Ok(ExitCode::from(u8::from(!holds)))
+    if run_rows(&rt)? {
+        Ok(ExitCode::from(0))
+    } else {
+        Ok(ExitCode::from(1))
+    }
 }

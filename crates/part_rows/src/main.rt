@@ -53,24 +53,40 @@ fn run_devices<W: Wait>(rt: &HostRuntime, wait: &W) -> io::Result<bool> {
 fn tell_others<R: AllocGlobal + Env + Print>(rt: &R) -> io::Result<bool> {
     let others = words_where(rt, &|word: &str| !is_own(word))?;
     for word in &others {
+        let word = word.as_str();
         println!(rt; "NOT {word}: names no rows")?;
     }
     Ok(others.is_empty())
 }
 
-// Runs all rows that the words name, a line for each folder's; whether each came to what it should.
+// Runs all rows that the words name; whether each came to what it should.
 fn run_rows<R: AllocGlobal + Env + Files + Print + Threads + Wait + Sync>(
     rt: &R,
     host: &HostRuntime,
 ) -> io::Result<bool> {
-    let mut holds = run_locks(rt)?;
-    holds &= run_devices(host, rt)?;
-    holds &= piece_rows::run_rows(rt)?;
-    holds &= node_rows::run_rows(rt)?;
-    holds &= journal_rows::run_rows(rt)?;
-    holds &= cut_rows::run_rows(rt)?;
-    holds &= tell_others(rt)?;
-    Ok(holds)
+    let have_no_others = tell_others(rt)?;
+    let has_locks = run_locks(rt)?;
+    let has_devices = run_devices(host, rt)?;
+    let has_pieces = piece_rows::run_rows(rt)?;
+    let has_nodes = node_rows::run_rows(rt)?;
+    let has_journals = journal_rows::run_rows(rt)?;
+    let has_cuts = cut_rows::run_rows(rt)?;
+    Ok(have_no_others
+        && has_locks
+        && has_devices
+        && has_pieces
+        && has_nodes
+        && has_journals
+        && has_cuts)
+}
+
+// The status by whether each row came to what it should.
+fn status(holds: bool) -> ExitCode {
+    if holds {
+        ExitCode::from(0)
+    } else {
+        ExitCode::from(1)
+    }
 }
 
 fn main(rt: HostRuntime) -> io::Result<ExitCode> {
@@ -78,8 +94,8 @@ fn main(rt: HostRuntime) -> io::Result<ExitCode> {
     match words.as_slice().split_first() {
         Some((first, more)) if first.as_str() == SPEEDS => {
             device_rows::measure(&rt, more)?;
-            Ok(ExitCode::from(0))
+            Ok(status(true))
         }
-        _rows => Ok(ExitCode::from(u8::from(!run_rows(&rt, &rt)?))),
+        _rows => Ok(status(run_rows(&rt, &rt)?)),
     }
 }
