@@ -71,13 +71,15 @@ fn run_rows<R: AllocGlobal + Env + Files + Print + Threads + Wait + Sync>(
     let has_nodes = node_rows::run_rows(rt)?;
     let has_journals = journal_rows::run_rows(rt)?;
     let has_cuts = cut_rows::run_rows(rt)?;
-    Ok(have_no_others
-        && has_locks
-        && has_devices
-        && has_pieces
-        && has_nodes
-        && has_journals
-        && has_cuts)
+    Ok(
+        have_no_others
+            && has_locks
+            && has_devices
+            && has_pieces
+            && has_nodes
+            && has_journals
+            && has_cuts,
+    )
 }
 
 // The status by whether each row came to what it should.
