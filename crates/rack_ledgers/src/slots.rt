@@ -8,12 +8,23 @@ use outside::Disk;
 use std::alloc::Global;
 use std::mem;
 
+// The most that is made room for at once.
+const MOST_ROOM: u64 = 1 << 24;
+
 /// What is at the place of a node: its disk, which waits to be opened; the node; or the disk again, and why it is none. Nothing is there while it is opened.
 pub(crate) enum Slot<D, N> {
     Waiting(NodeId, D),
     Opened(N),
     Refused(D, Answer),
     Gone,
+}
+
+// Makes room for the lists that come of so many bytes of a journal. A block that is taken and given back at once leaves its room with the thread, whose
+// lists then need no call of the system for each page. It is taken twice: the first time the system itself may get it back.
+fn make_room(alloc: Global, bytes: u64) {
+    let room = bytes.saturating_mul(4).min(MOST_ROOM) as usize;
+    let _ = Vec::<u8>::with_capacity(alloc, room);
+    let _ = Vec::<u8>::with_capacity(alloc, room);
 }
 
 // What comes of a disk that is opened as this node.
@@ -26,6 +37,7 @@ fn come_of<D: Disk, N: OnDisk<D>>(
     ensures { SlotResult D.Disk N.disk_of N.opens N.fits N.refusals N.refused ledger.now
         (Slot.Waiting node disk) result }
 {
+    make_room(alloc, disk.len());
     match N::open_disk(alloc, node, Some(ledger), disk) {
         Ok(node) => Slot::Opened(node),
         Err((disk, fault)) => Slot::Refused(disk, fault),
