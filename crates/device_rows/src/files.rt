@@ -63,7 +63,7 @@ pub fn is_taken_in_turn(rt: &HostRuntime) -> bool {
 
 /// Whether an inbox reads the disk's file as it is, which is removed then.
 pub fn is_read(rt: &HostRuntime) -> bool {
-    let mut inbox = FileInbox::new(rt);
+    let mut inbox = FileInbox::new(rt, rt.alloc());
     let mut buf = [b'a', b'b', b'c'];
     let two = inbox.read(FILE, 1, &mut buf).ok() == Some(2) && &buf == b"bcc";
     two && inbox.read("rack/none", 0, &mut buf).is_err() && fs::remove_file(rt, FILE).is_ok()

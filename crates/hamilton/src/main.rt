@@ -32,7 +32,7 @@ fn main(rt: HostRuntime) -> ExitCode {
     let Ok(words) = args.collect::<Vec<String>>(alloc) else {
         return early(&mut out, Answer::Memory);
     };
-    let mut inbox = FileInbox::new(&rt);
+    let mut inbox = FileInbox::new(&rt, alloc);
     let rack = FileRack::new(&rt, alloc);
     let Done { status, rack: _ } = process(
         &rt,

@@ -8,12 +8,22 @@ use outside::Disk;
 use std::alloc::Global;
 use std::mem;
 
+// How many bytes a node's lists have room for before the thread asks the system for more.
+const ROOM: usize = 1 << 24;
+
 /// What is at the place of a node: its disk, which waits to be opened; the node; or the disk again, and why it is none. Nothing is there while it is opened.
 pub(crate) enum Slot<D, N> {
     Waiting(NodeId, D),
     Opened(N),
     Refused(D, Answer),
     Gone,
+}
+
+// Makes room for a node's lists. A block that is taken and given back at once leaves its room with the thread, whose lists then need no call of the
+// system for each page. It is taken twice, for the first time the system itself gets it back.
+fn make_room(alloc: Global) {
+    let _ = Vec::<u8>::with_capacity(alloc, ROOM);
+    let _ = Vec::<u8>::with_capacity(alloc, ROOM);
 }
 
 // What comes of a disk that is opened as this node.
@@ -26,6 +36,7 @@ fn come_of<D: Disk, N: OnDisk<D>>(
     ensures { SlotResult D.Disk N.disk_of N.opens N.fits N.refusals N.refused ledger.now
         (Slot.Waiting node disk) result }
 {
+    make_room(alloc);
     match N::open_disk(alloc, node, Some(ledger), disk) {
         Ok(node) => Slot::Opened(node),
         Err((disk, fault)) => Slot::Refused(disk, fault),
