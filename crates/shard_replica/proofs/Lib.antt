@@ -1,0 +1,11 @@
+pub mod Lists
+pub mod Sound
+pub mod Changes
+pub mod Beginning
+pub mod Comings
+pub mod Answers
+pub mod Promotions
+pub mod Runs
+pub mod Standing
+pub mod Rounds
+pub mod Proved
