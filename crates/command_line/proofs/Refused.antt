@@ -10,7 +10,7 @@ use Rattle.hex.proofs.HexLemmas.{decode_of-ok}
 use Rattle.cbdc_types.specs.Limits.{ShapeOf}
 use Rattle.clap.specs.Words.{Text, Row, Kinds, all_of, fault_of, first_of, subcommand_of}
 use Rattle.clap.specs.Kinds.{or_else}
-use Rattle.command_line.specs.Asked.{HasBadValue, HasMistake, HasNoHashes, HasNoNumber, HasNoRepeats, HasNoSeed, HasNoShape, HasNoWorkload, HasNumber, HasRepeats, HasSeed, HasShape, HasWish, NameCommand, word_faults, help_words, topic_faults}
+use Rattle.command_line.specs.Asked.{HasBadValue, HasMistake, HasNoHashes, HasNoNumber, HasNoUpTo, HasNoSeed, HasNoShape, HasNoWorkload, HasNumber, HasReplicas, HasSeed, HasUpTo, HasShape, HasWish, NameCommand, word_faults, help_words, topic_faults}
 use Rattle.command_line.specs.Command.{hamilton}
 use Rattle.command_line.specs.Values.{IsHashText, IsNumber, IsUpTo, IsWholeNumber}
 use Rattle.requests.specs.declared.Request.TheVariants.{Init, Run, Recover, Status, Audit, Gen, Show}
@@ -85,13 +85,15 @@ no_shape rows shape has (inr (inr (inr none))) = no_number rows (codes "batch") 
 no_seed : (rows : List Row) (n : ℕ) → HasSeed rows n → HasNoSeed rows → ⊥
 no_seed rows n has none = none.2 n (subst (λ (t : Text). IsWholeNumber t n) (one_text has.0 none.0 (sym has.1 ∙ none.1)) has.2)
 
-no_repeats : (rows : List Row) (n : ℕ) → HasRepeats rows n → HasNoRepeats rows → ⊥
-no_repeats rows n has none = none.2 n (subst (λ (t : Text). IsUpTo 3 t n) (one_text has.0 none.0 (sym has.1 ∙ none.1)) has.2)
+no_up_to : (rows : List Row) (name : Text) (most n : ℕ) → HasUpTo rows name most n → HasNoUpTo rows name most → ⊥
+no_up_to rows name most n has none = none.2 n (subst (λ (t : Text). IsUpTo most t n) (one_text has.0 none.0 (sym has.1 ∙ none.1)) has.2)
 
-no_workload : (rows : List Row) (shape : ShapeOf) (seed count : ℕ) → HasShape rows shape → HasSeed rows seed → HasNumber rows (codes "count") 10000 count → HasNoWorkload rows → ⊥
-no_workload rows shape seed count sized seeded counted (inl none) = no_shape rows shape sized none
-no_workload rows shape seed count sized seeded counted (inr (inl none)) = no_seed rows seed seeded none
-no_workload rows shape seed count sized seeded counted (inr (inr none)) = no_number rows (codes "count") 10000 count counted none
+no_workload : (rows : List Row) (shape : ShapeOf) (seed count replicas : ℕ) → HasShape rows shape → HasSeed rows seed → HasNumber rows (codes "count") 10000 count → HasReplicas rows replicas
+    → HasNoWorkload rows → ⊥
+no_workload rows shape seed count replicas sized seeded counted copied (inl none) = no_shape rows shape sized none
+no_workload rows shape seed count replicas sized seeded counted copied (inr (inl none)) = no_seed rows seed seeded none
+no_workload rows shape seed count replicas sized seeded counted copied (inr (inr (inl none))) = no_number rows (codes "count") 10000 count counted none
+no_workload rows shape seed count replicas sized seeded counted copied (inr (inr (inr none))) = no_up_to rows (codes "replicas") 3 replicas copied none
 
 hash_text : (t : Text) (h : List ℕ) → decode_of t ≡ Ok h → length h ≡ 32 → IsHashText t
 hash_text t h e size =
@@ -141,7 +143,7 @@ asked_law words (Run verdicts clients options) whole asked (inr (inr (inr (inl b
     other_command (codes "run") (codes "gen") asked.0 b.0 (one_met words (codes "run") (codes "gen") asked.0 b.0 asked.1.0 b.1) refl refl
 asked_law words (Run verdicts clients options) whole asked (inr (inr (inr (inr b)))) =
     let same = same_rows (codes "run") (codes "run") b.0 asked.0 (one_met words (codes "run") (codes "run") b.0 asked.0 b.1 asked.1.0) in
-    no_repeats asked.0 options.repeats asked.1.4 (subst (λ (r : List Row). HasNoRepeats r) same b.2)
+    no_up_to asked.0 (codes "repeats") 3 options.repeats asked.1.4 (subst (λ (r : List Row). HasNoUpTo r (codes "repeats") 3) same b.2)
 asked_law words Recover whole asked (inl mistake) = no_mistake words (codes "recover") asked.0 asked.1 refl mistake
 asked_law words Recover whole asked (inr bad) = no_bad_value words (codes "recover") asked.0 asked.1 refl refl refl refl refl bad
 asked_law words (Status hashes) whole asked (inl mistake) = no_mistake words (codes "status") asked.0 asked.1.0 refl mistake
@@ -157,16 +159,16 @@ asked_law words (Status hashes) whole asked (inr (inr (inr (inr b)))) =
     other_command (codes "status") (codes "run") asked.0 b.0 (one_met words (codes "status") (codes "run") asked.0 b.0 asked.1.0 b.1) refl refl
 asked_law words (Audit mint clients) whole asked (inl mistake) = no_mistake words (codes "audit") asked.0 asked.1.0 refl mistake
 asked_law words (Audit mint clients) whole asked (inr bad) = no_bad_value words (codes "audit") asked.0 asked.1.0 refl refl refl refl refl bad
-asked_law words (Gen shape seed count) whole asked (inl mistake) = no_mistake words (codes "gen") asked.0 asked.1.0 refl mistake
-asked_law words (Gen shape seed count) whole asked (inr (inl b)) =
+asked_law words (Gen shape seed count options) whole asked (inl mistake) = no_mistake words (codes "gen") asked.0 asked.1.0 refl mistake
+asked_law words (Gen shape seed count options) whole asked (inr (inl b)) =
     other_command (codes "gen") (codes "init") asked.0 b.0 (one_met words (codes "gen") (codes "init") asked.0 b.0 asked.1.0 b.1) refl refl
-asked_law words (Gen shape seed count) whole asked (inr (inr (inl b))) =
+asked_law words (Gen shape seed count options) whole asked (inr (inr (inl b))) =
     other_command (codes "gen") (codes "status") asked.0 b.0 (one_met words (codes "gen") (codes "status") asked.0 b.0 asked.1.0 b.2) refl refl
-asked_law words (Gen shape seed count) whole asked (inr (inr (inr (inr b)))) =
+asked_law words (Gen shape seed count options) whole asked (inr (inr (inr (inr b)))) =
     other_command (codes "gen") (codes "run") asked.0 b.0 (one_met words (codes "gen") (codes "run") asked.0 b.0 asked.1.0 b.1) refl refl
-asked_law words (Gen shape seed count) whole asked (inr (inr (inr (inl b)))) =
+asked_law words (Gen shape seed count options) whole asked (inr (inr (inr (inl b)))) =
     let same = same_rows (codes "gen") (codes "gen") b.0 asked.0 (one_met words (codes "gen") (codes "gen") b.0 asked.0 b.1 asked.1.0) in
-    no_workload asked.0 shape seed count asked.1.1 asked.1.2 asked.1.3 (subst (λ (r : List Row). HasNoWorkload r) same b.2)
+    no_workload asked.0 shape seed count options.replicas asked.1.1 asked.1.2 asked.1.3 asked.1.4 (subst (λ (r : List Row). HasNoWorkload r) same b.2)
 asked_law words (Show text) whole asked (inl mistake) = (faults_pure words).apart mistake asked
 asked_law words (Show text) whole asked (inr (inl b)) = no_wish words (codes "init") b.0 b.1 refl asked
 asked_law words (Show text) whole asked (inr (inr (inl b))) = no_wish words (codes "status") b.0 b.2 refl asked

@@ -41,7 +41,7 @@ asked_by_wish words (Ok (Run verdicts clients options)) shows wish = absurd show
 asked_by_wish words (Ok Recover) shows wish = absurd shows
 asked_by_wish words (Ok (Audit mint clients)) shows wish = absurd shows
 asked_by_wish words (Ok (Status hashes)) shows wish = absurd shows
-asked_by_wish words (Ok (Gen shape seed count)) shows wish = absurd shows
+asked_by_wish words (Ok (Gen shape seed count options)) shows wish = absurd shows
 asked_by_wish words (Err e) shows wish = tt
 
 -- bad words are refused by a mistake

@@ -1,5 +1,5 @@
 -- Words ask for one thing.
-use Rattle.std.proofs.Common.{◌≡◌, ◌∙◌, ◌⊎◌, ◌+◌, ◌<◌, ◌^◌, ℕ, true, false, codes, List, [], ◌∷◌, map, Option, Some, None, Result, Ok, inl, inr, refl, sym, ap, subst, arith, true≢false}
+use Rattle.std.proofs.Common.{◌≡◌, ◌∙◌, ◌⊎◌, ◌+◌, ◌<◌, ◌^◌, ℕ, Bool, true, false, codes, List, [], ◌∷◌, map, Option, Some, None, Result, Ok, inl, inr, refl, sym, ap, subst, arith, true≢false}
 use Rattle.std.specs.Prelude.{is_some, slice_get}
 use Rattle.std.specs.Option.{option_map_or}
 use Rattle.std.specs.Str.{bytes_eq}
@@ -8,7 +8,7 @@ use Rattle.hex.specs.Hex.{decode_of}
 use Rattle.hex.specs.declared.error.FromHexError.{FromHexError}
 use Rattle.cbdc_types.specs.Limits.{ShapeOf}
 use Rattle.clap.specs.Words.{Text, Row, first_of}
-use Rattle.command_line.specs.Asked.{HasNumber, HasRepeats, HasSeed, HasShape, AreAuditWords, AreGenWords, AreInitWords, AreRunWords, AreStatusWords, NameCommand}
+use Rattle.command_line.specs.Asked.{HasNumber, HasSeed, HasShape, HasUpTo, HasWatch, flag_text, AreAuditWords, AreGenWords, AreInitWords, AreRunWords, AreStatusWords, NameCommand}
 use Rattle.command_line.specs.Places.{option_at, option_place, positional_places}
 use Rattle.command_line.specs.Words.{IsFirstWord, IsGivenBy, StandsThere}
 use Rattle.requests.specs.declared.FileWord.{FileWord}
@@ -23,6 +23,12 @@ rows_of words c rows others m n = same_rows c c rows others (one_met words c c r
 -- and words have one command
 apart : (words : List Text) (c d : Text) (rows others : List Row) → NameCommand words c rows → NameCommand words d others → bytes_eq c c ≡ true → bytes_eq d c ≡ false → ⊥
 apart words c d rows others m n itself other = other_command c d rows others (one_met words c d rows others m n) itself other
+
+one_flag : (b c : Bool) → flag_text b ≡ flag_text c → b ≡ c
+one_flag true true e = refl
+one_flag true false e = absurd (true≢false (sym (ap (λ t. bytes_eq t (codes "false")) e)))
+one_flag false true e = absurd (true≢false (ap (λ t. bytes_eq t (codes "false")) e))
+one_flag false false e = refl
 
 module _ (rows : List Row) where
   first_once : (option s t : Text) → first_of option rows ≡ Some s → first_of option rows ≡ Some t → s ≡ t
@@ -42,12 +48,15 @@ module _ (rows : List Row) where
       let b = other.2 in
       decimal_injective n m a.bound b.bound (sym a.spelled ∙ text ∙ b.spelled)
 
-  one_repeats : (n m : ℕ) → HasRepeats rows n → HasRepeats rows m → n ≡ m
-  one_repeats n m one other =
-      let text : one.0 ≡ other.0 = first_once (codes "repeats") one.0 other.0 one.1 other.1 in
+  one_up_to : (option : Text) (most n m : ℕ) → most < 2 ^ 64 → HasUpTo rows option most n → HasUpTo rows option most m → n ≡ m
+  one_up_to option most n m small one other =
+      let text : one.0 ≡ other.0 = first_once option one.0 other.0 one.1 other.1 in
       let a = one.2 in
       let b = other.2 in
-      decimal_injective n m (omega (arith, a.bound)) (omega (arith, b.bound)) (sym a.spelled ∙ text ∙ b.spelled)
+      decimal_injective n m (omega (arith, a.bound, small)) (omega (arith, b.bound, small)) (sym a.spelled ∙ text ∙ b.spelled)
+
+  one_watch : (b c : Bool) → HasWatch rows b → HasWatch rows c → b ≡ c
+  one_watch b c one other = one_flag b c (one_text (flag_text b) (flag_text c) (sym one ∙ other))
 
   one_shape : (shape kind : ShapeOf) → HasShape rows shape → HasShape rows kind → shape ≡ kind
   one_shape shape kind one other =
@@ -106,7 +115,7 @@ one_request_law words (Init shape mint) (Run told files others) asked also = abs
 one_request_law words (Init shape mint) Recover asked also = absurd (apart words (codes "init") (codes "recover") asked.0 also.0 asked.1.0 also.1 refl refl)
 one_request_law words (Init shape mint) (Status sought) asked also = absurd (apart words (codes "init") (codes "status") asked.0 also.0 asked.1.0 also.1.0 refl refl)
 one_request_law words (Init shape mint) (Audit file files) asked also = absurd (apart words (codes "init") (codes "audit") asked.0 also.0 asked.1.0 also.1.0 refl refl)
-one_request_law words (Init shape mint) (Gen kind number size) asked also = absurd (apart words (codes "init") (codes "gen") asked.0 also.0 asked.1.0 also.1.0 refl refl)
+one_request_law words (Init shape mint) (Gen kind number size others) asked also = absurd (apart words (codes "init") (codes "gen") asked.0 also.0 asked.1.0 also.1.0 refl refl)
 one_request_law words (Init shape mint) (Show other) asked also = absurd (no_wish words (codes "init") asked.0 asked.1.0 refl also)
 one_request_law words (Run verdicts clients options) (Init kind file) asked also = absurd (apart words (codes "run") (codes "init") asked.0 also.0 asked.1.0 also.1.0 refl refl)
 one_request_law words (Run verdicts clients options) (Run told files others) asked also =
@@ -117,20 +126,20 @@ one_request_law words (Run verdicts clients options) (Run told files others) ask
       own.3.2.named ∙ named ∙ sym also.1.3.2.named,
       given_once (codes "verdicts") words verdicts told own.2 also.1.2,
       own.3.2.placed ∙ sym also.1.3.2.placed,
-      let repeats : options.repeats ≡ others.repeats = one_repeats also.0 options.repeats others.repeats own.4 also.1.4 in
+      let repeats : options.repeats ≡ others.repeats = one_up_to also.0 (codes "repeats") 3 options.repeats others.repeats (omega arith) own.4 also.1.4 in
           λ i. record { repeats = repeats i },
     )
 one_request_law words (Run verdicts clients options) Recover asked also = absurd (apart words (codes "run") (codes "recover") asked.0 also.0 asked.1.0 also.1 refl refl)
 one_request_law words (Run verdicts clients options) (Status sought) asked also = absurd (apart words (codes "run") (codes "status") asked.0 also.0 asked.1.0 also.1.0 refl refl)
 one_request_law words (Run verdicts clients options) (Audit file files) asked also = absurd (apart words (codes "run") (codes "audit") asked.0 also.0 asked.1.0 also.1.0 refl refl)
-one_request_law words (Run verdicts clients options) (Gen kind number size) asked also = absurd (apart words (codes "run") (codes "gen") asked.0 also.0 asked.1.0 also.1.0 refl refl)
+one_request_law words (Run verdicts clients options) (Gen kind number size others) asked also = absurd (apart words (codes "run") (codes "gen") asked.0 also.0 asked.1.0 also.1.0 refl refl)
 one_request_law words (Run verdicts clients options) (Show other) asked also = absurd (no_wish words (codes "run") asked.0 asked.1.0 refl also)
 one_request_law words Recover (Init kind file) asked also = absurd (apart words (codes "recover") (codes "init") asked.0 also.0 asked.1 also.1.0 refl refl)
 one_request_law words Recover (Run told files others) asked also = absurd (apart words (codes "recover") (codes "run") asked.0 also.0 asked.1 also.1.0 refl refl)
 one_request_law words Recover Recover asked also = tt
 one_request_law words Recover (Status sought) asked also = absurd (apart words (codes "recover") (codes "status") asked.0 also.0 asked.1 also.1.0 refl refl)
 one_request_law words Recover (Audit file files) asked also = absurd (apart words (codes "recover") (codes "audit") asked.0 also.0 asked.1 also.1.0 refl refl)
-one_request_law words Recover (Gen kind number size) asked also = absurd (apart words (codes "recover") (codes "gen") asked.0 also.0 asked.1 also.1.0 refl refl)
+one_request_law words Recover (Gen kind number size others) asked also = absurd (apart words (codes "recover") (codes "gen") asked.0 also.0 asked.1 also.1.0 refl refl)
 one_request_law words Recover (Show other) asked also = absurd (no_wish words (codes "recover") asked.0 asked.1 refl also)
 one_request_law words (Status hashes) (Init kind file) asked also = absurd (apart words (codes "status") (codes "init") asked.0 also.0 asked.1.0 also.1.0 refl refl)
 one_request_law words (Status hashes) (Run told files others) asked also = absurd (apart words (codes "status") (codes "run") asked.0 also.0 asked.1.0 also.1.0 refl refl)
@@ -141,7 +150,7 @@ one_request_law words (Status hashes) (Status sought) asked also =
     let given : own.1.0 ≡ also.1.1.0 = one_list own.1.0 also.1.1.0 (sym own.1.1 ∙ also.1.1.1) in
     one_hashes hashes.items sought.items (sym own.1.2 ∙ ap (map decode_of) given ∙ also.1.1.2)
 one_request_law words (Status hashes) (Audit file files) asked also = absurd (apart words (codes "status") (codes "audit") asked.0 also.0 asked.1.0 also.1.0 refl refl)
-one_request_law words (Status hashes) (Gen kind number size) asked also = absurd (apart words (codes "status") (codes "gen") asked.0 also.0 asked.1.0 also.1.0 refl refl)
+one_request_law words (Status hashes) (Gen kind number size others) asked also = absurd (apart words (codes "status") (codes "gen") asked.0 also.0 asked.1.0 also.1.0 refl refl)
 one_request_law words (Status hashes) (Show other) asked also = absurd (no_wish words (codes "status") asked.0 asked.1.0 refl also)
 one_request_law words (Audit mint clients) (Init kind file) asked also = absurd (apart words (codes "audit") (codes "init") asked.0 also.0 asked.1.0 also.1.0 refl refl)
 one_request_law words (Audit mint clients) (Run told files others) asked also = absurd (apart words (codes "audit") (codes "run") asked.0 also.0 asked.1.0 also.1.0 refl refl)
@@ -155,22 +164,28 @@ one_request_law words (Audit mint clients) (Audit file files) asked also =
       first_once_placed words mint file own.2 also.1.2,
       own.3.placed ∙ sym also.1.3.placed,
     )
-one_request_law words (Audit mint clients) (Gen kind number size) asked also = absurd (apart words (codes "audit") (codes "gen") asked.0 also.0 asked.1.0 also.1.0 refl refl)
+one_request_law words (Audit mint clients) (Gen kind number size others) asked also = absurd (apart words (codes "audit") (codes "gen") asked.0 also.0 asked.1.0 also.1.0 refl refl)
 one_request_law words (Audit mint clients) (Show other) asked also = absurd (no_wish words (codes "audit") asked.0 asked.1.0 refl also)
-one_request_law words (Gen shape seed count) (Init kind file) asked also = absurd (apart words (codes "gen") (codes "init") asked.0 also.0 asked.1.0 also.1.0 refl refl)
-one_request_law words (Gen shape seed count) (Run told files others) asked also = absurd (apart words (codes "gen") (codes "run") asked.0 also.0 asked.1.0 also.1.0 refl refl)
-one_request_law words (Gen shape seed count) Recover asked also = absurd (apart words (codes "gen") (codes "recover") asked.0 also.0 asked.1.0 also.1 refl refl)
-one_request_law words (Gen shape seed count) (Status sought) asked also = absurd (apart words (codes "gen") (codes "status") asked.0 also.0 asked.1.0 also.1.0 refl refl)
-one_request_law words (Gen shape seed count) (Audit file files) asked also = absurd (apart words (codes "gen") (codes "audit") asked.0 also.0 asked.1.0 also.1.0 refl refl)
-one_request_law words (Gen shape seed count) (Gen kind number size) asked also =
+one_request_law words (Gen shape seed count options) (Init kind file) asked also = absurd (apart words (codes "gen") (codes "init") asked.0 also.0 asked.1.0 also.1.0 refl refl)
+one_request_law words (Gen shape seed count options) (Run told files others) asked also = absurd (apart words (codes "gen") (codes "run") asked.0 also.0 asked.1.0 also.1.0 refl refl)
+one_request_law words (Gen shape seed count options) Recover asked also = absurd (apart words (codes "gen") (codes "recover") asked.0 also.0 asked.1.0 also.1 refl refl)
+one_request_law words (Gen shape seed count options) (Status sought) asked also = absurd (apart words (codes "gen") (codes "status") asked.0 also.0 asked.1.0 also.1.0 refl refl)
+one_request_law words (Gen shape seed count options) (Audit file files) asked also = absurd (apart words (codes "gen") (codes "audit") asked.0 also.0 asked.1.0 also.1.0 refl refl)
+one_request_law words (Gen shape seed count options) (Gen kind number size others) asked also =
     let same : asked.0 ≡ also.0 = rows_of words (codes "gen") asked.0 also.0 asked.1.0 also.1.0 in
-    let own : AreGenWords words also.0 shape seed count = subst (λ (r : List Row). AreGenWords words r shape seed count) same asked.1 in
-    (one_shape also.0 shape kind own.1 also.1.1, one_seed also.0 seed number own.2 also.1.2, one_number also.0 (codes "count") 10000 count size (omega arith) own.3 also.1.3)
-one_request_law words (Gen shape seed count) (Show other) asked also = absurd (no_wish words (codes "gen") asked.0 asked.1.0 refl also)
+    let own : AreGenWords words also.0 shape seed count options = subst (λ (r : List Row). AreGenWords words r shape seed count options) same asked.1 in
+    let replicas : options.replicas ≡ others.replicas = one_up_to also.0 (codes "replicas") 3 options.replicas others.replicas (omega arith) own.4 also.1.4 in
+    let watch : options.watch ≡ others.watch = one_watch also.0 options.watch others.watch own.5 also.1.5 in (
+      one_shape also.0 shape kind own.1 also.1.1,
+      one_seed also.0 seed number own.2 also.1.2,
+      one_number also.0 (codes "count") 10000 count size (omega arith) own.3 also.1.3,
+      λ i. record { replicas = replicas i; watch = watch i },
+    )
+one_request_law words (Gen shape seed count options) (Show other) asked also = absurd (no_wish words (codes "gen") asked.0 asked.1.0 refl also)
 one_request_law words (Show text) (Init kind file) asked also = absurd (no_wish words (codes "init") also.0 also.1.0 refl asked)
 one_request_law words (Show text) (Run told files others) asked also = absurd (no_wish words (codes "run") also.0 also.1.0 refl asked)
 one_request_law words (Show text) Recover asked also = absurd (no_wish words (codes "recover") also.0 also.1 refl asked)
 one_request_law words (Show text) (Status sought) asked also = absurd (no_wish words (codes "status") also.0 also.1.0 refl asked)
 one_request_law words (Show text) (Audit file files) asked also = absurd (no_wish words (codes "audit") also.0 also.1.0 refl asked)
-one_request_law words (Show text) (Gen kind number size) asked also = absurd (no_wish words (codes "gen") also.0 also.1.0 refl asked)
+one_request_law words (Show text) (Gen kind number size others) asked also = absurd (no_wish words (codes "gen") also.0 also.1.0 refl asked)
 one_request_law words (Show text) (Show other) asked also = tt

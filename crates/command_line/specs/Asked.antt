@@ -14,6 +14,7 @@ use Rattle.command_line.specs.Words.{AreFiles, IsFirstWord, IsGivenBy}
 use Rattle.requests.specs.declared.FileWord.{FileWord}
 use Rattle.requests.specs.declared.Request.{Request}
 use Rattle.requests.specs.declared.Request.TheVariants.{Init, Run, Recover, Status, Audit, Gen, Show}
+use Rattle.requests.specs.declared.GenOptions.{GenOptions}
 use Rattle.requests.specs.declared.RunOptions.{RunOptions}
 use Rattle.requests.specs.declared.WordsFault.{WordsFault}
 use Rattle.requests.specs.declared.WordsFault.TheVariants.{Bad, Memory}
@@ -84,13 +85,38 @@ HasNoShape rows =
     HasNoNumber rows (codes "shards") 64
     ⊎ (HasNoNumber rows (codes "coordinators") 16 ⊎ (HasNoNumber rows (codes "lanes") 16 ⊎ HasNoNumber rows (codes "batch") 1024))
 
--- the text of --repeats is this number, from 0 to 3: so many times more is each call of a new batch at a shard made
-abbrev pub HasRepeats : List Row → ℕ → Type 0
-HasRepeats rows n = (text : Text) × (first_of (codes "repeats") rows ≡ Some text) × IsUpTo 3 text n
+-- the option has this number, from 0 to a limit
+abbrev pub HasUpTo : List Row → Text → ℕ → ℕ → Type 0
+HasUpTo rows option most n = (text : Text) × (first_of option rows ≡ Some text) × IsUpTo most text n
 
--- the text of --repeats is no number from 0 to 3
+-- the option's text is no number from 0 to a limit
+abbrev pub HasNoUpTo : List Row → Text → ℕ → Type 0
+HasNoUpTo rows option most = (text : Text) × (first_of option rows ≡ Some text) × ((n : ℕ) → ¬ (IsUpTo most text n))
+
+-- --repeats is this number: so many times more is each call of a new batch at a shard made
+abbrev pub HasRepeats : List Row → ℕ → Type 0
+HasRepeats rows n = HasUpTo rows (codes "repeats") 3 n
+
+-- --repeats is no number from 0 to 3
 abbrev pub HasNoRepeats : List Row → Type 0
-HasNoRepeats rows = (text : Text) × (first_of (codes "repeats") rows ≡ Some text) × ((n : ℕ) → ¬ (IsUpTo 3 text n))
+HasNoRepeats rows = HasNoUpTo rows (codes "repeats") 3
+
+-- --replicas is this number: so many disks beside its own has each shard
+abbrev pub HasReplicas : List Row → ℕ → Type 0
+HasReplicas rows n = HasUpTo rows (codes "replicas") 3 n
+
+-- --replicas is no number from 0 to 3
+abbrev pub HasNoReplicas : List Row → Type 0
+HasNoReplicas rows = HasNoUpTo rows (codes "replicas") 3
+
+-- the text that clap has for an option without a value, where it stands among the words and where it does not
+abbrev pub flag_text : Bool → Text
+flag_text true = codes "true"
+flag_text false = codes "false"
+
+-- whether --watch stands among the words
+abbrev pub HasWatch : List Row → Bool → Type 0
+HasWatch rows watch = first_of (codes "watch") rows ≡ Some (flag_text watch)
 
 -- the text of the workload's seed is this number, which 64 bits hold
 abbrev pub HasSeed : List Row → ℕ → Type 0
@@ -102,7 +128,7 @@ HasNoSeed rows = (text : Text) × (first_of (codes "seed") rows ≡ Some text) �
 
 -- a number of `gen` is out of form
 abbrev pub HasNoWorkload : List Row → Type 0
-HasNoWorkload rows = HasNoShape rows ⊎ (HasNoSeed rows ⊎ HasNoNumber rows (codes "count") 10000)
+HasNoWorkload rows = HasNoShape rows ⊎ (HasNoSeed rows ⊎ (HasNoNumber rows (codes "count") 10000 ⊎ HasNoReplicas rows))
 
 -- a text that is no hash is among these
 abbrev pub HasNoHashes : List Text → Type 0
@@ -144,9 +170,12 @@ AreAuditWords words rows mint clients =
     NameCommand words (codes "audit") rows × (first_of (codes "mint") rows ≡ Some mint.name.now) × IsFirstWord words mint
     × AreFiles words (drop 1 (positional_places words)) (names_or_none (all_of (codes "client") rows)) clients
 
--- the words of `gen`: a shape, a seed, and how many transactions
-abbrev pub AreGenWords : List Text → List Row → ShapeOf → ℕ → ℕ → Type 0
-AreGenWords words rows shape seed count = NameCommand words (codes "gen") rows × HasShape rows shape × HasSeed rows seed × HasNumber rows (codes "count") 10000 count
+-- the words of `gen`: a shape, a seed, how many transactions, and how they are run
+abbrev pub AreGenWords : List Text → List Row → ShapeOf → ℕ → ℕ → GenOptions → Type 0
+AreGenWords words rows shape seed count options =
+    NameCommand words (codes "gen") rows × HasShape rows shape × HasSeed rows seed × HasNumber rows (codes "count") 10000 count
+    × HasReplicas rows options.replicas
+    × HasWatch rows options.watch
 
 -- the words ask for this request
 abbrev pub WordsAskFor : List Text → Request → Type 0
@@ -155,7 +184,7 @@ WordsAskFor words (Run verdicts clients options) = (rows : List Row) × AreRunWo
 WordsAskFor words Recover = (rows : List Row) × NameCommand words (codes "recover") rows
 WordsAskFor words (Status hashes) = (rows : List Row) × AreStatusWords words rows hashes.items
 WordsAskFor words (Audit mint clients) = (rows : List Row) × AreAuditWords words rows mint clients.items
-WordsAskFor words (Gen shape seed count) = (rows : List Row) × AreGenWords words rows shape seed count
+WordsAskFor words (Gen shape seed count options) = (rows : List Row) × AreGenWords words rows shape seed count options
 WordsAskFor words (Show text) = HasWish (word_faults words)
 
 -- a value is out of form: a number of `init`, of `gen` or of `run`, or a hash of `status`

@@ -24,7 +24,7 @@ AreAlike Recover Recover = Unit {0}
 AreAlike (Status hashes) (Status sought) = hashes.items ≡ sought.items
 AreAlike (Audit mint clients) (Audit file files) =
     (mint.name.now ≡ file.name.now) × (names_of clients.items ≡ names_of files.items) × (mint.place ≡ file.place) × (places_of clients.items ≡ places_of files.items)
-AreAlike (Gen shape seed count) (Gen kind number size) = (shape ≡ kind) × (seed ≡ number) × (count ≡ size)
+AreAlike (Gen shape seed count options) (Gen kind number size others) = (shape ≡ kind) × (seed ≡ number) × (count ≡ size) × (options ≡ others)
 AreAlike (Show text) (Show other) = Unit {0}
 AreAlike _ _ = ⊥
 

@@ -2,7 +2,7 @@
 ghost use Rattle.std.specs.Prelude.{◌≡◌, ◌≤◌, [], codes, drop, length, map, IsTrue, IfSome, IfOk, IfErr, IsErrOf, IsOk, Some, None, Ok};
 ghost use Rattle.hex.specs.Hex.{decode_of};
 ghost use Rattle.clap.specs.Words.{all_of, fault_of, first_of, found_of, kind_of, rows_of, subcommand_of, subcommand_rows_of};
-ghost use Rattle.command_line.specs.Asked.{WordsAskFor, AreWordsRefused, IsShow, HasMistake, HasWish, HasNumber, HasNoNumber, HasShape, HasNoShape, HasNoHashes, HasRepeats, HasNoRepeats, HasSeed, HasNoSeed, HasNoWorkload, NameCommand, is_mistake, is_wish, help_words, names_or_none};
+ghost use Rattle.command_line.specs.Asked.{WordsAskFor, AreWordsRefused, IsShow, HasMistake, HasWish, HasNumber, HasNoNumber, HasShape, HasNoShape, HasNoHashes, HasUpTo, HasNoUpTo, HasRepeats, HasNoRepeats, HasReplicas, HasNoReplicas, HasWatch, HasSeed, HasNoSeed, HasNoWorkload, NameCommand, is_mistake, is_wish, help_words, names_or_none};
 ghost use Rattle.command_line.specs.Command.{hamilton};
 ghost use Rattle.command_line.specs.Places.{positional_places};
 ghost use Rattle.command_line.specs.Words.{AreFiles, IsFirstWord, IsGivenBy, StandsThere, texts};
@@ -13,7 +13,7 @@ use crate::values::{hash_in, number_in, up_to_in, whole_in};
 use base_types::{Hash, Shape};
 use clap::error::ErrorKind;
 use clap::{ArgMatches, Error};
-use requests::{FileWord, Request, RunOptions, WordsFault};
+use requests::{FileWord, GenOptions, Request, RunOptions, WordsFault};
 use std::alloc::Global;
 
 // What a fault of the words answers: help and the version are texts to print.
@@ -220,16 +220,17 @@ fn verdicts_of<'a>(words: &'a [String], name: &'a str) -> Option<FileWord<'a>>
     }
 }
 
-// How many times more each shard call is made.
+// The number of an option, from 0 to a limit.
 #[tactic(auto, using(crate::proofs::Rows::rows))]
-fn repeats_of<'a>(inner: &ArgMatches<'a>) -> Result<u32, WordsFault>
-    ensures repeats { IfOk result (λ n. HasRepeats (rows_of (found_of inner.now)) n) }
-    ensures none { IsErrOf result WordsFault.Bad → HasNoRepeats (rows_of (found_of inner.now)) }
+fn number_up_to<'a>(inner: &ArgMatches<'a>, option: &str, most: u32) -> Result<u32, WordsFault>
+    ensures number { IfOk result (λ n. HasUpTo (rows_of (found_of inner.now)) option.now most n) }
+    ensures none { IsErrOf result WordsFault.Bad
+        → HasNoUpTo (rows_of (found_of inner.now)) option.now most }
 {
-    let Some(text) = inner.get_str("repeats") else {
+    let Some(text) = inner.get_str(option) else {
         return Err(WordsFault::Memory);
     };
-    match up_to_in(text, 3) {
+    match up_to_in(text, most) {
         Some(n) => Ok(n),
         None => Err(WordsFault::Bad),
     }
@@ -279,7 +280,7 @@ fn run_request<'a>(
     ensures asked { IfOk result (λ r. WordsAskFor (texts words.entry.now) r) }
     ensures refused { IfErr result (λ e. AreWordsRefused (texts words.entry.now) e) }
 {
-    match repeats_of(inner) {
+    match number_up_to(inner, "repeats", 3) {
         Ok(repeats) => {
             files_to_run(alloc, words, inner, RunOptions { repeats }).ok_or(WordsFault::Memory)
         }
@@ -384,15 +385,46 @@ fn seed_of<'a>(inner: &ArgMatches<'a>) -> Result<u64, WordsFault>
     }
 }
 
-// What the matches of `gen` ask for, by its shape.
+// Whether an auditor looks at the nodes while the lanes run.
+#[tactic(auto, using(crate::proofs::Rows::rows))]
+fn watch_of<'a>(inner: &ArgMatches<'a>) -> Option<bool>
+    ensures { IfSome result (λ watch. HasWatch (rows_of (found_of inner.now)) watch) }
+{
+    let Some(text) = inner.get_str("watch") else {
+        return None;
+    };
+    if text == "true" {
+        return Some(true);
+    }
+    if text == "false" {
+        return Some(false);
+    }
+    None
+}
+
+// How the workload is run.
+fn gen_options_of<'a>(inner: &ArgMatches<'a>) -> Result<GenOptions, WordsFault>
+    ensures replicas { IfOk result (λ o. HasReplicas (rows_of (found_of inner.now)) o.replicas) }
+    ensures watch { IfOk result (λ o. HasWatch (rows_of (found_of inner.now)) o.watch) }
+    ensures none { IsErrOf result WordsFault.Bad → HasNoReplicas (rows_of (found_of inner.now)) }
+{
+    let replicas = number_up_to(inner, "replicas", 3)?;
+    let watch = watch_of(inner).ok_or(WordsFault::Memory)?;
+    Ok(GenOptions { replicas, watch })
+}
+
+// What the matches of `gen` ask for, by its shape and its options.
 #[tactic(auto, using(crate::proofs::Rows::rows))]
 fn workload_of<'a, 'b>(
     words: &'b [String],
     inner: &ArgMatches<'b>,
     shape: Shape,
+    options: GenOptions,
 ) -> Result<Request<'a>, WordsFault>
     requires met { NameCommand (texts words.now) (codes "gen") (rows_of (found_of inner.now)) }
     requires shape { HasShape (rows_of (found_of inner.now)) shape }
+    requires replicas { HasReplicas (rows_of (found_of inner.now)) options.replicas }
+    requires watch { HasWatch (rows_of (found_of inner.now)) options.watch }
     ensures asked { IfOk result (λ r. WordsAskFor (texts words.entry.now) r) }
     ensures refused { IfErr result (λ e. AreWordsRefused (texts words.entry.now) e) }
 {
@@ -401,7 +433,12 @@ fn workload_of<'a, 'b>(
         Err(fault) => return Err(fault),
     };
     match number(inner, "count", 10_000) {
-        Ok(count) => Ok(Request::Gen { shape, seed, count }),
+        Ok(count) => Ok(Request::Gen {
+            shape,
+            seed,
+            count,
+            options,
+        }),
         Err(fault) => Err(fault),
     }
 }
@@ -415,8 +452,12 @@ fn gen_request<'a, 'b>(
     ensures asked { IfOk result (λ r. WordsAskFor (texts words.entry.now) r) }
     ensures refused { IfErr result (λ e. AreWordsRefused (texts words.entry.now) e) }
 {
+    let options = match gen_options_of(inner) {
+        Ok(options) => options,
+        Err(fault) => return Err(fault),
+    };
     match shape_of(inner) {
-        Ok(shape) => workload_of(words, inner, shape),
+        Ok(shape) => workload_of(words, inner, shape, options),
         Err(fault) => Err(fault),
     }
 }
@@ -480,9 +521,10 @@ fn asked_of<'a>(
 /// its place is that word's; Run's clients are all such words, in order, each at its place; its verdicts are the value of the first `--verdicts`,
 /// at the place of that option where a `=` joins them, else of the next word, and its repeats the number from 0 to 3 that its option spells in
 /// decimal, 0 where it is left out; Status has the hash of each word in order; Audit's mint is the first such word, and its clients are all others.
+/// Gen's replicas are the number from 0 to 3 that its option spells so, 0 where it is left out, and it is watched where that flag stands there.
 /// Each name is what clap took, too. Show only where help or the version is wished.
 ///
-/// Bad only where there is a mistake, an option of Init or of Gen or the repeats of Run are no number within their limit, or a word of Status is
+/// Bad only where there is a mistake, an option of Init or of Gen, or the repeats of Run, are no number within their limit, or a word of Status is
 /// not 64 hexadecimal digits.
 pub fn parse<'a>(alloc: Global, words: &'a [String]) -> Result<Request<'a>, WordsFault>
     ensures asked { IfOk result (λ r. WordsAskFor (texts words.entry.now) r) }

@@ -28,6 +28,15 @@ pub struct RunOptions {
     pub repeats: u32,
 }
 
+/// How a workload is run, where words say more than which.
+#[derive(Clone, Copy, Debug)]
+pub struct GenOptions {
+    /// How many disks beside its own each shard writes to, 0 to 3.
+    pub replicas: u32,
+    /// An auditor looks at the nodes while the lanes run.
+    pub watch: bool,
+}
+
 /// What the words ask for.
 #[derive(Drop)]
 pub enum Request<'a> {
@@ -58,6 +67,7 @@ pub enum Request<'a> {
         shape: Shape,
         seed: u64,
         count: u32,
+        options: GenOptions,
     },
     /// Print this text to the standard output, and do nothing else.
     Show(String),

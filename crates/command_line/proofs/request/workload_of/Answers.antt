@@ -8,4 +8,4 @@ pub returns-in-Err-clause-refused : goal.returns-in-Err-clause-refused
 returns-in-Err-clause-refused c = refused_workload (texts c.args.words.now) _ c.in-Err.fault c.requires.met (λ bad. inr (inl (c.in-Err.ensures.none (ap (λ (e : WordsFault). Err e) bad))))
 
 pub returns-in-Err-number-clause-refused : goal.returns-in-Err-number-clause-refused
-returns-in-Err-number-clause-refused c = refused_workload (texts c.args.words.now) _ c.in-Err-number.fault c.requires.met (λ bad. inr (inr (c.in-Err-number.ensures.none (ap (λ (e : WordsFault). Err e) bad))))
+returns-in-Err-number-clause-refused c = refused_workload (texts c.args.words.now) _ c.in-Err-number.fault c.requires.met (λ bad. inr (inr (inl (c.in-Err-number.ensures.none (ap (λ (e : WordsFault). Err e) bad)))))
