@@ -1,12 +1,24 @@
-"""How the scripts of tools/ and examples/ end: with what they say and a status, never with a traceback for what a person may run into."""
+"""How the scripts of tools/ and examples/ end: with what they say and a status, never with a traceback for what a person may run into.
+
+Each imports this first, so that one that is stopped while it still loads the rest ends without a traceback, too.
+"""
+import sys
+
+
+def hook(kind, *rest):
+    """What stops the script before it has begun needs no traceback."""
+    if not issubclass(kind, KeyboardInterrupt):
+        sys.__excepthook__(kind, *rest)
+
+
+sys.excepthook = hook
+sys.dont_write_bytecode = True
+
 import os
 import shutil
 import signal
 import subprocess
-import sys
 import tempfile
-
-sys.dont_write_bytecode = True
 
 BAD_WORDS, UNWRITTEN, STOPPED = 2, 3, 130
 # What scripts call by name.
@@ -21,15 +33,6 @@ if is_closed:
 
 class Stopped(Exception):
     """The script was told to end."""
-
-
-def hook(kind, *rest):
-    """What stops the script before it has begun needs no traceback."""
-    if not issubclass(kind, KeyboardInterrupt):
-        sys.__excepthook__(kind, *rest)
-
-
-sys.excepthook = hook
 
 
 def room(**named):
