@@ -14,11 +14,19 @@ def sync(folder):
     os.close(handle)
 
 
-def target_of(word):
-    """A folder that isn't there yet."""
+def is_within(path, folder):
+    """Whether a path, which need not be there, lies in a folder or below it."""
+    inner, outer = os.path.realpath(path), os.path.realpath(folder)
+    return os.path.commonpath([inner, outer]) == outer
+
+
+def target_of(word, source):
+    """A folder that isn't there yet, outside of the rack that is copied."""
     target = word.rstrip("/") or "/"
     if os.path.lexists(target):
         least.fail(f"{target} is there: a copy gets a folder of its own")
+    if is_within(target, source):
+        least.fail(f"{target} lies in {source} itself: a copy gets a folder of its own, outside of the rack")
     return target
 
 
@@ -48,8 +56,8 @@ def tell(folder):
         rack = racks.open_rack(folder)
     except racks.NoRack as why:
         least.fail(why, 1)
-    print(f"{folder}: {racks.summary(rack)}", flush=True)
     wrong = racks.told_wrong(rack, True)
+    print(f"{folder}: {racks.verdict(rack, wrong)}", flush=True)
     for line in wrong:
         print(line, file=sys.stderr)
     return int(bool(wrong))

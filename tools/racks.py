@@ -569,6 +569,11 @@ def told_wrong(rack, with_causes):
     return lines
 
 
+def verdict(rack, wrong):
+    """A line that says whether a rack is in order, by what `told_wrong` says of it, and what it holds."""
+    return f"{'not in order' if wrong else 'in order'}: {summary(rack)}"
+
+
 def cells(record, spelling):
     """The columns of a record's line."""
     batch = [str(record.lane), str(record.number)] if record.lane is not None else ["", ""]

@@ -1,5 +1,6 @@
 """What tools/trace-syncs, two-at-once and closed-descriptors share: a program that is stopped at its system calls (ptrace, Linux on x86-64)."""
 import ctypes
+import errno
 import os
 
 LIBC = ctypes.CDLL(None, use_errno=True)
@@ -32,6 +33,8 @@ def set_register(pid, place, value):
 
 def started(words, folder, options, output=None, closed=()):
     """Starts a program in a folder, its text to a file that is open or to nowhere, some descriptors closed, and stops it before its first instruction."""
+    if not os.access(words[0], os.X_OK):
+        raise FileNotFoundError(errno.ENOENT, os.strerror(errno.ENOENT), words[0])
     pid = os.fork()
     if not pid:
         os.chdir(folder)

@@ -14,8 +14,8 @@ HEAD = 86
 
 # A point has a place on the axis from left to right, its median, and the least and the greatest that was measured.
 Point = collections.namedtuple("Point", "x y low high")
-# A panel has a title, the labels of its axes, and points by the name of their line.
-Panel = collections.namedtuple("Panel", "title across up lines")
+# A panel has a title, the labels of its axes, points by the name of their line, and lines of text on what has no point.
+Panel = collections.namedtuple("Panel", "title across up lines notes")
 
 
 def text(x, y, words, size=12, anchor="start", more=""):
@@ -60,13 +60,19 @@ class Axis:
 
 
 def panel_text(panel, left, top, styles):
-    """A panel with its upper left corner there."""
+    """A panel with its upper left corner there; without a point it has a title and its notes alone."""
+    head = [text(left + LEFT, top + TOP - 12, panel.title, 13, more="font-weight='bold'")]
+    head += [text(left + LEFT + 12, top + TOP + 14 + 15 * at, note, 11) for at, note in enumerate(panel.notes)]
+    return head + (axes_and_lines(panel, left, top, styles) if panel.lines else [])
+
+
+def axes_and_lines(panel, left, top, styles):
     points = [point for line in panel.lines.values() for point in line]
     xs = sorted({point.x for point in points})
     rows = ticks(min(point.low for point in points), max(point.high for point in points))
     across = Axis(xs[0] / 1.3, xs[-1] * 1.3, left + LEFT, left + WIDTH - RIGHT)
     up = Axis(rows[0], rows[-1], top + HEIGHT - BOTTOM, top + TOP)
-    drawn = [text(left + LEFT, top + TOP - 12, panel.title, 13, more="font-weight='bold'")]
+    drawn = []
     for row in rows:
         drawn.append(stroke(across.start, up.at(row), across.end, up.at(row), PALE))
         drawn.append(text(across.start - 7, up.at(row) + 4, spelled(row), anchor="end"))
