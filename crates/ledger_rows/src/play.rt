@@ -1,7 +1,7 @@
 // One run of the program over devices in memory.
 use commands::{Done, process};
 use line_text::status_code;
-use rack_rows::{Ran, State, gate_of, inbox_of, output_of, owned, rack_of, ran};
+use rack_rows::{Ran, State, ended, gate_of, inbox_of, output_of, owned, rack_of};
 use row_records::Told;
 use std::sync::Wait;
 use std::thread::Threads;
@@ -20,5 +20,5 @@ pub fn play<W: Wait + Threads + Sync>(
     let mut inbox = inbox_of(state, told);
     let gate = gate_of(state, told);
     let Done { status, rack } = process(rt, alloc, &words, &mut inbox, rack, &mut out, &gate);
-    Some(ran(status_code(&status), gate, inbox.names, rack, out, told))
+    Some(ended(status_code(&status), gate, inbox.names, rack, out, told))
 }

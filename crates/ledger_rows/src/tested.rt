@@ -2,7 +2,7 @@
 use crate::few::resume_few;
 use cbdc_types::Answer;
 use line_text::{status_code, write_fault};
-use rack_rows::{Ran, State, gate_of, output_of, rack_of, ran};
+use rack_rows::{Ran, State, ended, gate_of, output_of, rack_of};
 use row_records::Told;
 use std::sync::Wait;
 use std::thread::Threads;
@@ -25,5 +25,5 @@ pub fn play_tested<W: Wait + Threads + Sync>(
     if write_fault(&mut out, &answer, "").is_err() {
         told.refuse("the output is full");
     }
-    Some(ran(status_code(&answer), gate, Vec::new(alloc), rack, out, told))
+    Some(ended(status_code(&answer), gate, Vec::new(alloc), rack, out, told))
 }

@@ -16,7 +16,7 @@ mod words;
 
 pub use looking::check_run;
 pub use noting::{NotingGate, NotingInbox, NotingRack};
-pub use runs::{Ran, files_of, gate_of, inbox_of, output_of, owned, rack_of, ran, text_in};
+pub use runs::{Ran, ended, files_of, gate_of, inbox_of, output_of, owned, rack_of, text_in};
 pub use state::{ROOM, State};
 pub use steps::{check, do_step, verb_for};
 pub use verbs::Verb;

@@ -20,6 +20,7 @@ pub struct PointOrder {
 }
 
 impl PointOrder {
+    /// None of the points is passed yet.
     pub fn new(points: Vec<Point>, turns: u32) -> PointOrder {
         PointOrder {
             points,

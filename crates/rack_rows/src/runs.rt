@@ -188,8 +188,8 @@ pub fn output_of(state: &State, told: &mut Told) -> Option<MemSink> {
     told.made(MemSink::new(alloc, state.room, Vec::new(alloc)))
 }
 
-/// What a run left, by its status and its devices; the points of its order must have come in it.
-pub fn ran(
+/// A run that has ended, by its status and its devices; the points of its order must have come in it.
+pub fn ended(
     status: u8,
     gate: NotingGate,
     files: Vec<String>,

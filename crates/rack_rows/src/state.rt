@@ -85,10 +85,12 @@ impl State {
         }
     }
 
+    /// A transaction by its name; where there is none, that is told.
     pub fn tx(&self, name: &str, told: &mut Told) -> Option<&Tx> {
         told_of(self.txs.get(name), "no such transaction", told)
     }
 
+    /// The bytes of a file by its name; where there is none, that is told.
     pub fn file(&self, name: &str, told: &mut Told) -> Option<&Vec<u8>> {
         told_of(self.files.get(name), "no such file", told)
     }
