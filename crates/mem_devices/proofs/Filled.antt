@@ -6,14 +6,6 @@ use Rattle.std.proofs.lemmas.List.{length-append}
 use Rattle.mem_devices.specs.declared.plain_disk.PlainDisk.{PlainDisk}
 use Rattle.mem_devices.specs.Places.{disk_in, HasNoDiskOut}
 
--- each place has an empty disk, with so much room where it is a node's
-abbrev pub AreFilled : ℕ → ℕ → List (Option PlainDisk) → Type 0
-AreFilled nodes capacity places =
-    (n : ℕ) → n < length places → (d : PlainDisk) × (slice_get places n ≡ Some (Some d)) × (d.bytes.items ≡ []) × (n < nodes → d.capacity ≡ capacity)
-
-pub none_filled : (nodes capacity : ℕ) → AreFilled nodes capacity []
-none_filled nodes capacity n lt = absurd (omega (arith, lt))
-
 before : {A : Type 0} (xs ys : List A) (n : ℕ) → n < length xs → slice_get (xs ++ ys) n ≡ slice_get xs n
 before [] ys n lt = absurd (omega (arith, lt))
 before (x ∷ xs) ys zero lt = refl
@@ -28,22 +20,32 @@ none_past [] n le = refl
 none_past (x ∷ xs) zero le = absurd (omega (arith, le))
 none_past (x ∷ xs) (suc n) le = none_past xs n (omega (arith, le))
 
-pub one_filled : (nodes capacity : ℕ) (places : List (Option PlainDisk)) (d : PlainDisk) → AreFilled nodes capacity places → d.bytes.items ≡ [] → (length places < nodes → d.capacity ≡ capacity)
-    → AreFilled nodes capacity (places ++ Some d ∷ [])
-one_filled nodes capacity places d are empty room n lt = elim (cases_lt n (length places)) [
-  | inl low ↦ let old = are n low in (old.0, before places (Some d ∷ []) n low ∙ old.1, old.2, old.3)
-  | inr high ↦
-      let same : length places ≡ n = omega (arith, high, lt, length-append places (Some d ∷ [])) in
-      (d, subst (λ k. slice_get (places ++ Some d ∷ []) k ≡ Some (Some d)) same (at_end places (Some d)), empty, λ low. room (subst (λ k. k < nodes) (sym same) low))
-]
+module _ {D : Type 0} (P : ℕ → D → Type 0) where
+  -- each place has a disk of which this holds
+  abbrev pub AreFilled : List (Option D) → Type 0
+  AreFilled places = (n : ℕ) → n < length places → (d : D) × (slice_get places n ≡ Some (Some d)) × P n d
 
--- no disk is out, and each node's is empty
-pub all_in : (nodes capacity : ℕ) (places : List (Option PlainDisk)) → AreFilled nodes capacity places → (n : ℕ) → HasNoDiskOut (slice_get places n)
-all_in nodes capacity places are n = elim (cases_lt n (length places)) [
-  | inl low ↦ subst HasNoDiskOut (sym (are n low).1) tt
-  | inr high ↦ subst HasNoDiskOut (sym (none_past places n high)) tt
-]
+  pub none_filled : AreFilled []
+  none_filled n lt = absurd (omega (arith, lt))
 
-pub empty_at : (nodes capacity : ℕ) (places : List (Option PlainDisk)) → AreFilled nodes capacity places → (n : ℕ) → n < nodes → n < length places
-    → (d : PlainDisk) × (disk_in (slice_get places n) ≡ Some d) × (d.bytes.items ≡ []) × (d.capacity ≡ capacity)
-empty_at nodes capacity places are n node low = let at = are n low in (at.0, ap disk_in at.1, at.2, at.3 node)
+  pub one_filled : (places : List (Option D)) (d : D) → AreFilled places → P (length places) d → AreFilled (places ++ Some d ∷ [])
+  one_filled places d are has n lt = elim (cases_lt n (length places)) [
+    | inl low ↦ let old = are n low in (old.0, before places (Some d ∷ []) n low ∙ old.1, old.2)
+    | inr high ↦
+        let same : length places ≡ n = omega (arith, high, lt, length-append places (Some d ∷ [])) in
+        (d, subst (λ k. slice_get (places ++ Some d ∷ []) k ≡ Some (Some d)) same (at_end places (Some d)), subst (λ k. P k d) same has)
+  ]
+
+  -- no disk is out
+  pub all_in : (places : List (Option D)) → AreFilled places → (n : ℕ) → HasNoDiskOut (slice_get places n)
+  all_in places are n = elim (cases_lt n (length places)) [
+    | inl low ↦ subst HasNoDiskOut (sym (are n low).1) tt
+    | inr high ↦ subst HasNoDiskOut (sym (none_past places n high)) tt
+  ]
+
+  pub filled_at : (places : List (Option D)) → AreFilled places → (n : ℕ) → n < length places → (d : D) × (disk_in (slice_get places n) ≡ Some d) × P n d
+  filled_at places are n low = let at = are n low in (at.0, ap disk_in at.1, at.2)
+
+-- an empty disk, with so much room where it is a node's
+abbrev pub IsBlank : ℕ → ℕ → ℕ → PlainDisk → Type 0
+IsBlank nodes capacity n d = (d.bytes.items ≡ []) × (n < nodes → d.capacity ≡ capacity)

@@ -1,20 +1,19 @@
 -- The places of a rack in memory.
 use Rattle.std.specs.Prelude.{ℕ, nat_lt, if◌then◌else◌, Option, Some, None}
-use Rattle.mem_devices.specs.declared.plain_disk.PlainDisk.{PlainDisk}
 
 -- the disk that is in a place, where one is
-abbrev pub disk_in : Option (Option PlainDisk) → Option PlainDisk
+abbrev pub disk_in : {D : Type 0} → Option (Option D) → Option D
 disk_in None = None
 disk_in (Some place) = place
 
 -- no disk is out of the place; behind the last place there is none
-abbrev pub HasNoDiskOut : Option (Option PlainDisk) → Type 0
+abbrev pub HasNoDiskOut : {D : Type 0} → Option (Option D) → Type 0
 HasNoDiskOut None = Unit {0}
 HasNoDiskOut (Some None) = ⊥
 HasNoDiskOut (Some (Some d)) = Unit {0}
 
 -- the place's disk is out
-abbrev pub IsOut : Option (Option PlainDisk) → Type 0
+abbrev pub IsOut : {D : Type 0} → Option (Option D) → Type 0
 IsOut None = ⊥
 IsOut (Some None) = Unit {0}
 IsOut (Some (Some d)) = ⊥

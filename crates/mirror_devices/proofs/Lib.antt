@@ -1,0 +1,3 @@
+pub mod Became
+pub mod Even
+pub mod Blank

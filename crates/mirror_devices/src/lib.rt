@@ -1,0 +1,13 @@
+//! A disk that is several: each write goes to all of them, and is done once all have done it.
+//!
+//! - `Mirror` keeps the trait `Disk` (the trait's clauses). What a crash may leave is what it may leave of any of its disks, so whatever holds of every
+//!   image of it holds of every image of each.
+//! - `MirrorRack` keeps the trait `Rack`: disks in memory that never fail, several for a node.
+//! - Tested in `node_rows` (`mirrors.rows`).
+#![tactic(auto)]
+
+mod mirror;
+mod mirror_rack;
+
+pub use mirror::Mirror;
+pub use mirror_rack::MirrorRack;

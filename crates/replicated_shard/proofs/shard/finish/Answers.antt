@@ -1,0 +1,17 @@
+use Rattle.replicated_shard.proofs.Calls.{goes, owes_whole, member_failed}
+use Rattle.replicated_shard.proofs.shard.finish.Goals as goal
+
+pub returns : goal.returns
+returns g c =
+    let old = c.args.shard.now in
+    let new = c.finish-answer.new.self in
+    let answered = c.finish-answer.ensures in
+    record {
+      answered = answered;
+      room = c.header-seen.ensures.capacity;
+      steps = λ backups.
+          goes _ _ _ old new backups answered.keeps.node.header c.records-before.ensures.journal c.records-behind.ensures.journal c.records-behind.ensures.flying
+          (λ a r owes. c.header-seen.ensures.landed (owes_whole old.broken _ a r owes)) _ c.finish-answer.result answered.meets;
+      members = λ held k d is b image. (answered.keeps.holds held).each b (k, d, is, image);
+      failed = member_failed g.D.Disk _ _ old new c.header-after.ensures.count c.finish-answer.result answered;
+    }
