@@ -2,3 +2,4 @@ pub mod UpTo
 pub mod Least
 pub mod Falling
 pub mod Keeping
+pub mod Moments

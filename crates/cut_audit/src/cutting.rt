@@ -4,6 +4,7 @@ ghost use Rattle.cbdc_model.specs.Records.{journal, last_stamp};
 ghost use Rattle.cbdc_model.specs.History.{IsOrdered};
 ghost use Rattle.audit.specs.Rows.{read, rows_at, newest_first, journal_in, IsRecordPlace, Rises};
 ghost use Rattle.cut_audit.specs.Cuts.{up_to, rows_up_to, last_in, IsLeastLast};
+ghost use Rattle.cut_audit.specs.Laws.{IsMoment};
 
 use crate::cuts::Cut;
 use audit::{Place, merge, record_at};
@@ -59,7 +60,10 @@ fn places_up_to(
 
 /// The cut of lists of records, one for each node, the oldest record of each first: the least of the stamps of their last records, and the places of
 /// all records up to it, by stamp and then by node. Of each list the records up to that stamp stand among them as they are; where the stamps of each
-/// list rise, all are in order.
+/// list rise, all are in order. Where each list is a beginning of its node's journal in a kept ledger, whatever moments they were taken at, the cut is
+/// a kept history of that ledger; where no hashes clash either, an audit of it finds nothing wrong, and its value is what was minted.
+///
+/// Tested in `cut_rows` (`cuts.rows`, `shards.rows`).
 pub fn cut(alloc: Global, lists: &[&[Record]]) -> Result<Cut, AllocError>
     requires some { 0 < length lists.now }
     requires few { length lists.now < 2 ^ 32 }
@@ -69,6 +73,7 @@ pub fn cut(alloc: Global, lists: &[&[Record]]) -> Result<Cut, AllocError>
         ≡ up_to c.stamp (reverse (journal_in (read lists.now) n))) }
     ensures ordered { ((n : ℕ) → Rises (journal_in (read lists.now) n))
         → IfOk result (λ c. IsOrdered (newest_first (read lists.now) c.history)) }
+    ensures moment { IfOk result (λ c. IsMoment (read lists.now) (newest_first (read lists.now) c.history)) }
     ensures places { IfOk result (λ c. All (IsRecordPlace (read lists.now)) c.history) }
 {
     let stamp = least_last(lists);

@@ -135,14 +135,17 @@ fn tell_of<R: Threads + Sync>(
         return;
     }
     match cut(told.alloc, lists) {
-        Ok(Cut { stamp, history }) => match asked {
-            Asked::Cut => {
-                told.named("stamp", u128::from(stamp.0));
-                told.named("records", history.as_slice().len() as u128);
-                tell_places(lists, history.as_slice(), told);
+        Ok(Cut { stamp, history }) => {
+            let places = history.as_slice();
+            match asked {
+                Asked::Cut => {
+                    told.named("stamp", u128::from(stamp.0));
+                    told.named("records", places.len() as u128);
+                    tell_places(lists, places, told);
+                }
+                Asked::Part => tell_part(rt, state, lists, places, told),
             }
-            Asked::Part => tell_part(rt, state, lists, history.as_slice(), told),
-        },
+        }
         Err(_gone) => told.no_memory(),
     }
 }
