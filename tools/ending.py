@@ -14,4 +14,5 @@ def hook(kind, *rest):
 sys.excepthook = hook
 sys.dont_write_bytecode = True
 
+import least  # ends here where Python is older than that
 from ends import end, kit, number, room, rooms, run, work
