@@ -37,8 +37,6 @@ pub enum PartVerdict {
 /// held and owed behind it, what the coins of the last book come to, and what was minted.
 ///
 /// Of the cut of a ledger at work `cut_audit` shows that nothing is wrong with it and that the value is what was minted.
-///
-/// Tested in `cut_rows` (`cuts.rows`, `shards.rows`).
 pub fn audit_part<W: Threads + Sync>(
     rt: &W,
     alloc: Global,

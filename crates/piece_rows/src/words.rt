@@ -1,7 +1,7 @@
 // What words ask for.
 use cbdc_types::{Hash, Shape};
 use command_line::parse;
-use requests::{FileWord, Request, RunOptions, WordsFault};
+use requests::{FileWord, GenOptions, Request, RunOptions, WordsFault};
 use row_records::{Told, words_around};
 
 /// Tells the four numbers of a shape.
@@ -49,11 +49,19 @@ fn tell_status(told: &mut Told, hashes: &[Hash]) {
     }
 }
 
-fn tell_gen(told: &mut Told, shape: &Shape, seed: u64, count: u32) {
+// A workload over shards on one disk each is told without a number for that, and one that is not watched without a word.
+fn tell_gen(told: &mut Told, shape: &Shape, seed: u64, count: u32, options: &GenOptions) {
     told.word("gen");
     tell_shape(told, shape);
     told.number(seed);
     told.number(count as u64);
+    if options.replicas > 0 {
+        told.word("replicas");
+        told.number(options.replicas as u64);
+    }
+    if options.watch {
+        told.word("watch");
+    }
 }
 
 // What a request is; of one to show a text, the text.
@@ -68,7 +76,12 @@ fn tell_request(told: &mut Told, request: &Request) {
         Request::Recover => told.word("recover"),
         Request::Status { hashes } => tell_status(told, hashes),
         Request::Audit { mint, clients } => tell_files(told, "audit", mint, clients),
-        Request::Gen { shape, seed, count } => tell_gen(told, shape, *seed, *count),
+        Request::Gen {
+            shape,
+            seed,
+            count,
+            options,
+        } => tell_gen(told, shape, *seed, *count, options),
         Request::Show(shown) => told.put(shown.as_str()),
     }
 }
