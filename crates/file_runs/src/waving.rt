@@ -8,7 +8,7 @@ ghost use Rattle.file_runs.specs.Waving.{IsWave};
 use crate::driving::{see_logs, see_shards};
 use crate::ledger::Ledger;
 use lane_driver::Source;
-use lane_waves::{Nodes, wave};
+use lane_waves::{Nodes, Watch, wave};
 use ledger_runs::Work;
 use outside::{Disk, Gate};
 use std::alloc::Global;
@@ -60,6 +60,7 @@ pub fn run_wave<W: Threads + Wait + Sync, D: Disk + Send, X: Source + Send, G: G
         &header.shape,
         Nodes { logs, shards },
         lanes,
+        &mut Watch::Off,
         gate,
     );
     see_logs(logs.as_slice());

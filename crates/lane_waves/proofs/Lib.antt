@@ -1,4 +1,5 @@
 pub mod Closing
+pub mod Looking
 pub mod Locking
 pub mod Rounds
 pub mod Numbers

@@ -12,5 +12,7 @@ pub mod Deals
 pub mod Gathers
 pub mod Waves
 pub mod AllEnds
+pub mod Calling
 pub mod Watching
+pub mod Watchers
 pub mod Rooms

@@ -66,3 +66,12 @@ module _ {N : Type 0} where
   AreFrontsOf sight [] [] = Unit {0}
   AreFrontsOf sight (s ∷ ss) (n ∷ ns) = IsEnd (knows s).seen (sight n).seen × AreFrontsOf sight ss ns
   AreFrontsOf sight ss ns = ⊥
+
+module _ {M N : Type 0} where
+  -- lists of what all seats of two kinds have seen, those of the first kind before the others
+  pub record AreAllListed (lists : List (Vec Record)) (ss : List (Seat M)) (ts : List (Seat N)) : Type 0 where
+    pub front : List (Vec Record)
+    pub back : List (Vec Record)
+    pub lists_are : lists ≡ front ++ back
+    pub of_front : AreListed front ss
+    pub of_back : AreListed back ts

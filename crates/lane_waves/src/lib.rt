@@ -18,6 +18,7 @@ mod ports;
 mod rows;
 mod runs;
 mod seats;
+mod watching;
 mod waves;
 
 pub use ends::{Locked, close_all, lock_all};
@@ -26,4 +27,5 @@ pub use node_dealing::{Dealt, deal, gather};
 pub use ports::{ports_over, seats_back};
 pub use runs::{LaneRun, run_all};
 pub use seats::SeatSet;
+pub use watching::Watch;
 pub use waves::{Nodes, wave};

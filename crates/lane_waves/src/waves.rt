@@ -9,6 +9,7 @@ ghost use Rattle.lane_driver.specs.Stops.{IsLaneSettled};
 ghost use Rattle.port_sets.specs.Nodes.{log_sight, shard_sight};
 ghost use Rattle.lane_waves.specs.NodeRows.{AreWatchedRows, AreLocked, AreStill, AreLeft};
 ghost use Rattle.lane_waves.specs.Watching.{AreFreshWatchers};
+ghost use Rattle.lane_waves.specs.Watchers.{CanWatch, HasWatched, HasSeen, IfSaw};
 ghost use Rattle.lane_waves.specs.Held.{RunBegins};
 ghost use Rattle.thread_laws.specs.Running.{WaveRan};
 ghost use Rattle.lane_waves.specs.Laws.{WentOn};
@@ -24,7 +25,9 @@ use crate::dealing::{Table, deal_all, port_rooms};
 use crate::gathering::gather_all;
 use crate::lanes::{make_ready, stop_all};
 use crate::rows::{home_rows, shard_rows};
-use crate::{LaneRun, Locked, close_all, lock_all, run_all};
+use crate::runs::run_beside;
+use crate::watching::{Watch, Watcher};
+use crate::{LaneRun, Locked, close_all, lock_all};
 use cbdc_types::{LaneId, Shape};
 use coord_log::CoordLog;
 use lane_driver::Source;
@@ -172,7 +175,7 @@ fn lane_room<'a, W: Wait, D: Disk, S: Shard, B: Locks, X: Source>(
     })
 }
 
-// Runs all lanes at their seats.
+// Runs all lanes at their seats, beside the auditor.
 fn run_table<
     'a,
     W: Threads + Wait + Sync,
@@ -185,17 +188,31 @@ fn run_table<
     rt: &'a W,
     alloc: Global,
     shape: &Shape,
+    log_locks: &[Guarded<SharedLog<D>>],
+    shard_locks: &[Guarded<SharedShard<S>>],
+    watcher: &mut Watcher<D, S>,
     mut table: Table<'a, W, D, S, B, X>,
     gate: &G,
 ) -> Table<'a, W, D, S, B, X>
     requires begin { All (RunBegins S.sight B.tables shape.now) table.runs.items }
-    ensures { AreRun S.sight B.tables shape.now table.entry result }
+    requires watch { CanWatch log_locks.now shard_locks.now watcher.old }
+    ensures run { AreRun S.sight B.tables shape.now table.entry result }
+    ensures watched { HasWatched log_locks.now shard_locks.now watcher.old watcher.new }
 {
-    run_all(rt, alloc, shape, table.runs.as_mut_slice(), gate);
+    run_beside(
+        rt,
+        alloc,
+        shape,
+        log_locks,
+        shard_locks,
+        watcher,
+        table.runs.as_mut_slice(),
+        gate,
+    );
     table
 }
 
-// Runs all lanes, each at its seats. All seats come back.
+// Runs all lanes, each at its seats, beside the auditor at its own. All seats come back.
 fn run_seated<
     'a,
     W: Threads + Wait + Sync,
@@ -210,6 +227,7 @@ fn run_seated<
     shape: &Shape,
     log_locks: &'a [Guarded<SharedLog<D>>],
     shard_locks: &'a [Guarded<SharedShard<S>>],
+    watcher: &mut Watcher<D, S>,
     seated: SeatedLanes<D, S, X>,
     gate: &G,
 ) -> SeatedLanes<D, S, X>
@@ -219,8 +237,10 @@ fn run_seated<
     requires left { AreLeft (shard_sight S.sight) (all_lanes shape.now) shard_locks.now seated.rows.items }
     requires lanes { All MayRun seated.lanes.items }
     requires lanes_many { length seated.lanes.items ≡ shape.now.coordinators * shape.now.lanes }
-    ensures { AreThrough S.sight shape.now log_locks.now
+    requires watch { CanWatch log_locks.now shard_locks.now watcher.old }
+    ensures through { AreThrough S.sight shape.now log_locks.now
         shard_locks.now result.homes.items result.rows.items seated.lanes.items result.lanes.items }
+    ensures watched { HasWatched log_locks.now shard_locks.now watcher.old watcher.new }
 {
     let SeatedLanes {
         homes,
@@ -257,7 +277,16 @@ fn run_seated<
         emptied,
         table,
     );
-    let table = run_table(rt, alloc, shape, table, gate);
+    let table = run_table(
+        rt,
+        alloc,
+        shape,
+        log_locks,
+        shard_locks,
+        watcher,
+        table,
+        gate,
+    );
     let (homes, table) = gather_all(shape.lanes(), emptied, homes, table);
     let Table {
         rows,
@@ -338,6 +367,7 @@ fn wave_shared<
     home_rows: Vec<Vec<LaneId>>,
     shard_rows: Vec<Vec<LaneId>>,
     lanes: &mut Vec<Work<X>>,
+    watch: &mut Watch,
     gate: &G,
 ) -> SharedNodes<D, S>
     requires limits { IsWithinLimits shape.now }
@@ -360,14 +390,16 @@ fn wave_shared<
     ensures ran { WaveRan shape.now (sight_at log_sight nodes.logs.items)
         (sight_at (shard_sight S.sight) nodes.shards.items) (sight_at log_sight result.logs.items)
         (sight_at (shard_sight S.sight) result.shards.items) lanes.old.items lanes.new.items }
+    ensures looked { IfSaw watch.new (HasSeen shape.now (sight_at log_sight nodes.logs.items)
+        (sight_at (shard_sight S.sight) nodes.shards.items) (sight_at log_sight result.logs.items)
+        (sight_at (shard_sight S.sight) result.shards.items)) }
     ensures logs_go { WentOn log_sight (log_goes D.Disk) nodes.logs.items result.logs.items }
     ensures shards_go { WentOn
         (shard_sight S.sight) (shard_goes S.goes) nodes.shards.items result.shards.items }
 {
-    let watcher = LaneId(shape.lane_count());
-    let LockedNodes { logs, shards } = match lock_nodes(
-        alloc, nodes, home_rows, shard_rows, watcher,
-    ) {
+    let wanted = watch.begin();
+    let lane = LaneId(shape.lane_count());
+    let LockedNodes { logs, shards } = match lock_nodes(alloc, nodes, home_rows, shard_rows, lane) {
         Ok(locked) => locked,
         Err(nodes) => {
             stop_all(lanes);
@@ -386,6 +418,13 @@ fn wave_shared<
         watchers: shard_watchers,
         room: shard_room,
     } = shards;
+    let mut watcher = Watcher {
+        wanted,
+        lane,
+        log_seats: log_watchers,
+        shard_seats: shard_watchers,
+        saw: Watch::Off,
+    };
     let seated = SeatedLanes {
         homes,
         rows,
@@ -401,13 +440,22 @@ fn wave_shared<
         shape,
         log_locks.as_slice(),
         shard_locks.as_slice(),
+        &mut watcher,
         seated,
         gate,
     );
     mem::replace(lanes, back).destroy_empty();
+    let Watcher {
+        wanted: _,
+        lane: _,
+        log_seats,
+        shard_seats,
+        saw,
+    } = watcher;
+    *watch = saw;
     SharedNodes {
-        logs: close_all(log_locks, homes, log_watchers, log_room),
-        shards: close_all(shard_locks, rows, shard_watchers, shard_room),
+        logs: close_all(log_locks, homes, log_seats, log_room),
+        shards: close_all(shard_locks, rows, shard_seats, shard_room),
     }
 }
 
@@ -419,6 +467,10 @@ fn wave_shared<
 /// it got, met no fault, and keeps what it decided and how many batches that were; or it stopped, with its fault, which may be that memory ran out
 /// before its first call. Its transactions are as they were. What stays true of a node is true behind the wave, if it was before: of a coordinator
 /// that its disk holds its journal, of a shard what its type keeps (ran (`WaveRan`), logs_go, shards_go).
+///
+/// Where `watch` is `Next`, an auditor looks at one node after another beside the lanes, on a thread of its own where one can be made. It makes no call
+/// and holds no two locks. What it saw is, of each node, at least what the node had before the wave and a beginning of what it has behind it; where
+/// memory was wanting it saw nothing (looked (`HasSeen`)).
 pub fn wave<
     W: Threads + Wait + Sync,
     D: Disk + Send,
@@ -431,6 +483,7 @@ pub fn wave<
     shape: &Shape,
     nodes: Nodes<D, S>,
     lanes: &mut Vec<Work<X>>,
+    watch: &mut Watch,
     gate: &G,
 ) -> Nodes<D, S>
     requires logs_many { length nodes.logs.items ≡ shape.now.coordinators }
@@ -445,6 +498,9 @@ pub fn wave<
     ensures ran { WaveRan shape.now (sight_at sight nodes.logs.items)
         (sight_at S.sight nodes.shards.items) (sight_at sight result.logs.items)
         (sight_at S.sight result.shards.items) lanes.old.items lanes.new.items }
+    ensures looked { IfSaw watch.new (HasSeen shape.now (sight_at sight nodes.logs.items)
+        (sight_at S.sight nodes.shards.items) (sight_at sight result.logs.items)
+        (sight_at S.sight result.shards.items)) }
     ensures logs_go { WentOn sight (λ a b. IsNodeHeld D.Disk a
         → IsNodeHeld D.Disk b) nodes.logs.items result.logs.items }
     ensures shards_go { WentOn S.sight S.goes nodes.shards.items result.shards.items }
@@ -454,6 +510,7 @@ pub fn wave<
     let _lanes = shape.lanes();
     let Ok(room) = node_room::<D, S, X>(alloc, shape, lanes) else {
         stop_all(lanes);
+        *watch = Watch::Off;
         return nodes;
     };
     let NodeRoom {
@@ -470,7 +527,7 @@ pub fn wave<
     let (shards, shard_list) = share_shards(shards, shard_list);
     let shared = SharedNodes { logs, shards };
     let SharedNodes { logs, shards } = wave_shared(
-        rt, alloc, shape, shared, home_rows, shard_rows, lanes, gate,
+        rt, alloc, shape, shared, home_rows, shard_rows, lanes, watch, gate,
     );
     Nodes {
         logs: own_logs(logs, log_list),

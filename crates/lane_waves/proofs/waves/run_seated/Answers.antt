@@ -5,6 +5,7 @@ use Rattle.lane_waves.specs.Gathers.{Chunks}
 use Rattle.lane_waves.proofs.Ending.{all_seated, all_begin}
 use Rattle.lane_waves.proofs.Places.{none_long, no_items}
 use Rattle.lane_waves.proofs.Through.{HaveRun, lanes_wait, have_run, all_through}
+use Rattle.lane_waves.proofs.Looking.{not_watched}
 use Rattle.lane_waves.proofs.Wanting.{not_run}
 use Rattle.lane_waves.proofs.waves.run_seated.Goals as goal
 
@@ -27,30 +28,33 @@ gather_all-homes-requires-clause-runs g c =
     let K = c.args.shape.now in
     let d = c.deal_all-homes.ensures in
     let h : HaveRun g.S.Shard.sight g.B.Locks.tables K c.args.log_locks.now c.args.shard_locks.now c.requires.open c.args.seated.lanes.items c.deal_all-homes.result.2 c.run_table-table.result =
-    have_run g.S.Shard.sight g.B.Locks.tables K c.args.log_locks.now c.args.shard_locks.now c.requires.open c.args.seated.lanes.items c.deal_all-homes.result.2 c.run_table-table.result d.waiting d.dealt c.requires.lanes_many c.run_table-table.ensures in
+    have_run g.S.Shard.sight g.B.Locks.tables K c.args.log_locks.now c.args.shard_locks.now c.requires.open c.args.seated.lanes.items c.deal_all-homes.result.2 c.run_table-table.result d.waiting d.dealt c.requires.lanes_many c.run_table-table.ensures.run in
     h.many ∙ sym (ap (λ n. n * c.lanes.result) d.emptied.0 ∙ ap (λ n. K.coordinators * n) c.lanes.ensures.value)
 
 pub gather_all-homes-requires-clause-room :
     goal.gather_all-homes-requires-clause-room
 gather_all-homes-requires-clause-room g c =
     let d = c.deal_all-homes.ensures in
-    (have_run g.S.Shard.sight g.B.Locks.tables c.args.shape.now c.args.log_locks.now c.args.shard_locks.now c.requires.open c.args.seated.lanes.items c.deal_all-homes.result.2 c.run_table-table.result d.waiting d.dealt c.requires.lanes_many c.run_table-table.ensures).room
+    (have_run g.S.Shard.sight g.B.Locks.tables c.args.shape.now c.args.log_locks.now c.args.shard_locks.now c.requires.open c.args.seated.lanes.items c.deal_all-homes.result.2 c.run_table-table.result d.waiting d.dealt c.requires.lanes_many c.run_table-table.ensures.run).room
 
-pub returns : goal.returns
-returns g c =
+pub returns-clause-through : goal.returns-clause-through
+returns-clause-through g c =
     let K = c.args.shape.now in
     let d = c.deal_all-homes.ensures in
     let u = c.run_table-table.result in
     let h : HaveRun g.S.Shard.sight g.B.Locks.tables K c.args.log_locks.now c.args.shard_locks.now c.requires.open c.args.seated.lanes.items c.deal_all-homes.result.2 u =
-    have_run g.S.Shard.sight g.B.Locks.tables K c.args.log_locks.now c.args.shard_locks.now c.requires.open c.args.seated.lanes.items c.deal_all-homes.result.2 u d.waiting d.dealt c.requires.lanes_many c.run_table-table.ensures in
+    have_run g.S.Shard.sight g.B.Locks.tables K c.args.log_locks.now c.args.shard_locks.now c.requires.open c.args.seated.lanes.items c.deal_all-homes.result.2 u d.waiting d.dealt c.requires.lanes_many c.run_table-table.ensures.run in
     let e = c.gather_all-homes.ensures in
     let homes = c.gather_all-homes.result.0.items in
     all_through g.S.Shard.sight g.B.Locks.tables K c.args.log_locks.now c.args.shard_locks.now c.requires.open c.args.seated.lanes.items c.deal_all-homes.result.2 u c.gather_all-homes.result.1 homes h
     (e.gathered c.args.shard_locks.now u.runs.items h.begun) e.none (subst (λ n. Chunks n (reverse homes) u.runs.items) c.lanes.ensures.value e.homes)
     (e.many ∙ (d.emptied.0 ∙ sym c.requires.open.logs_many)) c.requires.lanes_many
 
-pub returns-in_default : goal.returns-in_default
-returns-in_default g c =
+pub returns-in_default-clause-watched : goal.returns-in_default-clause-watched
+returns-in_default-clause-watched g c = not_watched c.args.log_locks.now c.args.shard_locks.now c.args.watcher.now c.requires.watch
+
+pub returns-in_default-clause-through : goal.returns-in_default-clause-through
+returns-in_default-clause-through g c =
     let s = c.args.seated in
     not_run g.S.Shard.sight g.B.Locks.tables c.args.shape.now c.args.log_locks.now c.args.shard_locks.now c.requires.open
     s.homes.items s.rows.items s.lanes.items c.stop_all.new.lanes.items
@@ -66,7 +70,7 @@ pub destroy_empty-requires-3 : goal.destroy_empty-requires-3
 destroy_empty-requires-3 g c =
     let t = c.deal_all-homes.result.2 in
     let rooms = c.gather_all-homes.result.1.rooms in
-    let same : rooms ≡ t.rooms = c.gather_all-homes.ensures.rooms ∙ ap (λ u. u.rooms) c.run_table-table.ensures.rest in
+    let same : rooms ≡ t.rooms = c.gather_all-homes.ensures.rooms ∙ ap (λ u. u.rooms) c.run_table-table.ensures.run.rest in
     no_items rooms (ap (λ v. v.items) same ∙ none_long t.rooms.items c.deal_all-homes.ensures.waiting.room.rooms_many)
 
 pub destroy_empty-requires-4 : goal.destroy_empty-requires-4

@@ -13,6 +13,8 @@ use Rattle.lane_waves.specs.Laws.{WentOn}
 use Rattle.lane_waves.proofs.NodePlaces.{past_end, same_length}
 use Rattle.lane_waves.specs.Waves.{AreNodesOf}
 use Rattle.lane_waves.proofs.Opening.{seen_maps, map_many}
+use Rattle.lane_waves.proofs.Looking.{saw_by}
+use Rattle.lane_waves.specs.Watchers.{HasSeen}
 use Rattle.lane_waves.proofs.Waving.{went_same, unrun_wave, still_itself, went_map, all_map, may_run, same_many, wave_anew}
 use Rattle.lane_waves.proofs.waves.wave.Goals as goal
 
@@ -154,3 +156,24 @@ own_logs-requires-clause-empty g c = c.share_logs-logs.ensures.room.0
 
 pub own_shards-requires-clause-empty : goal.own_shards-requires-clause-empty
 own_shards-requires-clause-empty g c = c.share_shards-shards.ensures.room.0
+
+pub returns-clause-looked : goal.returns-clause-looked
+returns-clause-looked g c =
+    let K = c.args.shape.now in
+    let seen = g.S.Shard.sight in
+    let ns = c.args.nodes.logs.items in
+    let ms = c.args.nodes.shards.items in
+    let ns' = c.own_logs.result.items in
+    let ms' = c.own_shards.result.items in
+    let first_logs = sight_at log_sight c.share_logs-logs.result.0.items in
+    let first_shards = sight_at (shard_sight seen) c.share_shards-shards.result.0.items in
+    let last_logs = sight_at log_sight c.wave_shared-logs.result.logs.items in
+    let logs = seen_maps (λ (s : SharedLog g.row.D.Denot). s.node) sight c.share_logs-logs.result.0.items ns c.share_logs-logs.ensures.nodes in
+    let shards = seen_maps (λ (s : SharedShard g.row.S.Denot). s.node) seen c.share_shards-shards.result.0.items ms c.share_shards-shards.ensures.nodes in
+    let logs' = seen_maps (λ (s : SharedLog g.row.D.Denot). s.node) sight c.wave_shared-logs.result.logs.items ns' (sym c.own_logs.ensures) in
+    let shards' = seen_maps (λ (s : SharedShard g.row.S.Denot). s.node) seen c.wave_shared-logs.result.shards.items ms' (sym c.own_shards.ensures) in
+    saw_by c.wave_shared-logs.new.watch _ _ (λ lists saw.
+    subst (λ f. HasSeen K f (sight_at seen ms) (sight_at sight ns') (sight_at seen ms') lists) logs
+    (subst (λ f. HasSeen K first_logs f (sight_at sight ns') (sight_at seen ms') lists) shards
+    (subst (λ f. HasSeen K first_logs first_shards f (sight_at seen ms') lists) logs'
+    (subst (λ f. HasSeen K first_logs first_shards last_logs f lists) shards' saw)))) c.wave_shared-logs.ensures.looked

@@ -1,4 +1,4 @@
-use Rattle.std.proofs.Common.{◌<◌, ◌≤◌, ◌*◌, length, sym, ap, ◌∙◌, subst, arith}
+use Rattle.std.proofs.Common.{◌<◌, ◌≤◌, ◌*◌, List, length, refl, sym, ap, ◌∙◌, subst, arith}
 use Rattle.std.specs.Global.{Vec}
 use Rattle.std.proofs.lemmas.List.Elements.{All-same}
 use Rattle.ledger_runs.specs.Lanes.{LaneOf}
@@ -11,9 +11,13 @@ use Rattle.lane_waves.specs.Rows.{home_lanes, all_lanes}
 use Rattle.lane_waves.specs.Deals.{MayRun, AreLocksOpen, IsHomeFresh}
 use Rattle.lane_waves.specs.Places.{AllFrom}
 use Rattle.lane_waves.specs.Waves.{log_goes, shard_goes, AreThrough}
-use Rattle.lane_waves.proofs.Opening.{are_open, homes_fresh, are_fresh, openings, lanes_are, seats_many, tables_of}
+use Rattle.lane_waves.proofs.Opening.{seen_maps, are_open, homes_fresh, are_fresh, openings, lanes_are, seats_many, tables_of}
 use Rattle.lane_waves.proofs.Numbers.{are_watched_rows}
 use Rattle.lane_waves.proofs.Locking.{just_fresh}
+use Rattle.lane_waves.proofs.Looking.{saw_by, saw_none, watch_on, fresh_seats, has_seen}
+use Rattle.lane_waves.specs.Watching.{AreSeatsOf}
+use Rattle.lane_waves.specs.Watchers.{HasSeen}
+use Rattle.node_lock.specs.Seats.{opening_of}
 use Rattle.lane_waves.proofs.Waving.{fresh_left, unrun_wave, ran_wave, locks_many, few_lanes, rows_below}
 use Rattle.lane_waves.proofs.waves.wave_shared.Goals as goal
 
@@ -131,7 +135,7 @@ returns-clause-ran g c =
     let new = s.lanes.items in
     let through = subst (λ xs. AreThrough sight K xs k.shards.locks.items homes rows c.args.lanes.now.items new) c.as_slice.ensures.value
     (subst (λ ys. AreThrough sight K c.as_slice.result.now ys homes rows c.args.lanes.now.items new) c.as_slice-2.ensures.value
-    (subst (λ zs. AreThrough sight K c.as_slice.result.now c.as_slice-2.result.now homes rows zs new) (ap (λ v. v.items) c.replace.ensures.value) c.run_seated-homes.ensures)) in
+    (subst (λ zs. AreThrough sight K c.as_slice.result.now c.as_slice-2.result.now homes rows zs new) (ap (λ v. v.items) c.replace.ensures.value) c.run_seated-homes.ensures.through)) in
     let ns = c.args.nodes.logs.items in
     let ms = c.args.nodes.shards.items in
     let ns' = c.close_all.result.items in
@@ -159,19 +163,78 @@ pub run_seated-homes-requires-clause-lanes_many : goal.run_seated-homes-requires
 run_seated-homes-requires-clause-lanes_many g c κs within = ap (λ v. length v.items) c.replace.ensures.value ∙ c.requires.lanes_many
 
 pub close_all-requires-clause-ready : goal.close_all-requires-clause-ready
-close_all-requires-clause-ready g c = subst (λ xs. HaveAllSeats xs c.run_seated-homes.result.homes.items) c.as_slice.ensures.value c.run_seated-homes.ensures.homes_ready
+close_all-requires-clause-ready g c = subst (λ xs. HaveAllSeats xs c.run_seated-homes.result.homes.items) c.as_slice.ensures.value c.run_seated-homes.ensures.through.homes_ready
 
 pub close_all-requires-clause-empty : goal.close_all-requires-clause-empty
 close_all-requires-clause-empty g c = c.in-Ok.ensures.logs_room.0
 
 pub close_all-requires-2-clause-ready : goal.close_all-requires-2-clause-ready
-close_all-requires-2-clause-ready g c = subst (λ xs. HaveAllSeats xs c.run_seated-homes.result.rows.items) c.as_slice-2.ensures.value c.run_seated-homes.ensures.rows_ready
+close_all-requires-2-clause-ready g c = subst (λ xs. HaveAllSeats xs c.run_seated-homes.result.rows.items) c.as_slice-2.ensures.value c.run_seated-homes.ensures.through.rows_ready
 
 pub close_all-requires-2-clause-empty : goal.close_all-requires-2-clause-empty
 close_all-requires-2-clause-empty g c = c.in-Ok.ensures.shards_room.0
 
+pub run_seated-homes-requires-clause-watch : goal.run_seated-homes-requires-clause-watch
+run_seated-homes-requires-clause-watch g c κs within =
+    let seen = shard_sight g.S.Shard.sight in
+    let k = c.in-Ok.locked in
+    let e = c.in-Ok.ensures in
+    let logs = ap (λ (xs : List _). length xs) c.as_slice.ensures.value in
+    let shards = ap (λ (xs : List _). length xs) c.as_slice-2.ensures.value in
+    let logs_locked = locks_many log_sight c.args.nodes.logs.items c.args.home_rows.items k.logs.locks.items k.logs.seats.items e.logs in
+    let shards_locked = locks_many seen c.args.nodes.shards.items c.args.shard_rows.items k.shards.locks.items k.shards.seats.items e.shards in
+    let logs_many = c.requires.logs_many in
+    let shards_many = c.requires.shards_many in
+    let logs_few = c.requires.limits.coordinators in
+    let shards_few = c.requires.limits.shards in
+    record {
+      logs = subst (λ xs. AreSeatsOf xs k.logs.watchers.items) (sym c.as_slice.ensures.value) (fresh_seats log_sight c.lane_count.result k.logs.locks.items k.logs.watchers.items e.logs_watched);
+      shards = subst (λ xs. AreSeatsOf xs k.shards.watchers.items) (sym c.as_slice-2.ensures.value) (fresh_seats seen c.lane_count.result k.shards.locks.items k.shards.watchers.items e.shards_watched);
+      few = omega (arith, logs, shards, logs_locked, shards_locked, logs_many, shards_many, logs_few, shards_few);
+      none = refl;
+    }
+
 pub close_all-requires-clause-watching : goal.close_all-requires-clause-watching
-close_all-requires-clause-watching g c = just_fresh log_sight c.lane_count.result c.in-Ok.locked.logs.locks.items c.in-Ok.locked.logs.watchers.items c.in-Ok.ensures.logs_watched
+close_all-requires-clause-watching g c =
+    let k = c.in-Ok.locked.logs in
+    let w = c.run_seated-homes.ensures.watched in
+    let ts = c.run_seated-homes.new.watcher.log_seats.items in
+    watch_on k.locks.items k.watchers.items ts (just_fresh log_sight c.lane_count.result k.locks.items k.watchers.items c.in-Ok.ensures.logs_watched) w.logs_kept
+    (subst (λ xs. AreSeatsOf xs ts) c.as_slice.ensures.value w.logs)
 
 pub close_all-requires-2-clause-watching : goal.close_all-requires-2-clause-watching
-close_all-requires-2-clause-watching g c = just_fresh (shard_sight g.S.Shard.sight) c.lane_count.result c.in-Ok.locked.shards.locks.items c.in-Ok.locked.shards.watchers.items c.in-Ok.ensures.shards_watched
+close_all-requires-2-clause-watching g c =
+    let k = c.in-Ok.locked.shards in
+    let w = c.run_seated-homes.ensures.watched in
+    let ts = c.run_seated-homes.new.watcher.shard_seats.items in
+    watch_on k.locks.items k.watchers.items ts (just_fresh (shard_sight g.S.Shard.sight) c.lane_count.result k.locks.items k.watchers.items c.in-Ok.ensures.shards_watched) w.shards_kept
+    (subst (λ xs. AreSeatsOf xs ts) c.as_slice-2.ensures.value w.shards)
+
+pub returns-in-Err-clause-looked : goal.returns-in-Err-clause-looked
+returns-in-Err-clause-looked g c = saw_none c.begin-wanted.new.self _ c.begin-wanted.ensures
+
+pub returns-clause-looked : goal.returns-clause-looked
+returns-clause-looked g c =
+    let K = c.args.shape.now in
+    let seen = shard_sight g.S.Shard.sight in
+    let k = c.in-Ok.locked in
+    let e = c.in-Ok.ensures in
+    let gs = k.logs.locks.items in
+    let hs = k.shards.locks.items in
+    let ns = c.args.nodes.logs.items in
+    let ms = c.args.nodes.shards.items in
+    let ns' = c.close_all.result.items in
+    let ms' = c.close_all-2.result.items in
+    let w = c.run_seated-homes.ensures.watched in
+    let v = c.run_seated-homes.new.watcher in
+    let logs_are = seen_maps opening_of log_sight gs ns (openings log_sight ns c.args.home_rows.items gs k.logs.seats.items e.logs) in
+    let shards_are = seen_maps opening_of seen hs ms (openings seen ms c.args.shard_rows.items hs k.shards.seats.items e.shards) in
+    saw_by v.saw _ _ (λ lists all.
+    subst (λ f. HasSeen K f (sight_at seen ms) (sight_at log_sight ns') (sight_at seen ms') lists) logs_are
+    (subst (λ f. HasSeen K (sight_at (λ g. log_sight (opening_of g)) gs) f (sight_at log_sight ns') (sight_at seen ms') lists) shards_are
+    (has_seen g.S.Shard.sight K c.lane_count.result gs hs k.logs.watchers.items v.log_seats.items k.shards.watchers.items v.shard_seats.items ns' ms' lists
+    (locks_many log_sight ns c.args.home_rows.items gs k.logs.seats.items e.logs ∙ c.requires.logs_many)
+    (locks_many seen ms c.args.shard_rows.items hs k.shards.seats.items e.shards ∙ c.requires.shards_many)
+    e.logs_watched e.shards_watched w.logs_kept w.shards_kept
+    (subst (λ xs. AreSeatsOf xs v.log_seats.items) c.as_slice.ensures.value w.logs) (subst (λ xs. AreSeatsOf xs v.shard_seats.items) c.as_slice-2.ensures.value w.shards)
+    c.close_all.ensures.fronts c.close_all-2.ensures.fronts all))) w.told
