@@ -175,7 +175,7 @@ module _ {D : Type 0} (device : Ghosts D) (before after : Scene D) where
   why_none Recover answer free why = recover_none answer free why
   why_none (Status hashes) answer free why = status_none answer free.1 why
   why_none (Audit mint clients) answer free why = audit_none mint clients.items free answer why
-  why_none (Gen shape seed size) answer free why = gen_none shape seed size answer free why.1
+  why_none (Gen shape seed size options) answer free why = gen_none shape seed size answer free why.1
   why_none (Show text) answer free why = absurd why
 
   -- the same request is hindered no more
@@ -191,7 +191,7 @@ module _ {D : Type 0} (device : Ghosts D) (before after : Scene D) where
   free_alike (Audit mint clients) (Audit file others) alike free =
       subst (λ (names : List Text). CanAudit device before after file.name.now names) alike.1
       (subst (λ (name : Text). CanAudit device before after name (names_of clients.items)) alike.0 free)
-  free_alike (Gen shape seed size) (Gen kind number count) alike free = subst (λ k. Clean (mint_of number k) (all_submissions number k)) alike.2 (subst (λ k. Clean (mint_of k size) (all_submissions k size)) alike.1 free)
+  free_alike (Gen shape seed size options) (Gen kind number count others) alike free = subst (λ k. Clean (mint_of number k) (all_submissions number k)) alike.2 (subst (λ k. Clean (mint_of k size) (all_submissions k size)) alike.1 free)
   free_alike (Show text) (Show other) alike free = tt
   free_alike _ _ alike free = absurd alike
 
@@ -201,7 +201,7 @@ module _ {D : Type 0} (device : Ghosts D) (before after : Scene D) where
   has_hashes (Run verdicts clients options) free = tt
   has_hashes Recover free = tt
   has_hashes (Audit mint clients) free = tt
-  has_hashes (Gen shape seed size) free = tt
+  has_hashes (Gen shape seed size options) free = tt
   has_hashes (Show text) free = tt
 
   module _ (words : List Text) (r : Request) (asked : WordsAskFor words r) (free : Free r) where

@@ -44,7 +44,7 @@ module _ {D : Type 0} (device : Ghosts D) (before : Scene D) (file : Text → Op
   did_by (Status hashes) is =
       record { shape = is.shape; genesis = is.genesis; journals = is.journals; limits = is.limits; opened = is.opened; room = is.room; back = is.back; holds = is.holds; prints = by _ is.prints }
   did_by (Audit mint clients) is = record { totals = is.totals; was = is.was; sentence = is.sentence; prints = by _ is.prints }
-  did_by (Gen shape seed count) is = (is.0, (is.1.0, is.1.1, by is.1.0 is.1.2))
+  did_by (Gen shape seed count options) is = (is.0, (is.1.0, is.1.1, by is.1.0 is.1.2))
   did_by (Show text) is = by _ is
 
 -- why it was not done, and what is left, is the same whatever more is printed
@@ -61,7 +61,7 @@ module _ {D : Type 0} (device : Ghosts D) (before : Scene D) (file : Text → Op
   why_same Recover is = is
   why_same (Status hashes) is = is
   why_same (Audit mint clients) is = is
-  why_same (Gen shape seed count) is = is
+  why_same (Gen shape seed count options) is = is
   why_same (Show text) is = is
 
   pub why_by : (words : List Text) → AskedWhy device before Mid words a → AskedWhy device before Now words a
@@ -73,7 +73,7 @@ module _ {D : Type 0} (device : Ghosts D) (before : Scene D) (file : Text → Op
   left_same Recover is = is
   left_same (Status hashes) is = is
   left_same (Audit mint clients) is = is
-  left_same (Gen shape seed count) is = is
+  left_same (Gen shape seed count options) is = is
   left_same (Show text) is = is
 
   pub left_by : (words : List Text) → AskedLeaves device before Mid words a → AskedLeaves device before Now words a
@@ -85,7 +85,7 @@ module _ {D : Type 0} (device : Ghosts D) (before : Scene D) (file : Text → Op
   later_by Recover is = is
   later_by (Status hashes) is = is
   later_by (Audit mint clients) is = is
-  later_by (Gen shape seed count) is = is
+  later_by (Gen shape seed count options) is = is
   later_by (Show text) is = is
 
 -- nothing more was printed

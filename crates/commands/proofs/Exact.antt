@@ -93,7 +93,7 @@ module _ {D : Type 0} (device : Ghosts D) (before : Scene D) where
   }
   did_exact after answer (Audit mint clients) did = audited after.disks mint clients.items (Sound did.totals) did.was
   did_exact after answer (Init shape mint) did = tt
-  did_exact after answer (Gen shape seed size) did = tt
+  did_exact after answer (Gen shape seed size options) did = tt
   did_exact after answer (Show text) did = tt
 
   -- what ended later
@@ -115,7 +115,7 @@ module _ {D : Type 0} (device : Ghosts D) (before : Scene D) where
   exact_alike Recover Recover alike exact = exact
   exact_alike (Status hashes) (Status sought) alike exact = exact
   exact_alike (Audit mint clients) (Audit file words) alike exact = subst (λ (name : Text). HasNoCause device before.disks.held (IsUnopenedOf device before name)) alike.0 exact
-  exact_alike (Gen shape seed size) (Gen kind number count) alike exact = tt
+  exact_alike (Gen shape seed size options) (Gen kind number count others) alike exact = tt
   exact_alike (Show text) (Show other) alike exact = tt
   exact_alike _ _ alike exact = absurd alike
 

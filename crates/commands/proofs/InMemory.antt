@@ -85,7 +85,7 @@ module _ {D : Type 0} (device : Ghosts D) (before after : Scene D)
     fits = free.fits;
     steady = steady free.shape free.shows.limits.shards free.shows.limits.coordinators;
   }
-  unhindered words (Gen shape seed size) asked free = free
+  unhindered words (Gen shape seed size options) asked free = free
   unhindered words (Show text) asked free = free
 
 -- ---- devices in memory

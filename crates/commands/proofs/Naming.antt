@@ -17,7 +17,7 @@ rose_placed (Run verdicts clients options) b n place rose = ⊎_elim (λ one. in
 rose_placed Recover b n place rose = absurd rose
 rose_placed (Status hashes) b n place rose = absurd rose
 rose_placed (Audit mint clients) b n place rose = ⊎_elim (λ own. inl own.0) (λ one. inr (one.0, one.1, one.2, one.3.0)) rose
-rose_placed (Gen shape seed count) b n place rose = absurd rose
+rose_placed (Gen shape seed count options) b n place rose = absurd rose
 rose_placed (Show text) b n place rose = absurd rose
 
 -- the name that a request has for the file that is spoken of is one that the words ask for

@@ -9,7 +9,7 @@ use Rattle.command_line.proofs.Single.{one_request_law}
 use Rattle.commands.specs.Left.{IsOfNoRack, IsOfNoFile}
 
 alike_spared : (r other : Request) → AreAlike r other → IsOfNoRack r → IsOfNoRack other
-alike_spared (Gen shape seed size) (Gen kind number count) alike of = tt
+alike_spared (Gen shape seed size options) (Gen kind number count others) alike of = tt
 alike_spared (Show text) (Show other) alike of = tt
 alike_spared (Init shape mint) _ alike of = absurd of
 alike_spared (Run verdicts clients options) _ alike of = absurd of
@@ -25,7 +25,7 @@ of_no_rack words r other asked also of = alike_spared r other (one_request_law w
 alike_unread : (r other : Request) → AreAlike r other → IsOfNoFile r → IsOfNoFile other
 alike_unread Recover Recover alike of = tt
 alike_unread (Status hashes) (Status sought) alike of = tt
-alike_unread (Gen shape seed size) (Gen kind number count) alike of = tt
+alike_unread (Gen shape seed size options) (Gen kind number count others) alike of = tt
 alike_unread (Show text) (Show other) alike of = tt
 alike_unread (Init shape mint) _ alike of = absurd of
 alike_unread (Run verdicts clients options) _ alike of = absurd of

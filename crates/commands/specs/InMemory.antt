@@ -8,9 +8,15 @@ use Rattle.requests.specs.declared.Request.{Request}
 use Rattle.mem_devices.specs.Named.{file_of}
 use Rattle.mem_devices.specs.declared.plain_disk.PlainDisk.{PlainDisk}
 use Rattle.mem_devices.specs.declared.plain_rack.PlainRack.{PlainRack}
-use Rattle.gen_command.specs.InMemory.{memory_disks}
+use Rattle.mem_devices.specs.Places.{faults_at}
+use Rattle.mem_devices.specs.PlainRacks.{disk_at}
+use Rattle.rack_ledgers.specs.Racked.{Disks}
 use Rattle.command_answers.specs.Scene.{Scene}
 use Rattle.commands.specs.Complete.{IsUnhindered}
+
+-- the disks of a rack in memory, which never fail in the 80 places that it has
+abbrev pub memory_disks : PlainRack → Disks PlainDisk
+memory_disks rack = record { held = disk_at rack; faults = faults_at rack.misses }
 
 -- the scene of these files, these disks and these bytes that an output took, all in memory: a file that is there is read, and no count of the output is
 -- told

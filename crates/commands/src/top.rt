@@ -147,9 +147,12 @@ where
         Request::Recover => recover(rt, alloc, rack, out, gate),
         Request::Status { hashes } => status(rt, alloc, hashes, rack, out),
         Request::Audit { mint, clients } => audit(rt, alloc, mint, clients, inbox, rack, out),
-        Request::Gen { shape, seed, count } => {
-            generated(rt, alloc, shape, *seed, *count, out, gate)
-        }
+        Request::Gen {
+            shape,
+            seed,
+            count,
+            options,
+        } => generated(rt, alloc, shape, *seed, *count, *options, out, gate),
         Request::Show(text) => show(out, text.as_str()),
     }
 }

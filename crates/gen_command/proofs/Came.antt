@@ -1,5 +1,5 @@
 -- What a workload's run and audit come to, over nodes in memory.
-use Rattle.std.proofs.Common.{◌≡◌, inl, inr, ◌<◌, ◌≤◌, ◌++◌, ℕ, List, [], length, reverse, Option, Some, None, refl, sym, ap, ◌∙◌, subst, arith}
+use Rattle.std.proofs.Common.{◌≡◌, inl, inr, ◌<◌, ◌≤◌, ◌+◌, ◌*◌, ◌++◌, ℕ, List, [], length, reverse, Option, Some, None, IsSome, refl, sym, ap, ◌∙◌, subst, arith}
 use Rattle.std.proofs.lemmas.Bool.{cases_lt}
 use Rattle.std.proofs.lemmas.List.FromFn.{length-map-range_with_len}
 use Rattle.outside.specs.declared.disk.Disk.{Ghosts}
@@ -15,10 +15,9 @@ use Rattle.cbdc_model.specs.Lanes.{IsEnd}
 use Rattle.cbdc_model.specs.Ranges.{home_of, node_count}
 use Rattle.cbdc_model.specs.Slots.{slot}
 use Rattle.cbdc_model.specs.World.{KeptJournals, AreIdle}
-use Rattle.mem_devices.specs.declared.plain_disk.PlainDisk.{PlainDisk}
-use Rattle.mem_devices.specs.declared.plain_rack.PlainRack.{PlainRack}
+use Rattle.mirror_devices.specs.declared.mirror_rack.MirrorRack.{MirrorRack}
 use Rattle.mem_devices.specs.Places.{faults_at}
-use Rattle.mem_devices.specs.PlainRacks.{NoPlainDiskOut, disk_at, plain}
+use Rattle.mirror_devices.specs.MirrorRacks.{PlainMirror, NoMirrorOut, mirror_at, plain_mirror}
 use Rattle.ledger_laws.proofs.Recovery.{idle_law}
 use Rattle.ledger_init.specs.Made.{HoldsFirst, first_record_of}
 use Rattle.rack_ledgers.proofs.Once.{opens_once_law}
@@ -47,9 +46,10 @@ use Rattle.workload.specs.Generator.{mint_of, minted_of, joined_of, split_of, jo
 use Rattle.audit_command.specs.Audits.{IsUnsoundBy}
 use Rattle.command_answers.specs.Causes.{IsAnswerToRequest}
 use Rattle.run_command.specs.Told.{IsCountable, numbers_of}
-use Rattle.gen_command.specs.Generated.{all_good, files_of, all_submissions, made_for, IsWorkloadRun, HasVerdictOf, EndsWorkload, batches_for, IsWorkloadText, IsUnsoundWorkload, WhyNoWorkload}
+use Rattle.gen_command.specs.Generated.{all_good, files_of, all_submissions, made_for, IsWorkloadRun, HasVerdictOf, EndsWorkload, batches_for, IsWorkloadText, StandsOnMirrors, IsUnsoundWorkload, WhyNoWorkload}
 use Rattle.submission_laws.specs.Files.{mint_journals}
-use Rattle.gen_command.specs.InMemory.{AreDisksReady, HaveRoomForFiles, TellsRunOf, IsWorkloadResult, IsCheckedSound, IsUnchecked, memory_disks}
+use Rattle.gen_command.specs.InMemory.{AreDisksReady, AreMirrorsEmpty, HaveRoomForFiles, TellsRunOf, IsWorkloadResult, IsCheckedSound, IsUnchecked, mirror_disks}
+use Rattle.mirror_devices.proofs.Blank.{tells, holds_within}
 use Rattle.gen_command.proofs.FirstShown.{kept_journal, kept_beyond, first_kept, first_shown}
 use Rattle.gen_command.proofs.Memory.{none_rose, there}
 use Rattle.rack_laws.specs.Ready.{NoneRises, ShowsKept, limit_at}
@@ -132,40 +132,40 @@ module _ (K : Shape) (seed n : ℕ) (within : IsWithinLimits K) (small : n ≤ 1
 
 module _ (K : Shape) (mint : List Output) (few_coins : length mint ≤ 1000000) (limits : IsWithinLimits K) where
   -- what is in place tells its bytes
-  pub told_there : (rack : PlainRack) → NoPlainDiskOut rack → (n : ℕ) → n < node_count K → (d : PlainDisk) × (disk_at rack n ≡ Some d) × ((c : List ℕ) × (plain.content d ≡ Some c) × plain.images d c)
+  pub told_there : (rack : MirrorRack) → NoMirrorOut rack → (n : ℕ) → n < node_count K → (d : PlainMirror) × (mirror_at rack n ≡ Some d) × ((c : List ℕ) × (plain_mirror.content d ≡ Some c) × plain_mirror.images d c)
   told_there rack all n inside =
       let d = there rack all n (omega (arith, inside, limits.coordinators, limits.shards)) in
-      (d.0, d.1, (d.0.bytes.items, refl, refl))
+      (d.0, d.1, tells d.0)
 
   -- the ledger that was made
-  pub made_shown : (old mid : PlainRack) → AreDisksReady K mint old → NoPlainDiskOut mid → ((n : ℕ) → n < node_count K → HoldsFirst plain (first_record_of K mint n) (disk_at old n) (disk_at mid n))
-      → Shows plain (disk_at mid) K (genesis_id mint) (mint_journals K mint)
+  pub made_shown : (old mid : MirrorRack) → AreDisksReady K mint old → NoMirrorOut mid → ((n : ℕ) → n < node_count K → HoldsFirst plain_mirror (first_record_of K mint n) (mirror_at old n) (mirror_at mid n))
+      → Shows plain_mirror (mirror_at mid) K (genesis_id mint) (mint_journals K mint)
   made_shown old mid ready all holds =
-      first_shown K mint limits few_coins plain (disk_at old) (disk_at mid) (λ n inside. (let e = ready.empty n inside in (e.0, e.1, refl))) (λ n inside. (let d = told_there mid all n inside in (d.0, d.1))) holds
+      first_shown K mint limits few_coins plain_mirror (mirror_at old) (mirror_at mid) (λ n inside. (let e = ready.empty n inside in (e.0, e.1, subst (λ o. IsSome o) (sym e.2) refl))) (λ n inside. (let d = told_there mid all n inside in (d.0, d.1))) holds
 
   -- no node in memory fails
-  pub none_rises : (old new : PlainRack) → NoneRises K (faults_at old.misses) (faults_at new.misses)
+  pub none_rises : (old new : MirrorRack) → NoneRises K (faults_at old.misses) (faults_at new.misses)
   none_rises old new n inside = none_rose old.misses new.misses n (omega (arith, inside, limits.coordinators, limits.shards))
 
   -- the disks of a ledger that was made have as much room as before
-  pub room_still : (files : List (List FullTx)) (old mid : PlainRack) → AreDisksReady K mint old → NoPlainDiskOut mid → ((n : ℕ) → n < node_count K → SameRoom plain (disk_at old n) (disk_at mid n)) → HaveRoomForFiles K mint files old → HaveRoomForFiles K mint files mid
+  pub room_still : (files : List (List FullTx)) (old mid : MirrorRack) → AreDisksReady K mint old → NoMirrorOut mid → ((n : ℕ) → n < node_count K → SameRoom plain_mirror (mirror_at old n) (mirror_at mid n)) → HaveRoomForFiles K mint files old → HaveRoomForFiles K mint files mid
   room_still files old mid ready all rooms ample =
-      more_room K (sound_by all_good) (λ n. limit_at plain (disk_at old n)) (λ n. limit_at plain (disk_at mid n)) files (mint_journals K mint)
-      (λ n inside. (let was = ready.empty n inside in let is = told_there mid all n inside in omega (arith, ap (limit_at plain) was.1, ap (limit_at plain) is.1, rooms n inside was.0 was.1 is.0 is.1))) ample
+      more_room K (sound_by all_good) (λ n. limit_at plain_mirror (mirror_at old n)) (λ n. limit_at plain_mirror (mirror_at mid n)) files (mint_journals K mint)
+      (λ n inside. (let was = ready.empty n inside in let is = told_there mid all n inside in omega (arith, ap (limit_at plain_mirror) was.1, ap (limit_at plain_mirror) is.1, rooms n inside was.0 was.1 is.0 is.1))) ample
 
-  module _ (files : List (List FullTx)) (mid new : PlainRack) (shows : Shows plain (disk_at mid) K (genesis_id mint) (mint_journals K mint)) (ample : HaveRoomForFiles K mint files mid) where
-    ready : ShowsKept plain (disk_at mid) K mint [] (mint_journals K mint)
+  module _ (files : List (List FullTx)) (mid new : MirrorRack) (shows : Shows plain_mirror (mirror_at mid) K (genesis_id mint) (mint_journals K mint)) (ample : HaveRoomForFiles K mint files mid) where
+    ready : ShowsKept plain_mirror (mirror_at mid) K mint [] (mint_journals K mint)
     ready = record { limits = limits; shown = shows; kept = first_kept K mint limits few_coins }
 
     -- its files are run, unless memory runs out
-    pub unrun : (a : Answer) → WhyNoTurns plain (memory_disks mid) (memory_disks new) (file_turns all_good files) a → a ≡ answers.Memory
+    pub unrun : (a : Answer) → WhyNoTurns plain_mirror (mirror_disks mid) (mirror_disks new) (file_turns all_good files) a → a ≡ answers.Memory
     unrun a (inl (inl unopened, back)) =
-        unopened_none plain (disk_at mid) (faults_at mid.misses) (faults_at new.misses) K mint [] (mint_journals K mint) ready
-        (ample_rooms K mint [] (mint_journals K mint) (λ n. limit_at plain (disk_at mid n)) limits (first_kept K mint limits few_coins) (sound_by all_good) files ample) (none_rises mid new) None a tt unopened
-    unrun a (inl (inr (inl unsound), back)) = absurd (unsound_none plain (disk_at mid) K mint [] (mint_journals K mint) ready a unsound)
+        unopened_none plain_mirror (mirror_at mid) (faults_at mid.misses) (faults_at new.misses) K mint [] (mint_journals K mint) ready
+        (ample_rooms K mint [] (mint_journals K mint) (λ n. limit_at plain_mirror (mirror_at mid n)) limits (first_kept K mint limits few_coins) (sound_by all_good) files ample) (none_rises mid new) None a tt unopened
+    unrun a (inl (inr (inl unsound), back)) = absurd (unsound_none plain_mirror (mirror_at mid) K mint [] (mint_journals K mint) ready a unsound)
     unrun a (inl (inr (inr memory), back)) = memory
     unrun a (inr fault) =
-        run_none plain (memory_disks mid) (memory_disks new) K mint [] (mint_journals K mint) ready (none_rises mid new) all_good files ample a fault
+        run_none plain_mirror (mirror_disks mid) (mirror_disks new) K mint [] (mint_journals K mint) ready (none_rises mid new) all_good files ample a fault
 
 -- ---- a workload's run and audit
 
@@ -173,16 +173,16 @@ module _ (K : Shape) (seed n : ℕ) where
   pub memory_why : (a : Answer) → a ≡ answers.Memory → WhyNoWorkload K seed n a
   memory_why a memory = subst (WhyNoWorkload K seed n) (sym memory) tt
 
-  module _ (small : n ≤ 10000) (limits : IsWithinLimits K) (rack : PlainRack) (all : NoPlainDiskOut rack) (ran : Ran) (told : TellsRunOf K (mint_of seed n) (files_of seed n) rack ran) where
+  module _ (small : n ≤ 10000) (limits : IsWithinLimits K) (rack : MirrorRack) (all : NoMirrorOut rack) (ran : Ran) (told : TellsRunOf K (mint_of seed n) (files_of seed n) rack ran) where
     is_run : IsWorkloadRun K seed n told.run.exit
     is_run = record { kept = told.run.grown.kept; waves = told.run.waves }
 
-    shows : Shows plain (disk_at rack) K (genesis_id (mint_of seed n)) told.run.exit
-    shows = shown plain (disk_at rack) K (mint_of seed n) (all_submissions seed n) told.run.exit limits (few seed n small) told.run.grown.kept told.run.disks (told_there K (mint_of seed n) (few seed n small) limits rack all)
+    shows : Shows plain_mirror (mirror_at rack) K (genesis_id (mint_of seed n)) told.run.exit
+    shows = shown plain_mirror (mirror_at rack) K (mint_of seed n) (all_submissions seed n) told.run.exit limits (few seed n small) told.run.grown.kept told.run.disks (told_there K (mint_of seed n) (few seed n small) limits rack all)
 
-    has_verdict : (verdict : Verdict) → IsAudited plain (disk_at rack) (mint_of seed n) (all_submissions seed n) verdict → HasVerdictOf K (mint_of seed n) (all_submissions seed n) told.run.exit verdict
+    has_verdict : (verdict : Verdict) → IsAudited plain_mirror (mirror_at rack) (mint_of seed n) (all_submissions seed n) verdict → HasVerdictOf K (mint_of seed n) (all_submissions seed n) told.run.exit verdict
     has_verdict verdict audited =
-        verdict_of plain (disk_at rack) K (mint_of seed n) (all_submissions seed n) told.run.exit limits (few seed n small) told.run.grown.kept shows (all_submissions seed n) verdict audited
+        verdict_of plain_mirror (mirror_at rack) K (mint_of seed n) (all_submissions seed n) told.run.exit limits (few seed n small) told.run.grown.kept shows (all_submissions seed n) verdict audited
 
     idle : AreIdle K told.run.exit
     idle lane low =
@@ -190,28 +190,34 @@ module _ (K : Shape) (seed n : ℕ) where
         ap (λ J. (slot J lane).phase) (last.2 (home_of K lane)) ∙ last.1.idle lane low
 
     -- what a disk holds is within its room
-    fits : (k : ℕ) → k < node_count K → used_of (told.run.exit k) ≤ limit_at plain (disk_at rack k)
+    fits : (k : ℕ) → k < node_count K → used_of (told.run.exit k) ≤ limit_at plain_mirror (mirror_at rack k)
     fits k inside =
         let s = shows k inside in
-        let d : PlainDisk = s.0 in
-        let bytes : length s.2.0 ≡ length d.bytes.items = ap (λ (o : Option (List ℕ)). length (bytes_in o)) (sym s.2.1) in
-        omega (arith, used_within (header_of K (genesis_id (mint_of seed n)) k) (told.run.exit k) s.2.0 s.2.2, bytes, d.within, ap (limit_at plain) s.1)
-      where
-        bytes_in : Option (List ℕ) → List ℕ
-        bytes_in None = []
-        bytes_in (Some c) = c
+        omega (arith, used_within (header_of K (genesis_id (mint_of seed n)) k) (told.run.exit k) s.2.0 s.2.2, holds_within s.0 s.2.0 s.2.1, ap (limit_at plain_mirror) s.1)
 
-    pub came_to : (totals : Totals) → IsCheckedSound rack (mint_of seed n) (all_submissions seed n) totals → IsWorkloadResult K seed n ran totals
-    came_to totals audited = record {
+    -- what a crash leaves of each of a node's disks opens to its journal
+    on_mirrors : (replicas : ℕ) (began : MirrorRack) → AreMirrorsEmpty K replicas n began → StandsOnMirrors K replicas told.run.exit
+    on_mirrors replicas began empty = record {
+      began = began;
+      ended = rack;
+      room = 4096 + 400 * n;
+      made = empty;
+      there = λ node inside. there rack all node (omega (arith, inside, limits.coordinators, limits.shards));
+      holds = λ node inside m at k d is. told.run.disks node inside m at d.bytes.items (k, d, is, refl);
+    }
+
+    pub came_to : (replicas : ℕ) (began : MirrorRack) → AreMirrorsEmpty K replicas n began → (totals : Totals) → IsCheckedSound rack (mint_of seed n) (all_submissions seed n) totals → IsWorkloadResult K seed n replicas ran totals
+    came_to replicas began empty totals audited = record {
       limits = limits;
       exit = told.run.exit;
       run = is_run;
+      mirrors = on_mirrors replicas began empty;
       countable = is_countable K seed n limits small told.run.exit ran told.tells;
       ends = ends_run K seed n limits small told.run.exit ran told.tells told.run.grown.grows told.unspent;
       audited = has_verdict (Sound totals) audited;
     }
 
-    unsound_why : (place : ℕ) (kind : UnsoundKind) → IsAudited plain (disk_at rack) (mint_of seed n) (all_submissions seed n) (Unsound place kind) → IsUnsoundWorkload K seed n place kind
+    unsound_why : (place : ℕ) (kind : UnsoundKind) → IsAudited plain_mirror (mirror_at rack) (mint_of seed n) (all_submissions seed n) (Unsound place kind) → IsUnsoundWorkload K seed n place kind
     unsound_why place kind audited =
         let v = has_verdict (Unsound place kind) audited in
         record {
@@ -223,7 +229,7 @@ module _ (K : Shape) (seed n : ℕ) where
               (idle_law K (mint_of seed n) (all_submissions seed n) told.run.exit (omega (arith, limits.some_shard)) (omega (arith, limits.some_lane)) clean told.run.grown.kept idle) place kind v.is;
         }
 
-    wrong_why : (a : Answer) → IsUnsoundBy (IsAudited plain (disk_at rack) (mint_of seed n) (all_submissions seed n)) a → WhyNoWorkload K seed n a
+    wrong_why : (a : Answer) → IsUnsoundBy (IsAudited plain_mirror (mirror_at rack) (mint_of seed n) (all_submissions seed n)) a → WhyNoWorkload K seed n a
     wrong_why answers.Ok is = absurd is
     wrong_why answers.BadWords is = absurd is
     wrong_why (answers.BadInput file at what) is = absurd is
@@ -240,11 +246,11 @@ module _ (K : Shape) (seed n : ℕ) where
     wrong_why (answers.DiskFault k) is = absurd is
     wrong_why answers.Memory is = tt
 
-    pub unchecked_why : (new : PlainRack) (a : Answer) → IsUnchecked rack new (mint_of seed n) (all_submissions seed n) a → WhyNoWorkload K seed n a
+    pub unchecked_why : (new : MirrorRack) (a : Answer) → IsUnchecked rack new (mint_of seed n) (all_submissions seed n) a → WhyNoWorkload K seed n a
     unchecked_why new a (inl wrong) = wrong_why a wrong
     unchecked_why new a (inr (inl unopened)) =
-        memory_why a (unopened_none plain (disk_at rack) (faults_at rack.misses) (faults_at new.misses) K (mint_of seed n) (all_submissions seed n) told.run.exit
-        (record { limits = limits; shown = shows; kept = told.run.grown.kept }) (idle_rooms K (mint_of seed n) (all_submissions seed n) told.run.exit (λ k. limit_at plain (disk_at rack k)) limits told.run.grown.kept idle fits)
+        memory_why a (unopened_none plain_mirror (mirror_at rack) (faults_at rack.misses) (faults_at new.misses) K (mint_of seed n) (all_submissions seed n) told.run.exit
+        (record { limits = limits; shown = shows; kept = told.run.grown.kept }) (idle_rooms K (mint_of seed n) (all_submissions seed n) told.run.exit (λ k. limit_at plain_mirror (mirror_at rack k)) limits told.run.grown.kept idle fits)
         (none_rises K (mint_of seed n) (few seed n small) limits rack new) (Some (genesis_id (mint_of seed n))) a refl unopened)
     unchecked_why new a (inr (inr memory)) = memory_why a memory
 
@@ -267,10 +273,11 @@ module _ (K : Shape) (seed n : ℕ) where
   why_done written answers.Memory is = tt
 
   -- the text of a workload
-  pub text_of : (ran : Ran) (totals : Totals) → IsWorkloadResult K seed n ran totals → IsWorkloadText K seed n (numbers_of ran ++ audit_text totals)
-  text_of ran totals came = record {
+  pub text_of : (replicas : ℕ) (ran : Ran) (totals : Totals) → IsWorkloadResult K seed n replicas ran totals → IsWorkloadText K seed n replicas (numbers_of ran ++ audit_text totals)
+  text_of replicas ran totals came = record {
     exit = came.exit;
     run = came.run;
+    mirrors = came.mirrors;
     summary = numbers_of ran;
     ends = came.ends;
     totals = totals;

@@ -22,29 +22,30 @@ use Rattle.rack_laws.proofs.Small.{new_room}
 use Rattle.gen_command.specs.Generated.{all_good, files_of}
 use Rattle.cbdc_model.specs.Ranges.{on_shard, node_count}
 use Rattle.cbdc_model.specs.Room.{size_of}
-use Rattle.mem_devices.specs.declared.plain_disk.PlainDisk.{PlainDisk}
-use Rattle.mem_devices.specs.declared.plain_rack.PlainRack.{PlainRack}
+use Rattle.mirror_devices.specs.declared.mirror_rack.MirrorRack.{MirrorRack}
 use Rattle.mem_devices.specs.Places.{faults_at, disk_in, HasNoDiskOut}
-use Rattle.mem_devices.specs.PlainRacks.{NoPlainDiskOut, IsEmptyAt, disk_at, plain}
+use Rattle.mirror_devices.specs.MirrorRacks.{PlainMirror, NoMirrorOut, mirror_at, plain_mirror}
 use Rattle.record_log.specs.Bodies.{body_of}
 use Rattle.gate_journal.specs.Rows.{row}
 use Rattle.rack_ledgers.specs.Blank.{IsInUse}
 use Rattle.ledger_init.specs.Made.{first_record_of, IsUnmade}
 use Rattle.workload.specs.Generator.{coin, coin_value, mint_of, minted_of, joined_of, split_of, join_of}
-use Rattle.gen_command.specs.InMemory.{AreDisksReady, HaveRoomForFiles}
+use Rattle.mirror_devices.specs.Empty.{copies_at}
+use Rattle.mirror_devices.proofs.Blank.{empty_content, empty_limit}
+use Rattle.gen_command.specs.InMemory.{AreDisksReady, AreMirrorsEmpty, HaveRoomForFiles}
 use Rattle.gen_command.proofs.FirstShown.{on_length, made_length}
 
 -- ---- the rack
 
 -- each node's disk is there
-pub there : (rack : PlainRack) → NoPlainDiskOut rack → (n : ℕ) → n < 80 → (d : PlainDisk) × (disk_at rack n ≡ Some d)
+pub there : (rack : MirrorRack) → NoMirrorOut rack → (n : ℕ) → n < 80 → (d : PlainMirror) × (mirror_at rack n ≡ Some d)
 there rack all n low = go ((slice_get_cases rack.places.items n).1)
   where
-    in_place : (place : Option PlainDisk) → slice_get rack.places.items n ≡ Some place → (d : PlainDisk) × (disk_at rack n ≡ Some d)
+    in_place : (place : Option PlainMirror) → slice_get rack.places.items n ≡ Some place → (d : PlainMirror) × (mirror_at rack n ≡ Some d)
     in_place None is = absurd (subst HasNoDiskOut is (all n))
     in_place (Some d) is = (d, ap disk_in is)
 
-    go : ((x : Option PlainDisk) × (n < length rack.places.items) × (slice_get rack.places.items n ≡ Some x) × (get_or rack.places.items n x ≡ x)) ⊎ ((length rack.places.items ≤ n) × (slice_get rack.places.items n ≡ None)) → (d : PlainDisk) × (disk_at rack n ≡ Some d)
+    go : ((x : Option PlainMirror) × (n < length rack.places.items) × (slice_get rack.places.items n ≡ Some x) × (get_or rack.places.items n x ≡ x)) ⊎ ((length rack.places.items ≤ n) × (slice_get rack.places.items n ≡ None)) → (d : PlainMirror) × (mirror_at rack n ≡ Some d)
     go (inl (x, inside, is, same)) = in_place x is
     go (inr (past, is)) = absurd (let whole = rack.whole in omega (arith, low, past, whole))
 
@@ -68,11 +69,11 @@ nothing_there (suc n) has = no_row (body_of has.first) has.rest has.parts
     no_row : (body more : List ℕ) → [] ≡ row body ++ more → ⊥
     no_row body more e = cc
 
-module _ (K : Shape) (mint : List Output) (rack : PlainRack) (ready : AreDisksReady K mint rack) (now : ℕ) where
+module _ (K : Shape) (mint : List Output) (rack : MirrorRack) (ready : AreDisksReady K mint rack) (now : ℕ) where
   few_nodes : (n : ℕ) → n < node_count K → n < 80
   few_nodes n inside = omega (arith, inside, ready.limits.coordinators, ready.limits.shards)
 
-  pub unmade_memory : (a : Answer) → IsUnmade K mint plain (disk_at rack) (faults_at rack.misses) (faults_at now) a → a ≡ answers.Memory
+  pub unmade_memory : (a : Answer) → IsUnmade K mint plain_mirror (mirror_at rack) (faults_at rack.misses) (faults_at now) a → a ≡ answers.Memory
   unmade_memory answers.Ok why = absurd why
   unmade_memory answers.BadWords why = absurd why
   unmade_memory (answers.BadInput file at kind) why = absurd why
@@ -81,7 +82,7 @@ module _ (K : Shape) (mint : List Output) (rack : PlainRack) (ready : AreDisksRe
   unmade_memory (answers.Foreign k kept asked) why = absurd why
   unmade_memory (answers.NotEmpty k) why =
       let e = ready.empty k why.inside in
-      absurd (nothing_there k (subst (IsInUse k) e.2 (why.in_use e.0 e.1 e.0.bytes.items refl)))
+      absurd (nothing_there k (why.in_use e.0 e.1 [] e.2))
   unmade_memory (answers.Full k used need capacity) why =
       let e = ready.empty k why.2.inside in
       let need_is = why.2.need_is in
@@ -124,15 +125,15 @@ module _ (K : Shape) (seed n : ℕ) (small : n ≤ 10000) where
           let few = minted_few in
           omega (arith, here, all, few)
 
-  pub are_ready : (rack : PlainRack) → IsWithinLimits K → ((node : ℕ) → node < node_count K → IsEmptyAt rack (4096 + 400 * n) node) → AreDisksReady K (mint_of seed n) rack
-  are_ready rack limits empty = record {
+  pub are_ready : (replicas : ℕ) (rack : MirrorRack) → IsWithinLimits K → AreMirrorsEmpty K replicas n rack → AreDisksReady K (mint_of seed n) rack
+  are_ready replicas rack limits empty = record {
     limits = limits;
     fits = total_fits;
     empty = λ node inside.
         let e = empty node inside in
-        let room = e.3 in
+        let room = empty_limit (copies_at K.coordinators replicas node) (4096 + 400 * n) e.0 e.2 in
         let first = first_fits node in
-        (e.0, e.1, e.2, omega (arith, room, first));
+        (e.0, e.1, empty_content (copies_at K.coordinators replicas node) (4096 + 400 * n) e.0 e.2, omega (arith, room, first));
   }
 
   -- and have room for all that comes of the workload
@@ -155,9 +156,9 @@ module _ (K : Shape) (seed n : ℕ) (small : n ≤ 10000) where
       each_small f each k zero = tt
       each_small f each k (suc m) = (each k, each_small f each (k + 1) m)
 
-  pub workload_fits : (rack : PlainRack) → IsWithinLimits K → ((node : ℕ) → node < node_count K → IsEmptyAt rack (4096 + 400 * n) node) → HaveRoomForFiles K (mint_of seed n) (files_of seed n) rack
-  workload_fits rack limits empty =
-      new_room K (minted (mint_of seed n)) (sound_by all_good) (λ node. limit_at plain (disk_at rack node)) (files_of seed n) limits small_files (omega (arith, all_many, small)) (
-        (λ node low. (let e = empty node (omega (arith, low)) in omega (arith, all_many, ap (limit_at plain) e.1, e.3))),
-        (λ node high inside. (let e = empty node inside in omega (arith, all_many, minted_many, minted_few, ap (limit_at plain) e.1, e.3))),
+  pub workload_fits : (replicas : ℕ) (rack : MirrorRack) → IsWithinLimits K → AreMirrorsEmpty K replicas n rack → HaveRoomForFiles K (mint_of seed n) (files_of seed n) rack
+  workload_fits replicas rack limits empty =
+      new_room K (minted (mint_of seed n)) (sound_by all_good) (λ node. limit_at plain_mirror (mirror_at rack node)) (files_of seed n) limits small_files (omega (arith, all_many, small)) (
+        (λ node low. (let e = empty node (omega (arith, low)) in omega (arith, all_many, ap (limit_at plain_mirror) e.1, empty_limit (copies_at K.coordinators replicas node) (4096 + 400 * n) e.0 e.2))),
+        (λ node high inside. (let e = empty node inside in omega (arith, all_many, minted_many, minted_few, ap (limit_at plain_mirror) e.1, empty_limit (copies_at K.coordinators replicas node) (4096 + 400 * n) e.0 e.2))),
       )

@@ -1,16 +1,22 @@
 -- What `gen` comes to: a ledger of the workload's mint is made in nodes of its own, the workload's files are run over it, and it is audited.
 use Rattle.std.specs.List.{range_with_len}
-use Rattle.std.specs.Prelude.{◌≡◌, ◌+◌, ◌-◌, ◌*◌, ◌/◌, ◌++◌, ℕ, zero, suc, length, List, reverse}
+use Rattle.std.specs.Prelude.{◌≡◌, ◌+◌, ◌-◌, ◌*◌, ◌/◌, ◌++◌, ◌<◌, ℕ, zero, suc, length, List, reverse, Some, slice_get}
 use Rattle.line_text.specs.Lines.{Text, summary_text}
 use Rattle.cbdc_types.specs.declared.answer.Answer.{Answer}
 use Rattle.cbdc_types.specs.declared.answer.Answer.TheVariants as answers
 use Rattle.cbdc_types.specs.declared.answer.UnsoundKind.{UnsoundKind}
 use Rattle.cbdc_model.specs.Records.{Shape, Record, Row, journal}
+use Rattle.cbdc_model.specs.Ranges.{node_count}
 use Rattle.cbdc_model.specs.Coins.{Output, FullTx}
 use Rattle.cbdc_model.specs.Clean.{Clean}
 use Rattle.cbdc_model.specs.History.{IsOrdered}
 use Rattle.cbdc_model.specs.World.{KeptJournals}
 use Rattle.cbdc_model.specs.Waves.{Waves, share}
+use Rattle.mem_devices.specs.declared.plain_disk.PlainDisk.{PlainDisk}
+use Rattle.mirror_devices.specs.declared.mirror_rack.MirrorRack.{MirrorRack}
+use Rattle.mirror_devices.specs.Empty.{copies_at}
+use Rattle.mirror_devices.specs.MirrorRacks.{PlainMirror, mirror_at, IsEmptyAt}
+use Rattle.record_log.specs.Held.{OpensTo}
 use Rattle.submissions.specs.SoundTest.{sound_by}
 use Rattle.cbdc_types.specs.declared.answer.Totals.{Totals}
 use Rattle.audit.specs.declared.verdict.Verdict.{Verdict}
@@ -35,6 +41,17 @@ pub record HasVerdictOf (K : Shape) (mint : List Output) (handed : List FullTx) 
   pub journals_are : (node : ℕ) → journal node (reverse rows) ≡ X node
   pub ordered : IsOrdered (reverse rows)
   pub is : IsVerdict K mint handed rows verdict
+
+-- the journals stood on disks in memory that were written alike: they were made empty, one for a coordinator and so many more for a shard, and at the
+-- end what a crash leaves of any of them opens to its node's journal
+pub record StandsOnMirrors (K : Shape) (replicas : ℕ) (X : ℕ → List Record) : Type 0 where
+  pub began : MirrorRack
+  pub ended : MirrorRack
+  pub room : ℕ
+  pub made : (node : ℕ) → node < node_count K → IsEmptyAt began (copies_at K.coordinators replicas node) room node
+  pub there : (node : ℕ) → node < node_count K → (m : PlainMirror) × (mirror_at ended node ≡ Some m)
+  pub holds : (node : ℕ) → node < node_count K → (m : PlainMirror) → mirror_at ended node ≡ Some m
+      → (k : ℕ) (d : PlainDisk) → slice_get m.disks.items k ≡ Some d → OpensTo (reverse (X node)) d.bytes.items
 
 -- how many pieces of n a list of m is cut into, the last maybe shorter
 abbrev pub rounded_up : ℕ → ℕ → ℕ
@@ -68,11 +85,12 @@ pub record EndsWorkload (K : Shape) (seed n : ℕ) (X : ℕ → List Record) (te
 abbrev pub clean_text : Shape → ℕ → ℕ → Text
 clean_text K seed n = summary_text 0 (batches_for K n) n 0 0 (left_of n) ++ audit_text (totals_of seed n)
 
--- there are journals of such a run; the text is the numbers that end it (`EndsWorkload`), and behind them the four totals with which an audit finds
+-- there are journals of such a run, on such disks; the text is the numbers that end it (`EndsWorkload`), and behind them the four totals with which an audit finds
 -- it sound; and where no hashes of the workload clash it is `clean_text`
-pub record IsWorkloadText (K : Shape) (seed n : ℕ) (text : Text) : Type 0 where
+pub record IsWorkloadText (K : Shape) (seed n replicas : ℕ) (text : Text) : Type 0 where
   pub exit : ℕ → List Record
   pub run : IsWorkloadRun K seed n exit
+  pub mirrors : StandsOnMirrors K replicas exit
   pub summary : Text
   pub ends : EndsWorkload K seed n exit summary
   pub totals : Totals
@@ -81,8 +99,8 @@ pub record IsWorkloadText (K : Shape) (seed n : ℕ) (text : Text) : Type 0 wher
   pub clean : Clean (mint_of seed n) (all_submissions seed n) → text ≡ clean_text K seed n
 
 -- the text of a workload was printed
-abbrev pub PrintsWorkload : (Text → Type 0) → Shape → ℕ → ℕ → Type 0
-PrintsWorkload printed K seed n = (text : Text) × IsWorkloadText K seed n text × printed text
+abbrev pub PrintsWorkload : (Text → Type 0) → Shape → ℕ → ℕ → ℕ → Type 0
+PrintsWorkload printed K seed n replicas = (text : Text) × IsWorkloadText K seed n replicas text × printed text
 
 -- ---- why a workload was not done
 

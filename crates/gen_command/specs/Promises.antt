@@ -8,10 +8,10 @@ use Rattle.submission_laws.specs.Files.{all_submissions}
 use Rattle.workload.specs.Generator.{mint_of}
 use Rattle.gen_command.specs.Generated.{PrintsWorkload, WhyNoWorkload}
 
--- `gen` of a workload of this seed and so many transactions, over a ledger of this shape: the rack is as it was, and no hashes clash or an audit says so
-abbrev pub gen_promise : {D : Type 0} → Ghosts D → Shape → ℕ → ℕ → Promise D
-gen_promise device shape seed count = record {
-  did = λ files before after printed. ((n : ℕ) → after.held n ≡ before.held n) × PrintsWorkload printed shape seed count;
+-- `gen` of a workload of this seed and so many transactions, over a ledger of this shape whose shards have so many disks beside their own: the rack is as it was, and no hashes clash or an audit says so
+abbrev pub gen_promise : {D : Type 0} → Ghosts D → Shape → ℕ → ℕ → ℕ → Promise D
+gen_promise device shape seed count replicas = record {
+  did = λ files before after printed. ((n : ℕ) → after.held n ≡ before.held n) × PrintsWorkload printed shape seed count replicas;
   why = λ before after answer. ((n : ℕ) → after.disks.held n ≡ before.disks.held n) × WhyNoWorkload shape seed count answer;
   leaves = λ before after answer. Unit {0};
   ended = λ before after answer. ⊥;
@@ -20,13 +20,13 @@ gen_promise device shape seed count = record {
 }
 
 -- what it needs
-abbrev pub gen_needs : ℕ → Needs
-gen_needs count = record {
+abbrev pub gen_needs : ℕ → ℕ → Needs
+gen_needs count replicas = record {
   place = λ place. ⊥;
   names = λ place name. ⊥;
   rose = λ before now place. ⊥;
   hands_in = λ files txs. ⊥;
   of_no_rack = Unit {0};
   of_no_file = Unit {0};
-  sized = count ≤ 10000;
+  sized = (count ≤ 10000) × (replicas ≤ 3);
 }

@@ -1,15 +1,14 @@
 // `gen`: a workload from a number, run and checked over nodes in memory.
-ghost use Rattle.std.specs.Prelude.{◌≡◌, ◌≤◌, ◌+◌, ◌*◌, ◌<◌, ℕ, length, All, IfOk, IfErr};
+ghost use Rattle.std.specs.Prelude.{◌≡◌, ◌≤◌, length, All, IfOk, IfErr};
 ghost use Rattle.outside.specs.Counts.{Rose};
 ghost use Rattle.cbdc_types.specs.Limits.{IsWithinLimits};
 ghost use Rattle.command_answers.specs.Causes.{IsAnswerToRequest, HasToldCause, IsWell};
 ghost use Rattle.gen_command.specs.Generated.{files_of as files_from, PrintsWorkload, WhyNoWorkload};
-ghost use Rattle.gen_command.specs.InMemory.{AreDisksReady, HaveRoomForFiles, TellsRunOf, IsCheckedSound, IsUnchecked, IsWorkloadResult};
+ghost use Rattle.gen_command.specs.InMemory.{AreDisksReady, AreMirrorsEmpty, HaveRoomForFiles, TellsRunOf, IsCheckedSound, IsUnchecked, IsWorkloadResult};
 ghost use Rattle.command_answers.specs.Texts.{IsPrinted, IsSilent};
 ghost use Rattle.file_runs.specs.Runs.{joined as all_joined};
 ghost use Rattle.input_files.specs.Limits.{IsShort};
-ghost use Rattle.cbdc_model.specs.Ranges.{node_count};
-ghost use Rattle.mem_devices.specs.PlainRacks.{NoPlainDiskOut, IsEmptyAt};
+ghost use Rattle.mirror_devices.specs.MirrorRacks.{NoMirrorOut};
 ghost use Rattle.workload.specs.Generator.{mint_of};
 
 use audit::Verdict;
@@ -17,11 +16,11 @@ use audit_command::joined;
 use cbdc_types::{Answer, FullTx, List, Mint, Output, Shape, Totals};
 use file_runs::Ran;
 use ledger_init::{Made, make_ledger};
-use mem_devices::PlainRack;
+use mirror_devices::MirrorRack;
 use outside::{Gate, Sink};
 use rack_ledgers::audit_on;
 use rack_runs::run_on;
-use requests::RunOptions;
+use requests::{GenOptions, RunOptions};
 use run_command::write_generated;
 use sentinel::AllGood;
 use std::alloc::{AllocError, Global};
@@ -62,16 +61,23 @@ fn files_of(alloc: Global, seed: u64, count: u32) -> Result<Files, AllocError>
     Ok(Files { mint, clients })
 }
 
-// The empty nodes in memory of a ledger, with room for a workload of so many transactions.
-fn rack_of(alloc: Global, shape: &Shape, count: u32) -> Result<PlainRack, AllocError>
-    requires { count ≤ 10000 }
+// The empty nodes in memory of a ledger, with room for a workload of so many transactions. A shard has so many disks beside its own.
+fn rack_of(
+    alloc: Global,
+    shape: &Shape,
+    count: u32,
+    replicas: u32,
+) -> Result<MirrorRack, AllocError>
+    requires few { count ≤ 10000 }
+    requires copies { replicas ≤ 3 }
     ensures limits { IsWithinLimits shape.now }
-    ensures all { IfOk result NoPlainDiskOut }
-    ensures empty { IfOk result (λ r. (n : ℕ) → n < node_count shape.now
-        → IsEmptyAt r (4096 + 400 * count) n) }
+    ensures all { IfOk result NoMirrorOut }
+    ensures empty { IfOk result (AreMirrorsEmpty shape.now replicas count) }
 {
-    let nodes = shape.coordinators() + shape.shards();
-    PlainRack::new(alloc, nodes, 4096 + 400 * count as usize)
+    let coordinators = shape.coordinators();
+    let nodes = coordinators + shape.shards();
+    let capacity = 4096 + 400 * count as usize;
+    MirrorRack::new(alloc, coordinators, nodes, replicas, capacity)
 }
 
 // Makes the ledger of a mint on empty disks, and runs client files over it.
@@ -81,17 +87,17 @@ fn run_files<W: Wait + Threads + Sync, G: Gate + Sync>(
     shape: &Shape,
     mint: Mint,
     clients: &[List<FullTx>],
-    rack: &mut PlainRack,
+    rack: &mut MirrorRack,
     gate: &G,
 ) -> Result<Ran, Answer>
-    requires all { NoPlainDiskOut rack.old }
+    requires all { NoMirrorOut rack.old }
     requires few { length mint ≤ 1000000 }
     requires short { All (λ txs. All IsShort txs) clients.now }
     requires ready { AreDisksReady shape.now mint rack.old }
     requires room { HaveRoomForFiles shape.now mint clients.now rack.old }
     ensures did { IfOk result (TellsRunOf shape.now mint clients.now rack.new) }
     ensures why { IfErr result (λ e. e ≡ Answer.Memory) }
-    ensures back { NoPlainDiskOut rack.new }
+    ensures back { NoMirrorOut rack.new }
 {
     let Made {
         coins: _,
@@ -111,9 +117,9 @@ fn check_files<W: Threads + Sync>(
     alloc: Global,
     mint: &[Output],
     clients: Vec<List<FullTx>>,
-    rack: &mut PlainRack,
+    rack: &mut MirrorRack,
 ) -> Result<Totals, Answer>
-    requires all { NoPlainDiskOut rack.old }
+    requires all { NoMirrorOut rack.old }
     ensures did { IfOk result (IsCheckedSound rack.old mint.now (all_joined clients.items)) }
     ensures why { IfErr result (IsUnchecked rack.old rack.new mint.now (all_joined clients.items)) }
 {
@@ -141,16 +147,18 @@ fn run_workload<W: Wait + Threads + Sync, G: Gate + Sync>(
     shape: &Shape,
     seed: u64,
     count: u32,
+    replicas: u32,
     gate: &G,
 ) -> Result<Came, Answer>
-    requires { count ≤ 10000 }
-    ensures did { IfOk result (λ c. IsWorkloadResult shape.now seed count c.ran c.totals) }
+    requires few { count ≤ 10000 }
+    requires copies { replicas ≤ 3 }
+    ensures did { IfOk result (λ c. IsWorkloadResult shape.now seed count replicas c.ran c.totals) }
     ensures why { IfErr result (WhyNoWorkload shape.now seed count) }
 {
     let Ok(Files { mint, clients }) = files_of(alloc, seed, count) else {
         return Err(Answer::Memory);
     };
-    let Ok(mut rack) = rack_of(alloc, shape, count) else {
+    let Ok(mut rack) = rack_of(alloc, shape, count, replicas) else {
         return Err(Answer::Memory);
     };
     let Ok(kept) = copied(&mint) else {
@@ -167,7 +175,8 @@ fn run_workload<W: Wait + Threads + Sync, G: Gate + Sync>(
 }
 
 /// Makes the workload of so many transactions from a seed, runs it over nodes in memory and prints the numbers that
-/// end a run and those of an audit. The rack that the program was handed is not touched.
+/// end a run and those of an audit. The rack that the program was handed is not touched. Each shard writes to so many
+/// disks beside its own; the text is the same for every number of them.
 ///
 /// Where it comes through: the rack is as it was. The text is that of a run of the workload between kept journals and of a sound audit of them;
 /// where no hashes of the workload clash it is one text for every schedule, with all transactions confirmed.
@@ -176,7 +185,8 @@ fn run_workload<W: Wait + Threads + Sync, G: Gate + Sync>(
 /// in which the waves of its two files, every witness being good, follow the first records of that mint; what is printed is the six numbers that
 /// end a run between these journals (0 resumed; as many batches as the lanes cut the two files into; how many of the submissions are confirmed and
 /// how many rejected, by their outcomes there, which together are all; 0 refused; the hashes that are unspent), and the four totals with which an
-/// audit of their history finds them sound; and where no hashes of the workload clash this is one text, whatever the order in which the lanes come
+/// audit of their history finds them sound; the journals stood on disks in memory, one for a coordinator and as many more for a shard as the options say,
+/// and at the end what a crash leaves of each of them opens to its node's journal; and where no hashes of the workload clash this is one text, whatever the order in which the lanes come
 /// to the nodes: all n transactions are confirmed and none is rejected, two hashes for each coin of the mint, less one for each join, are unspent,
 /// as many coins are in the audit's book, of the value minted, and n are committed.
 pub fn generated<W: Wait + Threads + Sync, O: Sink, G: Gate + Sync>(
@@ -185,19 +195,21 @@ pub fn generated<W: Wait + Threads + Sync, O: Sink, G: Gate + Sync>(
     shape: &Shape,
     seed: u64,
     count: u32,
+    options: GenOptions,
     out: &mut O,
     gate: &G,
 ) -> Answer
-    requires { count ≤ 10000 }
+    requires few { count ≤ 10000 }
+    requires copies { options.replicas ≤ 3 }
     ensures cause { IsAnswerToRequest (λ file. ⊥) (λ file. ⊥)
         (Rose (O.count out.old) (O.count out.new)) result }
     ensures did { IsWell result
-        → PrintsWorkload (IsPrinted (O.taken out.old) (O.taken out.new) result) shape.now seed count }
+        → PrintsWorkload (IsPrinted (O.taken out.old) (O.taken out.new) result) shape.now seed count options.replicas }
     ensures why { HasToldCause (WhyNoWorkload shape.now seed count) result }
     ensures silent { IsSilent (O.taken out.old) (O.taken out.new) result }
     ensures written_later { O.count out.old ≤ O.count out.new }
 {
-    let came = match run_workload(rt, alloc, shape, seed, count, gate) {
+    let came = match run_workload(rt, alloc, shape, seed, count, options.replicas, gate) {
         Ok(came) => came,
         Err(fault) => return fault,
     };

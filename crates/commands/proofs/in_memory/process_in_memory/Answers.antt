@@ -5,9 +5,9 @@ use Rattle.mem_devices.specs.Named.{file_of}
 use Rattle.mem_devices.specs.PlainRacks.{plain}
 use Rattle.mem_devices.specs.Sinks.{misses_at}
 use Rattle.mem_devices.specs.declared.plain_disk.PlainDisk.{PlainDisk}
-use Rattle.gen_command.specs.InMemory.{memory_disks}
 use Rattle.command_answers.specs.Scene.{Scene}
 use Rattle.gen_command.proofs.Memory.{none_rose}
+use Rattle.commands.specs.InMemory.{memory_disks}
 use Rattle.commands.proofs.InMemory.{unhindered, steady_file, rose_full, ended}
 use Rattle.commands.proofs.in_memory.process_in_memory.Goals as goal
 

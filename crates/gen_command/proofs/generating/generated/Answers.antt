@@ -21,13 +21,13 @@ returns-in-Err-clause-silent g c = silent_same (g.O.Sink.taken c.args.out.now) c
 pub returns-in-Ok-write_generated-clause-did : goal.returns-in-Ok-write_generated-clause-did
 returns-in-Ok-write_generated-clause-did g c well = (
   numbers_of c.in-Ok.came.ran ++ audit_text c.in-Ok.came.totals,
-  text_of c.args.shape.now c.args.seed c.args.count c.in-Ok.came.ran c.in-Ok.came.totals c.in-Ok.ensures.did,
+  text_of c.args.shape.now c.args.seed c.args.count c.args.options.replicas c.in-Ok.came.ran c.in-Ok.came.totals c.in-Ok.ensures.did,
   c.in-Ok-write_generated.ensures.prints c.in-Ok.ensures.did.countable,
 )
 
 pub returns-clause-did : goal.returns-clause-did
 returns-clause-did g c well = (
   numbers_of c.in-Ok.came.ran ++ audit_text c.in-Ok.came.totals,
-  text_of c.args.shape.now c.args.seed c.args.count c.in-Ok.came.ran c.in-Ok.came.totals c.in-Ok.ensures.did,
+  text_of c.args.shape.now c.args.seed c.args.count c.args.options.replicas c.in-Ok.came.ran c.in-Ok.came.totals c.in-Ok.ensures.did,
   c.in-Err-write_generated.ensures.prints c.in-Ok.ensures.did.countable,
 )

@@ -10,14 +10,14 @@ use Rattle.gen_command.proofs.generating.run_workload.Goals as goal
 pub run_files-requires-clause-ready : goal.run_files-requires-clause-ready
 run_files-requires-clause-ready g c κs lives =
     subst (λ m. AreDisksReady c.args.shape.now m c.in-Ok-rack_of.rack) (sym c.in-Ok.ensures.mint)
-    (are_ready c.args.shape.now c.args.seed c.args.count c.requires c.in-Ok-rack_of.rack c.in-Ok-rack_of.ensures.limits c.in-Ok-rack_of.ensures.empty)
+    (are_ready c.args.shape.now c.args.seed c.args.count c.requires.few c.args.replicas c.in-Ok-rack_of.rack c.in-Ok-rack_of.ensures.limits c.in-Ok-rack_of.ensures.empty)
 
 pub run_files-requires-clause-room : goal.run_files-requires-clause-room
 run_files-requires-clause-room g c κs lives =
     let files = c.deref.ensures.value ∙ c.in-Ok.ensures.clients in
     subst (λ m. HaveRoomForFiles c.args.shape.now m c.deref.result.now c.in-Ok-rack_of.rack) (sym c.in-Ok.ensures.mint)
     (subst (λ fs. HaveRoomForFiles c.args.shape.now (mint_of c.args.seed c.args.count) fs c.in-Ok-rack_of.rack) (sym files)
-    (workload_fits c.args.shape.now c.args.seed c.args.count c.requires c.in-Ok-rack_of.rack c.in-Ok-rack_of.ensures.limits c.in-Ok-rack_of.ensures.empty))
+    (workload_fits c.args.shape.now c.args.seed c.args.count c.requires.few c.args.replicas c.in-Ok-rack_of.rack c.in-Ok-rack_of.ensures.limits c.in-Ok-rack_of.ensures.empty))
 
 pub returns-in-Err-clause-why : goal.returns-in-Err-clause-why
 returns-in-Err-clause-why g c = memory_why c.args.shape.now c.args.seed c.args.count c.in-Err.fault c.in-Err.ensures.why
@@ -32,7 +32,7 @@ returns-in-Ok-check_files-clause-did g c =
     let mint = c.as_slice.ensures ∙ c.in-Ok-copied.ensures ∙ c.in-Ok.ensures.mint in
     let sound = subst (λ m. IsCheckedSound rack m (all_submissions c.args.seed c.args.count) c.in-Ok-check_files.totals) mint
     (subst (λ fs. IsCheckedSound rack c.as_slice.result.now (joined fs) c.in-Ok-check_files.totals) c.in-Ok.ensures.clients c.in-Ok-check_files.ensures.did) in
-    came_to c.args.shape.now c.args.seed c.args.count c.requires c.in-Ok-rack_of.ensures.limits rack c.run_files.ensures.back ran told c.in-Ok-check_files.totals sound
+    came_to c.args.shape.now c.args.seed c.args.count c.requires.few c.in-Ok-rack_of.ensures.limits rack c.run_files.ensures.back ran told c.args.replicas c.in-Ok-rack_of.rack c.in-Ok-rack_of.ensures.empty c.in-Ok-check_files.totals sound
 
 pub returns-clause-why : goal.returns-clause-why
 returns-clause-why g c =
@@ -45,4 +45,4 @@ returns-clause-why g c =
     let mint = c.as_slice.ensures ∙ c.in-Ok-copied.ensures ∙ c.in-Ok.ensures.mint in
     let wrong = subst (λ m. IsUnchecked rack c.check_files.new.rack m (all_submissions c.args.seed c.args.count) fault) mint
     (subst (λ fs. IsUnchecked rack c.check_files.new.rack c.as_slice.result.now (joined fs) fault) c.in-Ok.ensures.clients c.in-Err-check_files.ensures.why) in
-    unchecked_why c.args.shape.now c.args.seed c.args.count c.requires c.in-Ok-rack_of.ensures.limits rack c.run_files.ensures.back ran told c.check_files.new.rack fault wrong
+    unchecked_why c.args.shape.now c.args.seed c.args.count c.requires.few c.in-Ok-rack_of.ensures.limits rack c.run_files.ensures.back ran told c.check_files.new.rack fault wrong
