@@ -21,7 +21,6 @@ use outside::{Inbox, Rack, Sink};
 use rack_ledgers::audit_on;
 use requests::FileWord;
 use std::alloc::{AllocError, Global};
-use std::mem;
 use std::thread::Threads;
 
 // The transactions of files in one list.
@@ -36,8 +35,7 @@ pub fn joined(alloc: Global, files: Vec<List<FullTx>>) -> Result<Vec<FullTx>, Al
     Ok(all)
 }
 
-// Reads all files, and audits the ledger on the rack. All files are read before the rack is taken. What was handed in is not given back list by list: the
-// system takes all memory of a program that ends.
+// Reads all files, and audits the ledger on the rack. All files are read before the rack is taken.
 fn audit_all<W: Threads + Sync, I: Inbox, R: Rack>(
     rt: &W,
     alloc: Global,
@@ -72,9 +70,7 @@ where
     let Ok(handed) = joined(alloc, files) else {
         return Err(Answer::Memory);
     };
-    let verdict = audit_on(rt, alloc, rack, mint.as_slice(), &handed);
-    mem::forget(handed);
-    verdict
+    audit_on(rt, alloc, rack, mint.as_slice(), &handed)
 }
 
 // Prints what a sound ledger comes to.

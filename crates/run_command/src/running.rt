@@ -12,7 +12,7 @@ ghost use Rattle.line_text.specs.Lines.{Text};
 ghost use Rattle.command_answers.specs.Left.{IsBeforeDisks};
 
 use crate::write_report;
-use cbdc_types::Answer;
+use cbdc_types::{Answer, FullTx, List};
 use file_runs::Ran;
 use input_files::{Inputs, inputs_in};
 use line_text::WriteFault;
@@ -20,9 +20,8 @@ use outside::{Gate, Inbox, Rack, Sink};
 use rack_runs::run_on;
 use requests::{FileWord, RunOptions};
 use std::alloc::Global;
-use std::mem;
 use std::sync::Wait;
-use std::thread::Threads;
+use std::thread::{Threads, join_mut};
 
 // What was read, and the result of running it.
 #[derive(Drop)]
@@ -78,13 +77,24 @@ where
     }
 }
 
-// Writes the result of a run. What was read and what came of it is not given back list by list: the system takes all memory of a program that ends.
-fn write_and_leave<O: Sink>(out: &mut O, done: FilesRan) -> Result<(), WriteFault>
-    ensures prints { Reports (O.taken out.old) (O.taken out.new) done.ran result }
+// Writes the result of a run, while another thread gives back the memory of its client files.
+fn write_beside<W: Threads, O: Sink>(
+    rt: &W,
+    out: &mut O,
+    ran: &Ran,
+    files: &mut Vec<List<FullTx>>,
+) -> Result<(), WriteFault>
+    ensures prints { Reports (O.taken out.old) (O.taken out.new) ran.now result }
     ensures cause { HasCause (O.count out.old) (O.count out.new) result }
 {
-    let written = write_report(out, &done.ran);
-    mem::forget(done);
+    let (_, written) = join_mut(
+        rt,
+        &mut || files.clear(),
+        &mut || -> Result<(), WriteFault>
+            ensures prints { Reports (O.taken out.entry.now) (O.taken out.exit.now) ran.entry.now result }
+            ensures cause { HasCause (O.count out.entry.now) (O.count out.exit.now) result }
+        { write_report(out, ran) },
+    );
     written
 }
 
@@ -133,11 +143,11 @@ where
         (rack.new ≡ rack.old) (inbox.new ≡ inbox.old) result }
     ensures back { (n : ℕ) → R.can_take rack.new n }
 {
-    let done = match run_all(rt, alloc, clients, verdicts, options, inbox, rack, gate) {
+    let mut done = match run_all(rt, alloc, clients, verdicts, options, inbox, rack, gate) {
         Ok(done) => done,
         Err(fault) => return fault,
     };
-    match write_and_leave(out, done) {
+    match write_beside(rt, out, &done.ran, &mut done.inputs.files) {
         Ok(()) => Answer::Ok,
         Err(_) => Answer::WriteFault,
     }
