@@ -226,7 +226,7 @@ module _ {D : Type 0} (device : Ghosts D) (reads : (d : D) (c : List ℕ) → de
   left_survives Recover answer asked (inr lane) = no_more (cut_short device reads before.disks.held after.disks.held K mint submissions E within shown kept [] (lane.kept K mint submissions E within shown kept).crashes)
   left_survives (Status hashes) answer asked back = returned back
   left_survives (Audit mint clients) answer asked back = returned back
-  left_survives (Gen shape seed size options) answer asked left = same (spared (inr (Gen shape seed size, asked, tt)))
+  left_survives (Gen shape seed size options) answer asked left = same (spared (inr (Gen shape seed size options, asked, tt)))
   left_survives (Show text) answer asked left = same (spared (inr (Show text, asked, tt)))
 
   by_left : (answer : Answer) → ((n : ℕ) → after.disks.held n ≡ before.disks.held n) ⊎ AskedLeaves device before after words answer → Survived
