@@ -3,7 +3,7 @@
 //! - `Mirror` keeps the trait `Disk` (the trait's clauses). What a crash may leave is what it may leave of any of its disks, so whatever holds of every
 //!   image of it holds of every image of each.
 //! - `MirrorRack` keeps the trait `Rack`: disks in memory that never fail, several for a node.
-//! - Tested in `node_rows` (`mirrors.rows`).
+//! - Tested in `ledger_rows` (`gen.rows`): `gen --replicas` runs over such a rack.
 #![tactic(auto)]
 
 mod mirror;
