@@ -1,0 +1,3 @@
+mod Greeting
+mod Small
+mod Stepping
