@@ -4,4 +4,5 @@ pub mod Memory
 pub mod Refused
 pub mod Cut
 pub mod OneText
+pub mod Looked
 pub mod Came
