@@ -52,11 +52,19 @@ impl<D: Disk> Ledger<D> {
             shards,
             watch: _,
         } = self;
+        if watch {
+            return Ledger {
+                header,
+                logs,
+                shards,
+                watch: Watch::Next,
+            };
+        }
         Ledger {
             header,
             logs,
             shards,
-            watch: if watch { Watch::Next } else { Watch::Off },
+            watch: Watch::Off,
         }
     }
 

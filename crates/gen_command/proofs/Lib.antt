@@ -5,4 +5,5 @@ pub mod Refused
 pub mod Cut
 pub mod OneText
 pub mod Looked
+mod Lending
 pub mod Came

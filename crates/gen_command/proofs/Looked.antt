@@ -3,7 +3,7 @@ use Rattle.std.proofs.Common.{◌≡◌, ◌⊎◌, inl, inr, ℕ, zero, suc, �
 use Rattle.std.specs.Prelude.{slice_index_or}
 use Rattle.std.specs.Global.{Vec}
 use Rattle.std.proofs.lemmas.Bool.{cases_lt}
-use Rattle.std.proofs.lemmas.List.{append-nil, length-map}
+use Rattle.std.proofs.lemmas.List.{append-nil, length-map, length-reverse}
 use Rattle.cbdc_types.specs.Limits.{IsWithinLimits}
 use Rattle.cbdc_types.specs.declared.answer.UnsoundKind.{UnsoundKind}
 use Rattle.cbdc_model.specs.Records.{Shape, Record, Row}
@@ -54,11 +54,11 @@ fronts_of K X lists looks = record {
     | inl inside ↦ subst (λ J. IsEnd (reverse J) (X k)) (sym (at_list lists k)) (looks.fronts k inside)
     | inr past ↦ subst (λ J. IsEnd (reverse J) (X k)) (sym (at_list lists k ∙ past_lists lists k (let m = looks.many in omega (arith, past, m)))) (none_ends (X k))
   ];
-  some = λ k inside. (let l = looks.some k inside in let same = ap (λ (J : List Record). length (reverse J)) (at_list lists k) in some_back (list_at lists k) (journal_in (lists_in lists) k) (at_list lists k) l);
+  some = λ k inside. some_back (list_at lists k) (journal_in (lists_in lists) k) (at_list lists k) (looks.some k inside);
 }
   where
     some_back : (J L : List Record) → L ≡ J → 0 < length J → 0 < length (reverse L)
-    some_back J L same lt = grind (arith, lt, same)
+    some_back J L same lt = (let n = length-reverse L in let m = ap (λ (l : List Record). length l) same in omega (arith, lt, n, m))
 
 pub lists_some : (K : Shape) (X : ℕ → List Record) (lists : List (Vec Record)) → AreLooks K X lists → (k : ℕ) → k < length lists → 0 < length (journal_in (lists_in lists) k)
 lists_some K X lists looks k inside = subst (λ (J : List Record). 0 < length J) (sym (at_list lists k)) (looks.some k (let m = looks.many in omega (arith, inside, m)))
