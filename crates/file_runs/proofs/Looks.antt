@@ -47,27 +47,29 @@ module _ {D : Type 0} (h : Header) (logs shards : List (NodeOf D)) (logs' : List
   Between : ℕ → List Record → Type 0
   Between n list = IsEnd (reverse list) (node_journals h.shape logs' shards' n) × (0 < length list)
 
-  at : (lists : List (Vec Record)) → HasSeen h.shape (sight_at sight logs) (sight_at sight shards) (sight_at sight logs') (sight_at sight shards') lists
+  node_at : (lists : List (Vec Record)) → HasSeen h.shape (sight_at sight logs) (sight_at sight shards) (sight_at sight logs') (sight_at sight shards') lists
       → (n : ℕ) → (n < h.shape.coordinators) ⊎ ((h.shape.coordinators ≤ n) × (n - h.shape.coordinators < h.shape.shards) × (h.shape.coordinators + (n - h.shape.coordinators) ≡ n))
       → Between n (list_at lists n)
-  at lists seen n (inl lt) =
+  node_at lists seen n (inl lt) =
       let b = seen.of_logs n lt in
-      let is = ap (λ c. if c then (sight_at sight logs' n).seen else (sight_at sight shards' (n - h.shape.coordinators)).seen) (low n h.shape.coordinators lt) in
-      (subst (λ J. IsEnd (reverse (list_at lists n)) J) (sym is) b.front,
-       some_between _ _ (list_at lists n) (some_in _ _ (journal_at logs ledger.log_journals n (omega (arith, lt, ledger.coordinators)))) b)
-  at lists seen n (inr (le, lt, back)) =
+      let is = ap (λ c. if c then (sight_at sight logs' n).seen else (sight_at sight shards' (n - h.shape.coordinators)).seen) (low n h.shape.coordinators lt) in (
+        subst (λ J. IsEnd (reverse (list_at lists n)) J) (sym is) b.front,
+        some_between _ _ (list_at lists n) (some_in _ _ (journal_at logs ledger.log_journals n (omega (arith, lt, ledger.coordinators)))) b,
+      )
+  node_at lists seen n (inr (le, lt, back)) =
       let s = n - h.shape.coordinators in
       let b = subst (λ m. IsBetween (sight_at sight shards s).seen (sight_at sight shards' s).seen (list_at lists m)) back (seen.of_shards s lt) in
-      let is = ap (λ c. if c then (sight_at sight logs' n).seen else (sight_at sight shards' (n - h.shape.coordinators)).seen) (high n h.shape.coordinators le) in
-      (subst (λ J. IsEnd (reverse (list_at lists n)) J) (sym is) b.front,
-       some_between _ _ (list_at lists n) (some_in _ _ (journal_at shards ledger.shard_journals s (omega (arith, lt, ledger.shards_are)))) b)
+      let is = ap (λ c. if c then (sight_at sight logs' n).seen else (sight_at sight shards' (n - h.shape.coordinators)).seen) (high n h.shape.coordinators le) in (
+        subst (λ J. IsEnd (reverse (list_at lists n)) J) (sym is) b.front,
+        some_between _ _ (list_at lists n) (some_in _ _ (journal_at shards ledger.shard_journals s (omega (arith, lt, ledger.shards_are)))) b,
+      )
 
   looks : (lists : List (Vec Record)) → HasSeen h.shape (sight_at sight logs) (sight_at sight shards) (sight_at sight logs') (sight_at sight shards') lists
       → AreLooks h.shape (node_journals h.shape logs' shards') lists
   looks lists seen = record {
     many = seen.many;
-    fronts = λ n lt. (at lists seen n (where_at n h.shape.coordinators h.shape.shards lt)).0;
-    some = λ n lt. (at lists seen n (where_at n h.shape.coordinators h.shape.shards lt)).1;
+    fronts = λ n lt. (node_at lists seen n (where_at n h.shape.coordinators h.shape.shards lt)).0;
+    some = λ n lt. (node_at lists seen n (where_at n h.shape.coordinators h.shape.shards lt)).1;
   }
 
   pub if_looks : (w : Watch) → IfSaw w (HasSeen h.shape (sight_at sight logs) (sight_at sight shards) (sight_at sight logs') (sight_at sight shards'))

@@ -11,8 +11,8 @@ ghost use Rattle.file_runs.specs.Feeding.{CanWave, no_ledger};
 use crate::{Ledger, run_wave};
 use cbdc_types::{LaneId, Shape};
 use lane_driver::Source;
-use lane_waves::Watch;
 use lane_sources::{Ahead, Deals, Feeder, FileOf, LaneSource, feed, pipe, rule_ahead};
+use lane_waves::Watch;
 use ledger_runs::Work;
 use outside::{Disk, Gate};
 use sentinel::Verifier;
@@ -306,7 +306,9 @@ pub(crate) fn run_fed<
         has_run: _,
         of: _,
     } = held;
-    let Some(mut ledger) = ledger else { unreachable!() };
+    let Some(mut ledger) = ledger else {
+        unreachable!()
+    };
     let looks = ledger.take_looks();
     Waved {
         ledger,

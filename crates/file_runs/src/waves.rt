@@ -173,9 +173,7 @@ fn run_dealt<
         ledger,
         works,
         looks,
-    } = run_fed::<W, D, V, F, Brand, G>(
-        rt, alloc, file, ledger, works, feeders, gate,
-    );
+    } = run_fed::<W, D, V, F, Brand, G>(rt, alloc, file, ledger, works, feeders, gate);
     match first_fault(&works) {
         Some(fault) => FileRun {
             ledger,

@@ -9,7 +9,6 @@ use Rattle.cbdc_model.specs.Records.{Record}
 use Rattle.audit.specs.Rows.{read}
 use Rattle.gen_command.specs.Watched.{lists_in}
 
-
 -- one more
 pub list_more : (before now : List (Bor (List Record))) (j : Bor (List Record)) (lists : List (Vec Record)) (i : ℕ) (x : Vec Record) → i < length lists → x ≡ slice_index_or lists i x
     → now ≡ before ++ j ∷ [] → j.now ≡ x.items → read before ≡ map (λ l. l.items) (take i lists) → read now ≡ map (λ l. l.items) (take (i + 1) lists)

@@ -48,11 +48,11 @@ fn verdict_on<W: Threads + Sync>(
 fn seen_first<'a>(waves: &'a [Wave]) -> Option<&'a [Vec<Record>]>
     ensures { IfSome result (λ lists. IsSeenFirst waves.entry.now lists.now) }
 {
-    match waves.first() {
-        Some(Wave {
-            looks: Watch::Saw(lists),
-            ..
-        }) => Some(lists.as_slice()),
+    let Some(wave) = waves.first() else {
+        return None;
+    };
+    match &wave.looks {
+        Watch::Saw(lists) => Some(lists.as_slice()),
         _ => None,
     }
 }
