@@ -1,5 +1,5 @@
 -- What an auditor saw beside a wave are looks at the ledger's journals behind it.
-use Rattle.std.proofs.Common.{◌≡◌, ◌⊎◌, inl, inr, ℕ, ◌-◌, ◌<◌, ◌≤◌, true, false, nat_lt, if◌then◌else◌, List, [], ◌∷◌, ◌++◌, length, length-append, reverse, refl, sym, ap, ◌∙◌, subst, arith, common_steps}
+use Rattle.std.proofs.Common.{◌≡◌, ◌⊎◌, inl, inr, ℕ, ◌+◌, ◌-◌, ◌<◌, ◌≤◌, true, false, nat_lt, if◌then◌else◌, List, [], ◌∷◌, ◌++◌, length, length-append, reverse, refl, sym, ap, ◌∙◌, subst, arith}
 use Rattle.std.specs.Global.{Vec}
 use Rattle.std.proofs.lemmas.List.{length-reverse}
 use Rattle.cbdc_model.specs.Records.{Header, Shape, Record}
@@ -44,7 +44,7 @@ high : (a b : ℕ) → b ≤ a → nat_lt a b ≡ false
 high a b le = grind (arith, le)
 
 module _ {D : Type 0} (h : Header) (logs shards : List (NodeOf D)) (logs' : List (NodeOf D)) (shards' : List (NodeOf D)) (ledger : IsLedger h logs shards) where
-  Between : ℕ → List Record → Type 0
+  abbrev Between : ℕ → List Record → Type 0
   Between n list = IsEnd (reverse list) (node_journals h.shape logs' shards' n) × (0 < length list)
 
   node_at : (lists : List (Vec Record)) → HasSeen h.shape (sight_at sight logs) (sight_at sight shards) (sight_at sight logs') (sight_at sight shards') lists

@@ -44,7 +44,7 @@ impl<D: Disk> Ledger<D> {
 
     /// The ledger, with an auditor beside its next wave if there is to be one.
     pub fn watched(self, watch: bool) -> Ledger<D>
-        ensures { result ≡ self.entry }
+        ensures { result ≡ self }
     {
         let Ledger {
             header,
