@@ -178,17 +178,8 @@ fn run_workload<W: Wait + Threads + Sync, G: Gate + Sync>(
 /// end a run and those of an audit. The rack that the program was handed is not touched. Each shard writes to so many
 /// disks beside its own; the text is the same for every number of them.
 ///
-/// Where it comes through: the rack is as it was. The text is that of a run of the workload between kept journals and of a sound audit of them;
-/// where no hashes of the workload clash it is one text for every schedule, with all transactions confirmed.
-///
-/// In full (clause `did` of `process`): the rack holds what it held; there are journals that are kept, of the workload's mint and transactions, and
-/// in which the waves of its two files, every witness being good, follow the first records of that mint; what is printed is the six numbers that
-/// end a run between these journals (0 resumed; as many batches as the lanes cut the two files into; how many of the submissions are confirmed and
-/// how many rejected, by their outcomes there, which together are all; 0 refused; the hashes that are unspent), and the four totals with which an
-/// audit of their history finds them sound; the journals stood on disks in memory, one for a coordinator and as many more for a shard as the options say,
-/// and at the end what a crash leaves of each of them opens to its node's journal; and where no hashes of the workload clash this is one text, whatever the order in which the lanes come
-/// to the nodes: all n transactions are confirmed and none is rejected, two hashes for each coin of the mint, less one for each join, are unspent,
-/// as many coins are in the audit's book, of the value minted, and n are committed.
+/// Where it comes through: the rack is as it was. The text is that of a run of the workload between kept journals and of a sound audit of them; where
+/// no hashes of the workload clash it is one text for every schedule, with all transactions confirmed (clause `did` of `process`).
 pub fn generated<W: Wait + Threads + Sync, O: Sink, G: Gate + Sync>(
     rt: &W,
     alloc: Global,
