@@ -1,6 +1,5 @@
 // Writing a record down, and then taking it in.
-ghost use Rattle.std.specs.Prelude.{◌≡◌, ◌+◌, ◌≤◌, ◌∷◌, ℕ, List, None, Some, length, OnOk, OnErr, IfErr};
-ghost use Rattle.cbdc_model.specs.Records.{Record as AnyRecord};
+ghost use Rattle.std.specs.Prelude.{◌≡◌, ◌+◌, ◌≤◌, ℕ, None, Some, length, OnOk, OnErr, IfErr};
 ghost use Rattle.gate_journal.specs.Shown.{disk_of, gate_of, broken_of};
 ghost use Rattle.record_log.specs.Bodies.{body_of};
 ghost use Rattle.record_log.specs.Logs.{HasLogRoom};
@@ -14,9 +13,7 @@ use record_grammar::Core;
 use record_log::{LogFault, RecordLog};
 
 /// Writes a record, for which there is room, and then takes it in. Where the disk fails, the record is in flight.
-///
-/// Out of memory: never.
-pub fn write_next<C: Core, D: Disk>(
+pub(crate) fn write_next<C: Core, D: Disk>(
     log: &mut RecordLog<D>,
     core: &mut C,
     flight: &mut Option<Record>,
@@ -30,7 +27,6 @@ pub fn write_next<C: Core, D: Disk>(
         ≤ D.limit (disk_of log.old.journal) }
     ensures written { OnOk result (HasKept log.old log.new next × (flight.new ≡ flight.old)
         × C.takes core.old core.new next × (C.header core.new ≡ C.header core.old)) }
-    ensures stands { OnOk result ((J : List AnyRecord) → C.stands core.old J → C.stands core.new (next ∷ J)) }
     ensures failed { OnErr result (HasBroken log.old log.new
         × (flight.new ≡ Some next) × (core.new ≡ core.old)) }
     ensures fault { IfErr result (λ e. e ≡ NodeFault.DiskFault) }
