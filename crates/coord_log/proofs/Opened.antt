@@ -1,5 +1,5 @@
 -- A coordinator's disk that was opened.
-use Rattle.std.proofs.Common.{◌≡◌, ℕ, reverse, ap, sym, ◌∙◌, subst, arith}
+use Rattle.std.proofs.Common.{◌≡◌, reverse, ap, sym, ◌∙◌, subst, arith}
 use Rattle.outside.specs.declared.disk.Disk.{Ghosts}
 use Rattle.cbdc_model.specs.Records.{Header}
 use Rattle.cbdc_model.specs.After.{IsJournal}
@@ -9,7 +9,7 @@ use Rattle.record_log.specs.Logs.{HasLogRoom, IsUntouched}
 use Rattle.record_log.specs.declared.log.RecordLog.{RecordLog}
 use Rattle.record_grammar.specs.Kinds.{IsCoord}
 use Rattle.coord_core.specs.Lanes.{CoordOf, IsCoordWhole, kept_of, ahead_of}
-use Rattle.coord_core.specs.Stands.{IsRoomyFor}
+use Rattle.coord_core.specs.Stands.{CoordStands, IsRoomyFor}
 use Rattle.coord_core.proofs.Kept.{kept_is}
 use Rattle.node_journal.specs.Sound.{IsOpened, journal_of}
 use Rattle.node_journal.specs.declared.nodes.Node.{Node}
@@ -28,7 +28,7 @@ opened_sound {D} {G} n l is whole untouched records header memory =
       on = record {
         node = reserved IsCoord n l n.core is.node untouched records header;
         header = is.header ∙ sym header;
-        stands = rw records is.stands.stands;
+        stands = subst (λ x. CoordStands n.core (reverse x)) (sym records) is.stands.stands;
         free = omega (arith, ap (λ x. used_of (reverse x)) records, limit, is.room, kept);
       };
       ready = λ e. record {

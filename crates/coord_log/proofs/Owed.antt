@@ -1,5 +1,5 @@
 -- What is owed to a call, and that its record has its place.
-use Rattle.std.proofs.Common.{false, ◌≡◌, ℕ, suc, ◌+◌, ◌<◌, ◌≤◌, max, Bool, List, length, reverse, refl, ap, sym, ◌∙◌, subst, arith, inl, inr, Some, None, Option, Ok, Err}
+use Rattle.std.proofs.Common.{false, ◌≡◌, ℕ, suc, ◌+◌, ◌<◌, ◌≤◌, max, Bool, List, length, refl, ap, sym, ◌∙◌, subst, arith, inl, inr, None, Option, Ok, Err}
 use Rattle.std.proofs.lemmas.Bool.{le-ltb, lt-ltb}
 use Rattle.outside.specs.declared.disk.Disk.{Ghosts}
 use Rattle.gate_journal.specs.Shown.{broken_of}

@@ -24,7 +24,6 @@ use Rattle.coord_core.specs.Hashes.{AreHashed}
 use Rattle.coord_core.specs.Lanes.{CoordOf, IsCoordWhole, IsOwnLane, CoordAdmits, IsSameButRoom, HasNoLessRoom, no_lane, coord_lane, kept_of, ahead_of, next_core_batch}
 use Rattle.coord_core.specs.Stands.{CoordStands}
 use Rattle.coord_log.specs.Logs.{HasShortLists}
-use Rattle.node_journal.specs.Sound.{journal_of}
 use Rattle.node_journal.specs.declared.nodes.Node.{Node}
 use Rattle.coord_log.specs.Inside.{largest, StandsOn, IsCoordSound, IsDue, IsNoRoom}
 use Rattle.coord_core.proofs.Rooms.{rooms_grow}

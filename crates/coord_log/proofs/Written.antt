@@ -1,9 +1,9 @@
 -- What a write leaves of a coordinator's parts, and what the memory does that is taken before it.
-use Rattle.std.proofs.Common.{◌≡◌, ℕ, ◌+◌, ◌≤◌, List, ◌∷◌, length, reverse, ap, sym, ◌∙◌, subst, arith}
+use Rattle.std.proofs.Common.{◌≡◌, ℕ, ◌+◌, List, ◌∷◌, length, reverse, ap, sym, ◌∙◌, subst, arith}
 use Rattle.std.specs.Prelude.{sum_by}
 use Rattle.std.proofs.lemmas.List.Sums.{sum_by-cons}
 use Rattle.outside.specs.declared.disk.Disk.{Ghosts}
-use Rattle.gate_journal.specs.Shown.{disk_of, gate_of, broken_of}
+use Rattle.gate_journal.specs.Shown.{disk_of, broken_of}
 use Rattle.cbdc_model.specs.Records.{Header, Record}
 use Rattle.cbdc_model.specs.After.{After, Follows}
 use Rattle.cbdc_model.specs.Due.{used_of}
@@ -67,7 +67,7 @@ module _ {D : Type 0} {G : Ghosts D} where
         on = record {
           node = is;
           header = ap (λ c. c.header) same ∙ due.on.header ∙ sym failed.header;
-          stands = rw (same, failed.records) due.on.stands;
+          stands = subst (λ d. CoordStands d (journal_of new)) (sym same) (subst (λ x. CoordStands old.core x) (sym J) due.on.stands);
           free = omega (arith, ap used_of J, ap (λ c. kept_of c.lanes) same, due.on.free, failed.limit);
         };
         ready = λ e. none_some (G.count (disk_of new.log.journal)) (broken_of new.log.journal) failed.broken e;
@@ -79,6 +79,6 @@ module _ {D : Type 0} {G : Ghosts D} where
   stands_on n l c untouched records header same on = record {
     node = reserved IsCoord n l c on.node untouched records header;
     header = same.header ∙ on.header ∙ sym header;
-    stands = rw records (stands_same n.core c (journal_of n) same on.stands);
+    stands = subst (λ x. CoordStands c (reverse x)) (sym records) (stands_same n.core c (journal_of n) same on.stands);
     free = omega (arith, on.free, ap (λ x. used_of (reverse x)) records, same.kept, ap G.limit untouched.disk);
   }

@@ -1,8 +1,6 @@
 // The calls at a coordinator.
-ghost use Rattle.std.specs.Prelude.{◌≡◌, ◌≢◌, ◌⊎◌, ◌↔◌, IsTrue, IsSome, ◌+◌, ◌≤◌, ◌<◌, ◌^◌, ◌∷◌, [], List, ℕ, Option, None, Some, true, false, suc, max, length, reverse, vec_capacity, All, OnOk, OnErr, IfOk, IfErr, IfSome, IsErrOf};
-ghost use Rattle.outside.specs.Counts.{Rose};
-ghost use Rattle.gate_journal.specs.Shown.{disk_of, broken_of};
-ghost use Rattle.cbdc_model.specs.Records.{Record, Prepare, Commit, Discard, Done, is_in_lane, last_stamp, txs_of};
+ghost use Rattle.std.specs.Prelude.{◌≡◌, ◌⊎◌, ◌↔◌, IsTrue, IsSome, ◌+◌, ◌≤◌, ◌<◌, ◌^◌, ◌∷◌, None, Some, true, false, length, reverse, vec_capacity, All, OnOk, OnErr, IfOk, IfErr, IfSome};
+ghost use Rattle.cbdc_model.specs.Records.{Record, Prepare, Commit, Discard, Done, is_in_lane, txs_of};
 ghost use Rattle.cbdc_model.specs.After.{After, IsJournal};
 ghost use Rattle.cbdc_model.specs.Slots.{slot, Idle, InPrepare, InCommit, InDiscard};
 ghost use Rattle.cbdc_model.specs.Due.{open_batch, prepare_due, decide_due, discard_due, done_due};
@@ -61,6 +59,8 @@ impl<D: Disk> CoordLog<D> {
     /// The header of its journal. Takes no memory.
     pub fn header(&self) -> &Header
         ensures header { result.now ≡ self.now.header }
+
+        // Its count of faults, what is in flight and the room of its journal are sound.
         ensures sound { IsSoundNode D.Disk self.now }
     {
         let _core = self.node.core.header();
@@ -141,7 +141,12 @@ impl<D: Disk> CoordLog<D> {
         if stamp.0 > LAST_PREPARE {
             return Err(NodeFault::ClockEnd { stamp });
         }
-        match make_room(&mut self.node.log, &self.node.core, size_of_record(&next), txs.len()) {
+        match make_room(
+            &mut self.node.log,
+            &self.node.core,
+            size_of_record(&next),
+            txs.len(),
+        ) {
             Ok(()) => {}
             Err(fault) => return Err(fault),
         }

@@ -1,5 +1,5 @@
 // Writing a record, and the room for it.
-ghost use Rattle.std.specs.Prelude.{◌≡◌, ◌+◌, ◌*◌, ◌≤◌, ◌<◌, ◌^◌, false, length, OnOk, OnErr, IfErr};
+ghost use Rattle.std.specs.Prelude.{◌≡◌, ◌+◌, ◌*◌, ◌≤◌, ◌<◌, ◌^◌, false, OnOk, IfErr};
 ghost use Rattle.gate_journal.specs.Shown.{disk_of, gate_of};
 ghost use Rattle.cbdc_model.specs.Room.{room_behind_prepare};
 ghost use Rattle.coord_core.specs.Lanes.{IsCoordWhole, kept_of, ahead_of};

@@ -1,5 +1,5 @@
 -- A node stays one behind a record that was written, where the disk failed at one, and where memory was taken.
-use Rattle.std.proofs.Common.{◌≡◌, ℕ, ◌+◌, ◌≤◌, List, ◌∷◌, reverse, length, Option, Some, None, refl, sym, ◌∙◌, ap, subst, arith}
+use Rattle.std.proofs.Common.{◌≡◌, ℕ, ◌+◌, ◌≤◌, List, [], ◌∷◌, ◌++◌, reverse, length, Option, Some, None, refl, sym, ◌∙◌, ap, subst, arith}
 use Rattle.std.specs.Prelude.{IfSome}
 use Rattle.std.proofs.lemmas.List.Sums.{sum_by-cons}
 use Rattle.cbdc_types.specs.Limits.{IsWithinLimits}
@@ -12,7 +12,7 @@ use Rattle.outside.specs.declared.disk.Disk.{Ghosts}
 use Rattle.gate_journal.specs.Shown.{disk_of, gate_of, broken_of}
 use Rattle.record_log.specs.Bodies.{body_of}
 use Rattle.record_log.proofs.LogSizes.{size_is}
-use Rattle.record_log.specs.Logs.{IsUntouched}
+use Rattle.record_log.specs.Logs.{HasLogRoom, KeepsRoom, IsUntouched}
 use Rattle.record_log.specs.declared.log.RecordLog.{RecordLog}
 use Rattle.node_journal.specs.Writing.{HasKept, HasBroken}
 use Rattle.node_journal.specs.Sound.{IsNode, IsSoundNode, journal_of, view_of}
@@ -28,6 +28,20 @@ need_least : (K : Shape) (J : List Record) (r : Record) → size_of r ≤ need_o
 need_least K J (Lock stamp b es) = omega arith
 need_least K J (Prepare stamp b txs) = omega arith
 need_least K J other = omega arith
+
+-- a record that was written, and then kept
+pub has_kept : {D : Type 0} {G : Ghosts D} (old mid new : RecordLog D G) (r : Record) → mid.records.items ≡ old.records.items → mid.header ≡ old.header
+    → (gate_of mid.journal ≡ gate_of old.journal + 9 + length (body_of r)) × (broken_of mid.journal ≡ None) → G.limit (disk_of mid.journal) ≡ G.limit (disk_of old.journal) → G.count (disk_of old.journal) ≤ G.count (disk_of mid.journal) → KeepsRoom old mid
+    → new.journal ≡ mid.journal → new.records.items ≡ mid.records.items ++ r ∷ [] → new.header ≡ mid.header → ((count bytes : ℕ) → HasLogRoom mid (count + 1) bytes → HasLogRoom new count bytes) → HasKept old new r
+has_kept {D} {G} old mid new r records header grows limit later keeps journal kept same room = record {
+  records = kept ∙ ap (λ (l : List Record). l ++ r ∷ []) records;
+  header = same ∙ header;
+  gate = ap gate_of journal ∙ grows.0;
+  broken = ap broken_of journal ∙ grows.1;
+  limit = rw journal limit;
+  later = rw journal later;
+  room = λ count bytes has. room count bytes (keeps (count + 1) bytes has);
+}
 
 module _ {C D : Type 0} {G : Ghosts D} (Is : Header → Type 0) where
   -- its bytes on the disk

@@ -8,7 +8,6 @@
 mod nodes;
 mod opening;
 mod replaying;
-mod writing;
 
 pub use nodes::{Node, write};
 pub use opening::open_node;

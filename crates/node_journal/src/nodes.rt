@@ -10,11 +10,10 @@ ghost use Rattle.node_journal.specs.Answered.{HasAnswered, one_write};
 ghost use Rattle.node_journal.specs.Sound.{IsNode, journal_of, view_of};
 ghost use Rattle.node_journal.specs.Writing.{HasKept, HasBroken};
 
-use crate::writing::write_next;
 use cbdc_types::{NodeFault, Record};
 use outside::Disk;
 use record_grammar::Core;
-use record_log::RecordLog;
+use record_log::{LogFault, RecordLog};
 
 /// A log, the core that stands for its records, how often the disk had failed when it was opened, and a record that a
 /// failed call may have left on the disk.
@@ -45,5 +44,16 @@ pub fn write<C: Core, D: Disk>(node: &mut Node<C, D>, next: Record) -> Result<()
         × C.takes node.old.core node.new.core next × (C.header node.new.core ≡ C.header node.old.core)) }
     ensures failed { OnErr result (HasBroken node.old.log node.new.log × (node.new.core ≡ node.old.core)) }
 {
-    write_next(&mut node.log, &mut node.core, &mut node.flight, next)
+    match node.log.write(&next) {
+        Ok(()) => {
+            node.core.apply(&next);
+            node.log.keep(next);
+            Ok(())
+        }
+        Err(LogFault::DiskFault) => {
+            node.flight = Some(next);
+            Err(NodeFault::DiskFault)
+        }
+        Err(_) => unreachable!(),
+    }
 }

@@ -72,10 +72,7 @@ fn no_log_fault<C: Core>(alloc: Global, refused: NoLog) -> NodeOpenFault
 /// Opens a node's disk into its log and its core. A refusal hands the disk back.
 ///
 /// Out of memory: the disk comes back as it was read.
-pub fn open_node<C: Core, D: Disk>(
-    alloc: Global,
-    disk: D,
-) -> Result<Node<C, D>, (D, NodeOpenFault)>
+pub fn open_node<C: Core, D: Disk>(alloc: Global, disk: D) -> Result<Node<C, D>, (D, NodeOpenFault)>
     ensures opened { IfOk result (IsOpened C.header C.stands C.kind) }
 
     // The content opens to just this journal, and a crash leaves nothing else.

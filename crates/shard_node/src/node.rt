@@ -112,6 +112,8 @@ impl<D: Disk> ShardNode<D> {
     /// The header of its journal. Takes no memory.
     pub fn header(&self) -> &Header
         ensures header { result.now ≡ self.now.header }
+
+        // Its count of faults, what is in flight and the room of its journal are sound.
         ensures sound { IsSoundNode D.Disk self.now }
     {
         &self.parts.node.log.header

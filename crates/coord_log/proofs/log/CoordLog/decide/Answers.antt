@@ -152,11 +152,11 @@ returns-then-stamp-gt-LAST_STAMP-clause-own g c = kept_own c.args.lane c.args.se
 
 pub returns-in-Err-clause-own : goal.returns-in-Err-clause-own
 returns-in-Err-clause-own g c =
-    flown_own c.args.lane c.args.self.now.flight c.write_due.new.flight c.decide-next.result (was_failed g.D.Disk _ _ c.decide-next.result c.in-Err.fault c.in-Err.ensures.answered).1.flight
+    flown_own c.args.lane c.args.self.now.flight c.write_due.new.node.flight c.decide-next.result (was_failed g.D.Disk _ _ c.decide-next.result c.in-Err.fault c.in-Err.ensures.answered).1.flight
     (subst (λ r. is_in_lane c.args.lane r ≡ true) (sym c.decide-next.ensures.«record») (is_itself c.args.lane))
 
 pub returns-clause-own : goal.returns-clause-own
-returns-clause-own g c = kept_own c.args.lane c.args.self.now.flight c.write_due.new.flight ((was_written g.D.Disk _ _ c.decide-next.result tt c.in-Ok.ensures.answered).flight ∙ ap (λ x. x.flight) c.self.view_is)
+returns-clause-own g c = kept_own c.args.lane c.args.self.now.flight c.write_due.new.node.flight ((was_written g.D.Disk _ _ c.decide-next.result tt c.in-Ok.ensures.answered).flight ∙ ap (λ x. x.flight) c.self.view_is)
 
 pub tell-requires : goal.tell-requires
 tell-requires g c = grind (arith, common_steps)
