@@ -12,7 +12,7 @@ use crate::CoordLog;
 use crate::writing::LARGEST_COMMIT;
 use cbdc_types::NodeOpenFault;
 use coord_core::CoordCore;
-use node_journal::{Opened, open_node};
+use node_journal::{Node, open_node};
 use outside::Disk;
 use std::alloc::Global;
 
@@ -53,12 +53,27 @@ impl<D: Disk> CoordLog<D> {
             (λ l. Leaves D.tells_past D.moment D.images_since D.images disk l.disk (D.images disk))
             (λ e. Leaves D.tells_past D.moment D.images_since D.images disk e.0 (D.images disk)) }
     {
-        let opened: Result<Opened<CoordCore, D>, (D, NodeOpenFault)> = open_node(alloc, disk);
+        let opened: Result<Node<CoordCore, D>, (D, NodeOpenFault)> = open_node(alloc, disk);
         match opened {
-            Ok(Opened { log, core }) => {
+            Ok(
+                Node {
+                    log,
+                    core,
+                    opened,
+                    flight,
+                },
+            ) => {
                 let mut roomy = log;
                 match roomy.reserve(core.records_ahead(), LARGEST_COMMIT) {
-                    Ok(()) => Ok(CoordLog::of_parts(alloc, roomy, core)),
+                    Ok(()) => Ok(CoordLog::of_parts(
+                        alloc,
+                        Node {
+                            log: roomy,
+                            core,
+                            opened,
+                            flight,
+                        },
+                    )),
                     Err(_) => Err((roomy.into_disk(), NodeOpenFault::Memory)),
                 }
             }
