@@ -1,5 +1,5 @@
 -- Words ask for one thing.
-use Rattle.std.proofs.Common.{◌≡◌, ◌∙◌, ◌⊎◌, ◌+◌, ◌<◌, ◌^◌, ℕ, true, false, codes, List, [], ◌∷◌, map, Option, Some, None, Result, Ok, inl, inr, refl, sym, ap, subst, arith, true≢false}
+use Rattle.std.proofs.Common.{◌≡◌, ◌∙◌, ◌⊎◌, ◌+◌, ◌<◌, ◌^◌, ℕ, Bool, true, false, codes, List, [], ◌∷◌, map, Option, Some, None, Result, Ok, inl, inr, refl, sym, ap, subst, arith, true≢false}
 use Rattle.std.specs.Prelude.{is_some, slice_get}
 use Rattle.std.specs.Option.{option_map_or}
 use Rattle.std.specs.Str.{bytes_eq}
@@ -8,7 +8,7 @@ use Rattle.hex.specs.Hex.{decode_of}
 use Rattle.hex.specs.declared.error.FromHexError.{FromHexError}
 use Rattle.cbdc_types.specs.Limits.{ShapeOf}
 use Rattle.clap.specs.Words.{Text, Row, first_of}
-use Rattle.command_line.specs.Asked.{HasNumber, HasSeed, HasShape, HasUpTo, AreAuditWords, AreGenWords, AreInitWords, AreRunWords, AreStatusWords, NameCommand}
+use Rattle.command_line.specs.Asked.{HasNumber, HasSeed, HasShape, HasUpTo, HasWatch, flag_text, AreAuditWords, AreGenWords, AreInitWords, AreRunWords, AreStatusWords, NameCommand}
 use Rattle.command_line.specs.Places.{option_at, option_place, positional_places}
 use Rattle.command_line.specs.Words.{IsFirstWord, IsGivenBy, StandsThere}
 use Rattle.requests.specs.declared.FileWord.{FileWord}
@@ -23,6 +23,12 @@ rows_of words c rows others m n = same_rows c c rows others (one_met words c c r
 -- and words have one command
 apart : (words : List Text) (c d : Text) (rows others : List Row) → NameCommand words c rows → NameCommand words d others → bytes_eq c c ≡ true → bytes_eq d c ≡ false → ⊥
 apart words c d rows others m n itself other = other_command c d rows others (one_met words c d rows others m n) itself other
+
+one_flag : (b c : Bool) → flag_text b ≡ flag_text c → b ≡ c
+one_flag true true e = refl
+one_flag true false e = absurd (true≢false (sym (ap (λ t. bytes_eq t (codes "false")) e)))
+one_flag false true e = absurd (true≢false (ap (λ t. bytes_eq t (codes "false")) e))
+one_flag false false e = refl
 
 module _ (rows : List Row) where
   first_once : (option s t : Text) → first_of option rows ≡ Some s → first_of option rows ≡ Some t → s ≡ t
@@ -48,6 +54,9 @@ module _ (rows : List Row) where
       let a = one.2 in
       let b = other.2 in
       decimal_injective n m (omega (arith, a.bound, small)) (omega (arith, b.bound, small)) (sym a.spelled ∙ text ∙ b.spelled)
+
+  one_watch : (b c : Bool) → HasWatch rows b → HasWatch rows c → b ≡ c
+  one_watch b c one other = one_flag b c (one_text (flag_text b) (flag_text c) (sym one ∙ other))
 
   one_shape : (shape kind : ShapeOf) → HasShape rows shape → HasShape rows kind → shape ≡ kind
   one_shape shape kind one other =
@@ -165,11 +174,12 @@ one_request_law words (Gen shape seed count options) (Audit file files) asked al
 one_request_law words (Gen shape seed count options) (Gen kind number size others) asked also =
     let same : asked.0 ≡ also.0 = rows_of words (codes "gen") asked.0 also.0 asked.1.0 also.1.0 in
     let own : AreGenWords words also.0 shape seed count options = subst (λ (r : List Row). AreGenWords words r shape seed count options) same asked.1 in
-    let replicas : options.replicas ≡ others.replicas = one_up_to also.0 (codes "replicas") 3 options.replicas others.replicas (omega arith) own.4 also.1.4 in (
+    let replicas : options.replicas ≡ others.replicas = one_up_to also.0 (codes "replicas") 3 options.replicas others.replicas (omega arith) own.4 also.1.4 in
+    let watch : options.watch ≡ others.watch = one_watch also.0 options.watch others.watch own.5 also.1.5 in (
       one_shape also.0 shape kind own.1 also.1.1,
       one_seed also.0 seed number own.2 also.1.2,
       one_number also.0 (codes "count") 10000 count size (omega arith) own.3 also.1.3,
-      λ i. record { replicas = replicas i },
+      λ i. record { replicas = replicas i; watch = watch i },
     )
 one_request_law words (Gen shape seed count options) (Show other) asked also = absurd (no_wish words (codes "gen") asked.0 asked.1.0 refl also)
 one_request_law words (Show text) (Init kind file) asked also = absurd (no_wish words (codes "init") also.0 also.1.0 refl asked)

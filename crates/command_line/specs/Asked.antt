@@ -109,6 +109,15 @@ HasReplicas rows n = HasUpTo rows (codes "replicas") 3 n
 abbrev pub HasNoReplicas : List Row → Type 0
 HasNoReplicas rows = HasNoUpTo rows (codes "replicas") 3
 
+-- the text that clap has for an option without a value, where it stands among the words and where it does not
+abbrev pub flag_text : Bool → Text
+flag_text true = codes "true"
+flag_text false = codes "false"
+
+-- whether --watch stands among the words
+abbrev pub HasWatch : List Row → Bool → Type 0
+HasWatch rows watch = first_of (codes "watch") rows ≡ Some (flag_text watch)
+
 -- the text of the workload's seed is this number, which 64 bits hold
 abbrev pub HasSeed : List Row → ℕ → Type 0
 HasSeed rows seed = (text : Text) × (first_of (codes "seed") rows ≡ Some text) × IsWholeNumber text seed
@@ -166,6 +175,7 @@ abbrev pub AreGenWords : List Text → List Row → ShapeOf → ℕ → ℕ → 
 AreGenWords words rows shape seed count options =
     NameCommand words (codes "gen") rows × HasShape rows shape × HasSeed rows seed × HasNumber rows (codes "count") 10000 count
     × HasReplicas rows options.replicas
+    × HasWatch rows options.watch
 
 -- the words ask for this request
 abbrev pub WordsAskFor : List Text → Request → Type 0

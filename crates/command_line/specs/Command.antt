@@ -2,6 +2,7 @@
 use Rattle.std.specs.Prelude.{◌≡◌, Bool, true, false, List, [], ◌∷◌, ◌++◌, Some, codes}
 use Rattle.clap.specs.Lexer.{usize_max}
 use Rattle.clap.specs.Words.{App, Rule, Shape, Text, new_app, new_rule, with_rule, with_subcommand, app_of, shape_of, rule_of}
+use Rattle.clap.specs.declared.builder.action.ArgAction.TheVariants.{SetTrue}
 use Rattle.clap.specs.declared.builder.arg.Arg.{Arg}
 use Rattle.clap.specs.declared.builder.command.Command.{Command}
 use Rattle.clap.specs.declared.builder.command.Command.TheViews.{out-Command}
@@ -20,6 +21,10 @@ one_or_more id = record (required id) { range = Some (record { start_inclusive =
 -- an option with a value, and its value where it is left out
 abbrev pub option : Text → Text → Rule
 option id default = record (new_rule id) { long = Some id; value_names = 1; defaults = default ∷ [] }
+
+-- an option without a value
+abbrev pub flag : Text → Rule
+flag id = record (new_rule id) { long = Some id; action = Some SetTrue }
 
 -- the rule by which clap reads --shards, with its value where it is left out
 abbrev pub shards_rule : Text → Rule
@@ -65,6 +70,10 @@ hash_rule = one_or_more (codes "hash")
 abbrev pub replicas_rule : Rule
 replicas_rule = option (codes "replicas") (codes "0")
 
+-- the rule by which clap reads --watch, which has no value
+abbrev pub watch_rule : Rule
+watch_rule = flag (codes "watch")
+
 -- the rule by which clap reads the seed of `gen`, a word that has to be there
 abbrev pub seed_rule : Rule
 seed_rule = required (codes "seed")
@@ -101,7 +110,7 @@ sized_gen_shape = sized_shape (nodes_shape (codes "gen") (codes "4") (codes "2")
 
 -- the command `gen` with its options, and nothing behind them yet
 abbrev pub optional_gen_shape : Shape
-optional_gen_shape = with_arg sized_gen_shape replicas_rule
+optional_gen_shape = with_arg (with_arg sized_gen_shape replicas_rule) watch_rule
 
 -- the command `gen`: its options, the seed, and how many transactions
 abbrev pub gen_shape : Shape

@@ -2,10 +2,10 @@
 
 ghost use Rattle.std.specs.Prelude.{◌≡◌, codes, IfOk};
 ghost use Rattle.clap.specs.Words.{App, Rule, Shape, app_of, new_app, with_subcommand};
-ghost use Rattle.command_line.specs.Command.{required, one_or_more, option, with_arg, IsArg, IsLeaf, IsTop, with_settings, shards_rule, coordinators_rule, lanes_rule, batch_rule, mint_rule, verdicts_rule, repeats_rule, client_rule, audit_client_rule, hash_rule, topic_rule, replicas_rule, seed_rule, count_rule, nodes_shape, sized_shape, init_shape, run_shape, recover_shape, status_shape, audit_shape, sized_gen_shape, optional_gen_shape, gen_shape, help_shape, with_run, with_status, with_gen, hamilton};
+ghost use Rattle.command_line.specs.Command.{required, one_or_more, option, flag, with_arg, IsArg, IsLeaf, IsTop, with_settings, shards_rule, coordinators_rule, lanes_rule, batch_rule, mint_rule, verdicts_rule, repeats_rule, client_rule, audit_client_rule, hash_rule, topic_rule, replicas_rule, watch_rule, seed_rule, count_rule, nodes_shape, sized_shape, init_shape, run_shape, recover_shape, status_shape, audit_shape, sized_gen_shape, optional_gen_shape, gen_shape, help_shape, with_run, with_status, with_gen, hamilton};
 
 use crate::help;
-use clap::{Arg, Command};
+use clap::{Arg, ArgAction, Command};
 use std::alloc::{AllocError, Global};
 
 // An option with a value, and its value where it is left out.
@@ -22,6 +22,16 @@ fn option_arg<'a>(
         .long(name)
         .value_name(value)
         .default_value(default)
+        .help(help)
+}
+
+// An option without a value.
+fn flag_arg<'a>(alloc: Global, name: &'a str, help: &'a str) -> Arg<'a>
+    ensures { IsArg result (flag name.now) }
+{
+    Arg::new(alloc, name)
+        .long(name)
+        .action(ArgAction::SetTrue)
         .help(help)
 }
 
@@ -117,6 +127,12 @@ fn replicas_arg<'a>(alloc: Global) -> Arg<'a>
     ensures { IsArg result replicas_rule }
 {
     option_arg(alloc, "replicas", "N", "0", help::replicas())
+}
+
+fn watch_arg<'a>(alloc: Global) -> Arg<'a>
+    ensures { IsArg result watch_rule }
+{
+    flag_arg(alloc, "watch", help::watch())
 }
 
 fn seed_arg<'a>(alloc: Global) -> Arg<'a>
@@ -248,7 +264,8 @@ fn gen_with_options<'a>(alloc: Global) -> Result<Command<'a>, AllocError>
     ensures { IfOk result (λ c. IsLeaf c optional_gen_shape) }
 {
     let sized = gen_with_sizes(alloc);
-    and_arg(sized, replicas_arg(alloc))
+    let replicated = and_arg(sized, replicas_arg(alloc));
+    and_arg(replicated, watch_arg(alloc))
 }
 
 fn gen_command<'a>(alloc: Global) -> Result<Command<'a>, AllocError>

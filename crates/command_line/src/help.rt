@@ -161,6 +161,11 @@ pub(crate) fn replicas<'a>() -> &'a str {
 }
 
 // What stands beside this argument in a help text.
+pub(crate) fn watch<'a>() -> &'a str {
+    "Audits the journals once more while the lanes run"
+}
+
+// What stands beside this argument in a help text.
 pub(crate) fn seed<'a>() -> &'a str {
     "The number that the workload is made from, 0 to 18446744073709551615"
 }

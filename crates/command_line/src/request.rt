@@ -2,7 +2,7 @@
 ghost use Rattle.std.specs.Prelude.{◌≡◌, ◌≤◌, [], codes, drop, length, map, IsTrue, IfSome, IfOk, IfErr, IsErrOf, IsOk, Some, None, Ok};
 ghost use Rattle.hex.specs.Hex.{decode_of};
 ghost use Rattle.clap.specs.Words.{all_of, fault_of, first_of, found_of, kind_of, rows_of, subcommand_of, subcommand_rows_of};
-ghost use Rattle.command_line.specs.Asked.{WordsAskFor, AreWordsRefused, IsShow, HasMistake, HasWish, HasNumber, HasNoNumber, HasShape, HasNoShape, HasNoHashes, HasUpTo, HasNoUpTo, HasRepeats, HasNoRepeats, HasReplicas, HasNoReplicas, HasSeed, HasNoSeed, HasNoWorkload, NameCommand, is_mistake, is_wish, help_words, names_or_none};
+ghost use Rattle.command_line.specs.Asked.{WordsAskFor, AreWordsRefused, IsShow, HasMistake, HasWish, HasNumber, HasNoNumber, HasShape, HasNoShape, HasNoHashes, HasUpTo, HasNoUpTo, HasRepeats, HasNoRepeats, HasReplicas, HasNoReplicas, HasWatch, HasSeed, HasNoSeed, HasNoWorkload, NameCommand, is_mistake, is_wish, help_words, names_or_none};
 ghost use Rattle.command_line.specs.Command.{hamilton};
 ghost use Rattle.command_line.specs.Places.{positional_places};
 ghost use Rattle.command_line.specs.Words.{AreFiles, IsFirstWord, IsGivenBy, StandsThere, texts};
@@ -385,13 +385,32 @@ fn seed_of<'a>(inner: &ArgMatches<'a>) -> Result<u64, WordsFault>
     }
 }
 
+// Whether an auditor looks at the nodes while the lanes run.
+#[tactic(auto, using(crate::proofs::Rows::rows))]
+fn watch_of<'a>(inner: &ArgMatches<'a>) -> Option<bool>
+    ensures { IfSome result (λ watch. HasWatch (rows_of (found_of inner.now)) watch) }
+{
+    let Some(text) = inner.get_str("watch") else {
+        return None;
+    };
+    if text == "true" {
+        return Some(true);
+    }
+    if text == "false" {
+        return Some(false);
+    }
+    None
+}
+
 // How the workload is run.
 fn gen_options_of<'a>(inner: &ArgMatches<'a>) -> Result<GenOptions, WordsFault>
     ensures replicas { IfOk result (λ o. HasReplicas (rows_of (found_of inner.now)) o.replicas) }
+    ensures watch { IfOk result (λ o. HasWatch (rows_of (found_of inner.now)) o.watch) }
     ensures none { IsErrOf result WordsFault.Bad → HasNoReplicas (rows_of (found_of inner.now)) }
 {
     let replicas = number_up_to(inner, "replicas", 3)?;
-    Ok(GenOptions { replicas })
+    let watch = watch_of(inner).ok_or(WordsFault::Memory)?;
+    Ok(GenOptions { replicas, watch })
 }
 
 // What the matches of `gen` ask for, by its shape and its options.
@@ -405,6 +424,7 @@ fn workload_of<'a, 'b>(
     requires met { NameCommand (texts words.now) (codes "gen") (rows_of (found_of inner.now)) }
     requires shape { HasShape (rows_of (found_of inner.now)) shape }
     requires replicas { HasReplicas (rows_of (found_of inner.now)) options.replicas }
+    requires watch { HasWatch (rows_of (found_of inner.now)) options.watch }
     ensures asked { IfOk result (λ r. WordsAskFor (texts words.entry.now) r) }
     ensures refused { IfErr result (λ e. AreWordsRefused (texts words.entry.now) e) }
 {
@@ -501,7 +521,7 @@ fn asked_of<'a>(
 /// its place is that word's; Run's clients are all such words, in order, each at its place; its verdicts are the value of the first `--verdicts`,
 /// at the place of that option where a `=` joins them, else of the next word, and its repeats the number from 0 to 3 that its option spells in
 /// decimal, 0 where it is left out; Status has the hash of each word in order; Audit's mint is the first such word, and its clients are all others.
-/// Gen's replicas are the number from 0 to 3 that its option spells so, 0 where it is left out.
+/// Gen's replicas are the number from 0 to 3 that its option spells so, 0 where it is left out, and it is watched where that flag stands there.
 /// Each name is what clap took, too. Show only where help or the version is wished.
 ///
 /// Bad only where there is a mistake, an option of Init or of Gen, or the repeats of Run, are no number within their limit, or a word of Status is

@@ -145,22 +145,22 @@ module _ {D : Type 0} (device : Ghosts D) (before after : Scene D) where
       | inr without ↦ unaudited answer without
     ]
 
-  gen_none : (shape : Shape) (seed size : ℕ) (answer : Answer) → Clean (mint_of seed size) (all_submissions seed size) → WhyNoWorkload shape seed size answer → answer ≡ answers.Memory
-  gen_none shape seed size (answers.Unsound place kind) clean unsound = absurd (unsound.unclean clean)
-  gen_none shape seed size answers.Memory clean why = refl
-  gen_none shape seed size answers.Ok clean why = absurd why
-  gen_none shape seed size answers.BadWords clean why = absurd why
-  gen_none shape seed size (answers.BadInput file at kind) clean why = absurd why
-  gen_none shape seed size (answers.TooMuch total) clean why = absurd why
-  gen_none shape seed size (answers.NotReady n) clean why = absurd why
-  gen_none shape seed size (answers.Foreign n kept asked) clean why = absurd why
-  gen_none shape seed size (answers.NotEmpty n) clean why = absurd why
-  gen_none shape seed size (answers.Full n used need capacity) clean why = absurd why
-  gen_none shape seed size (answers.ClockEnd n stamp) clean why = absurd why
-  gen_none shape seed size (answers.Damaged n at) clean why = absurd why
-  gen_none shape seed size (answers.ReadFault file) clean why = absurd why
-  gen_none shape seed size answers.WriteFault clean why = absurd why
-  gen_none shape seed size (answers.DiskFault n) clean why = absurd why
+  gen_none : (shape : Shape) (seed size : ℕ) (watch : Bool) (answer : Answer) → Clean (mint_of seed size) (all_submissions seed size) → WhyNoWorkload shape seed size watch answer → answer ≡ answers.Memory
+  gen_none shape seed size watch (answers.Unsound place kind) clean unsound = absurd (unsound.unclean clean)
+  gen_none shape seed size watch answers.Memory clean why = refl
+  gen_none shape seed size watch answers.Ok clean why = absurd why
+  gen_none shape seed size watch answers.BadWords clean why = absurd why
+  gen_none shape seed size watch (answers.BadInput file at kind) clean why = absurd why
+  gen_none shape seed size watch (answers.TooMuch total) clean why = absurd why
+  gen_none shape seed size watch (answers.NotReady n) clean why = absurd why
+  gen_none shape seed size watch (answers.Foreign n kept asked) clean why = absurd why
+  gen_none shape seed size watch (answers.NotEmpty n) clean why = absurd why
+  gen_none shape seed size watch (answers.Full n used need capacity) clean why = absurd why
+  gen_none shape seed size watch (answers.ClockEnd n stamp) clean why = absurd why
+  gen_none shape seed size watch (answers.Damaged n at) clean why = absurd why
+  gen_none shape seed size watch (answers.ReadFault file) clean why = absurd why
+  gen_none shape seed size watch answers.WriteFault clean why = absurd why
+  gen_none shape seed size watch (answers.DiskFault n) clean why = absurd why
 
   abbrev Free : Request → Type 0
   Free r = IsUnhindered device before after r
@@ -175,7 +175,7 @@ module _ {D : Type 0} (device : Ghosts D) (before after : Scene D) where
   why_none Recover answer free why = recover_none answer free why
   why_none (Status hashes) answer free why = status_none answer free.1 why
   why_none (Audit mint clients) answer free why = audit_none mint clients.items free answer why
-  why_none (Gen shape seed size options) answer free why = gen_none shape seed size answer free why.1
+  why_none (Gen shape seed size options) answer free why = gen_none shape seed size options.watch answer free why.1
   why_none (Show text) answer free why = absurd why
 
   -- the same request is hindered no more

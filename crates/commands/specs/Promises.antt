@@ -40,7 +40,7 @@ promise_of device (Run verdicts clients options) = run_promise device verdicts c
 promise_of device Recover = recover_promise device
 promise_of device (Status hashes) = status_promise device hashes.items
 promise_of device (Audit mint clients) = audit_promise device mint clients.items
-promise_of device (Gen shape seed count options) = gen_promise device shape seed count options.replicas
+promise_of device (Gen shape seed count options) = gen_promise device shape seed count options
 promise_of device (Show text) = show_promise (string_bytes text)
 
 -- what is needed for what is asked

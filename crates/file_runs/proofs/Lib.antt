@@ -2,6 +2,7 @@ pub mod Steps
 pub mod Turns
 pub mod Ones
 pub mod Waved
+mod Looks
 pub mod Opens
 pub mod Filing
 pub mod Joining

@@ -7,14 +7,18 @@ use Rattle.cbdc_model.specs.Waves.{IsFileRun, sent_to}
 use Rattle.submissions.specs.Checks.{VerdictsOf, TellsSound, AreChecked}
 use Rattle.recovery.specs.declared.resumed.ResumedBatch.{ResumedBatch}
 use Rattle.ledger_runs.specs.Telling.{AllTellNew, TellResumed, SamePrepared}
+use Rattle.lane_waves.specs.Watchers.{IfSaw}
+use Rattle.file_runs.specs.Looking.{AreLooks}
 use Rattle.file_runs.specs.declared.waves.Wave.{Wave}
 
--- of a file that was run from journals I to J: what a sentinel said of each submission, and what was decided of those that its lanes got
+-- of a file that was run from journals I to J: what a sentinel said of each submission, what was decided of those that its lanes got, and what an
+-- auditor saw beside them
 pub record TellsFile (K : Shape) (verdicts : VerdictsOf) (file : List FullTx) (I J : ℕ → List Record) (w : Wave) : Type 0 where
   pub checked : AreChecked K verdicts file w.checked.items
   pub count : length w.lanes.items ≡ K.coordinators * K.lanes
   pub runs : (sound : FullTx → Bool) → TellsSound verdicts sound → IsFileRun K (sent_to K sound file) I J
   pub tell : AllTellNew K I J w.lanes.items
+  pub looked : IfSaw w.looks (AreLooks K J)
 
 -- of files that were run one after another
 abbrev pub TellFiles : Shape → VerdictsOf → List (List FullTx) → (ℕ → List Record) → (ℕ → List Record) → List Wave → Type 0

@@ -2,7 +2,9 @@
 ghost use Rattle.std.specs.Prelude.{◌≡◌, ◌<◌, ◌^◌, true, List, []};
 ghost use denote.Param.Send.{IsSync, IsSend};
 ghost use Rattle.ledger_runs.specs.Lanes.{LaneOf};
-ghost use Rattle.file_runs.specs.Ledgers.{LedgerOf};
+ghost use Rattle.file_runs.specs.Ledgers.{LedgerOf, ledger_journals};
+ghost use Rattle.file_runs.specs.Looking.{AreLooks};
+ghost use Rattle.lane_waves.specs.Watchers.{IfSaw};
 ghost use Rattle.file_runs.specs.Waving.{IsWave};
 ghost use Rattle.file_runs.specs.Feeding.{CanWave, no_ledger};
 
@@ -10,6 +12,7 @@ use crate::{Ledger, run_wave};
 use cbdc_types::{LaneId, Shape};
 use lane_driver::Source;
 use lane_sources::{Ahead, Deals, Feeder, FileOf, LaneSource, feed, pipe, rule_ahead};
+use lane_waves::Watch;
 use ledger_runs::Work;
 use outside::{Disk, Gate};
 use sentinel::Verifier;
@@ -257,10 +260,11 @@ fn run_beside<
     );
 }
 
-/// A ledger behind a wave, and its lanes.
+/// A ledger behind a wave, its lanes, and what an auditor saw beside them.
 pub(crate) struct Waved<'a, W: Wait, D: Disk, V: Verifier, F: Deals> {
     pub(crate) ledger: Ledger<D>,
     pub(crate) works: Vec<Work<LaneSource<'a, W, V, F>>>,
+    pub(crate) looks: Watch,
 }
 
 /// Runs the wave that `B` picks, with the feeders of its lanes beside it.
@@ -284,7 +288,8 @@ pub(crate) fn run_fed<
     requires before { ledger ≡ B.before }
     requires lanes { works.items ≡ B.lanes }
     requires can { CanWave B.before B.lanes }
-    ensures { IsWave D.Disk B.before result.ledger B.lanes result.works.items }
+    ensures wave { IsWave D.Disk B.before result.ledger B.lanes result.works.items }
+    ensures looks { IfSaw result.looks (AreLooks result.ledger.header.shape (ledger_journals result.ledger)) }
 {
     let shape = *ledger.shape();
     let mut held: Held<'a, W, D, V, F, B> = Held {
@@ -301,6 +306,13 @@ pub(crate) fn run_fed<
         has_run: _,
         of: _,
     } = held;
-    let Some(ledger) = ledger else { unreachable!() };
-    Waved { ledger, works }
+    let Some(mut ledger) = ledger else {
+        unreachable!()
+    };
+    let looks = ledger.take_looks();
+    Waved {
+        ledger,
+        works,
+        looks,
+    }
 }

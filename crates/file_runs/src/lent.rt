@@ -10,6 +10,7 @@ use crate::driving::{drive_resume, home};
 use crate::ledger::Ledger;
 use cbdc_types::{Header, LaneId, OpenLane, Shape};
 use lane_driver::{LaneFault, Ports};
+use lane_waves::Watch;
 use ledger_runs::Turns;
 use node_ports::{NodeLogs, NodeShards};
 use outside::{Disk, Gate};
@@ -43,6 +44,7 @@ pub fn lend<'r, W: Wait, D: Disk>(rt: &'r W, ledger: Ledger<D>) -> LentLedger<'r
         header,
         logs,
         shards,
+        watch: _,
     } = ledger;
     LentLedger {
         header,
@@ -71,6 +73,7 @@ impl<'r, W: Wait, D: Disk> LentLedger<'r, W, D> {
             header,
             logs,
             shards: nodes,
+            watch: Watch::Off,
         }
     }
 }

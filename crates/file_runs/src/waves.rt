@@ -15,6 +15,7 @@ use crate::fed::{Checkers, Waved, ahead_of, checkers_of, run_fed};
 use cbdc_types::{FullTx, Shape};
 use lane_driver::{LaneFault, no_memory};
 use lane_sources::{Deals, Feeder, FileOf, LaneSource, checks_of};
+use lane_waves::Watch;
 use ledger_runs::{Lane, Work, first_fault};
 use outside::{Disk, Gate};
 use requests::RunOptions;
@@ -25,11 +26,12 @@ use std::sync::Wait;
 use std::thread::Threads;
 use submissions::Checked;
 
-/// A client file that was run: each submission in order, and the lanes with what was decided.
+/// A client file that was run: each submission in order, the lanes with what was decided, and what an auditor saw beside them.
 #[derive(Drop)]
 pub struct Wave {
     pub checked: Vec<Checked>,
     pub lanes: Vec<Lane>,
+    pub looks: Watch,
 }
 
 /// A ledger behind a client file, and the result.
@@ -91,6 +93,7 @@ fn wave_of<'a, W: Wait, V: Verifier, F: Deals>(
     file: &FileOf<'a, V, F>,
     works: Vec<Work<LaneSource<'a, W, V, F>>>,
     room: WaveRoom<'a, W, V, F>,
+    looks: Watch,
 ) -> Wave
     requires many { length works.items ≡ count_of_lanes F.shape }
     requires sources { (room.sources.items ≡ []) × (count_of_lanes F.shape ≤ vec_capacity room.sources) }
@@ -98,6 +101,7 @@ fn wave_of<'a, W: Wait, V: Verifier, F: Deals>(
     requires checked { (room.checked.items ≡ []) × (length F.file ≤ vec_capacity room.checked) }
     ensures lanes { result.lanes.items ≡ map came_of works.entry.items }
     ensures checked { AreChecked F.shape F.verdicts F.file result.checked.items }
+    ensures looks { result.looks ≡ looks }
 {
     let WaveRoom {
         mut sources,
@@ -114,7 +118,11 @@ fn wave_of<'a, W: Wait, V: Verifier, F: Deals>(
         lanes.push_reserved(lane);
     }
     checks_of(file, sources.as_mut_slice(), &mut checked);
-    Wave { checked, lanes }
+    Wave {
+        checked,
+        lanes,
+        looks,
+    }
 }
 
 // The same of the file that `F` picks.
@@ -161,9 +169,11 @@ fn run_dealt<
             came: Err(no_memory()),
         };
     };
-    let Waved { ledger, works } = run_fed::<W, D, V, F, Brand, G>(
-        rt, alloc, file, ledger, works, feeders, gate,
-    );
+    let Waved {
+        ledger,
+        works,
+        looks,
+    } = run_fed::<W, D, V, F, Brand, G>(rt, alloc, file, ledger, works, feeders, gate);
     match first_fault(&works) {
         Some(fault) => FileRun {
             ledger,
@@ -171,7 +181,7 @@ fn run_dealt<
         },
         None => FileRun {
             ledger,
-            came: Ok(wave_of(file, works, room)),
+            came: Ok(wave_of(file, works, room, looks)),
         },
     }
 }

@@ -8,7 +8,7 @@ ghost use Rattle.file_runs.specs.Waving.{IsWave};
 use crate::driving::{see_logs, see_shards};
 use crate::ledger::Ledger;
 use lane_driver::Source;
-use lane_waves::{Nodes, Watch, wave};
+use lane_waves::{Nodes, wave};
 use ledger_runs::Work;
 use outside::{Disk, Gate};
 use std::alloc::Global;
@@ -54,6 +54,7 @@ pub fn run_wave<W: Threads + Wait + Sync, D: Disk + Send, X: Source + Send, G: G
         header,
         logs,
         shards,
+        mut watch,
     } = ledger;
     let Nodes { logs, shards } = wave(
         rt,
@@ -61,7 +62,7 @@ pub fn run_wave<W: Threads + Wait + Sync, D: Disk + Send, X: Source + Send, G: G
         &header.shape,
         Nodes { logs, shards },
         lanes,
-        &mut Watch::Off,
+        &mut watch,
         gate,
     );
     see_logs(logs.as_slice());
@@ -70,5 +71,6 @@ pub fn run_wave<W: Threads + Wait + Sync, D: Disk + Send, X: Source + Send, G: G
         header,
         logs,
         shards,
+        watch,
     }
 }

@@ -1,5 +1,5 @@
 -- What a workload's run and audit come to, over nodes in memory.
-use Rattle.std.proofs.Common.{◌≡◌, inl, inr, ◌<◌, ◌≤◌, ◌+◌, ◌*◌, ◌++◌, ℕ, List, [], length, reverse, Option, Some, None, IsSome, refl, sym, ap, ◌∙◌, subst, arith}
+use Rattle.std.proofs.Common.{◌≡◌, Bool, inl, inr, ◌<◌, ◌≤◌, ◌+◌, ◌*◌, ◌++◌, ℕ, List, [], length, reverse, Option, Some, None, IsSome, refl, sym, ap, ◌∙◌, subst, arith}
 use Rattle.std.proofs.lemmas.Bool.{cases_lt}
 use Rattle.std.proofs.lemmas.List.FromFn.{length-map-range_with_len}
 use Rattle.outside.specs.declared.disk.Disk.{Ghosts}
@@ -46,6 +46,9 @@ use Rattle.workload.specs.Generator.{mint_of, minted_of, joined_of, split_of, jo
 use Rattle.audit_command.specs.Audits.{IsUnsoundBy}
 use Rattle.command_answers.specs.Causes.{IsAnswerToRequest}
 use Rattle.run_lines.specs.Told.{IsCountable, numbers_of}
+use Rattle.audit.specs.declared.parts.PartVerdict.TheVariants.{Unsound as UnsoundPart}
+use Rattle.requests.specs.declared.GenOptions.{GenOptions}
+use Rattle.gen_command.specs.Watched.{cut_text, IsCutTold, WhyNoCut}
 use Rattle.gen_command.specs.Generated.{all_good, files_of, all_submissions, made_for, IsWorkloadRun, HasVerdictOf, EndsWorkload, batches_for, IsWorkloadText, StandsOnMirrors, IsUnsoundWorkload, WhyNoWorkload}
 use Rattle.submission_laws.specs.Files.{mint_journals}
 use Rattle.gen_command.specs.InMemory.{AreDisksReady, AreMirrorsEmpty, HaveRoomForFiles, TellsRunOf, IsWorkloadResult, IsCheckedSound, IsUnchecked, mirror_disks}
@@ -63,6 +66,7 @@ use Rattle.gen_command.proofs.Cut.{batches_are_cut}
 use Rattle.gen_command.proofs.Refused.{none_open, none_refused, all_decided}
 use Rattle.gen_command.proofs.Workloads.{few}
 use Rattle.gen_command.proofs.OneText.{one_text}
+use Rattle.gen_command.proofs.Looked.{has_cut, is_value, never_unsound_cut, value_told}
 
 -- a workload has so many transactions
 all_few : (seed n : ℕ) → n ≤ 10000 → all_txs (files_of seed n) ≤ 1000000
@@ -170,8 +174,8 @@ module _ (K : Shape) (mint : List Output) (few_coins : length mint ≤ 1000000) 
 -- ---- a workload's run and audit
 
 module _ (K : Shape) (seed n : ℕ) where
-  pub memory_why : (a : Answer) → a ≡ answers.Memory → WhyNoWorkload K seed n a
-  memory_why a memory = subst (WhyNoWorkload K seed n) (sym memory) tt
+  pub memory_why : (watch : Bool) (a : Answer) → a ≡ answers.Memory → WhyNoWorkload K seed n watch a
+  memory_why watch a memory = subst (WhyNoWorkload K seed n watch) (sym memory) tt
 
   module _ (small : n ≤ 10000) (limits : IsWithinLimits K) (rack : MirrorRack) (all : NoMirrorOut rack) (ran : Ran) (told : TellsRunOf K (mint_of seed n) (files_of seed n) rack ran) where
     is_run : IsWorkloadRun K seed n told.run.exit
@@ -206,75 +210,103 @@ module _ (K : Shape) (seed n : ℕ) where
       holds = λ node inside m at k d is. told.run.disks node inside m at d.bytes.items (k, d, is, refl);
     }
 
-    pub came_to : (replicas : ℕ) (began : MirrorRack) → AreMirrorsEmpty K replicas n began → (totals : Totals) → IsCheckedSound rack (mint_of seed n) (all_submissions seed n) totals → IsWorkloadResult K seed n replicas ran totals
-    came_to replicas began empty totals audited = record {
+    pub came_to : (options : GenOptions) (began : MirrorRack) → AreMirrorsEmpty K options.replicas n began → (totals : Totals) → IsCheckedSound rack (mint_of seed n) (all_submissions seed n) totals
+        → (cut : Option ℕ) → IsCutTold K (mint_of seed n) (all_submissions seed n) ran.waves.items options.watch cut → IsWorkloadResult K seed n options ran totals cut
+    came_to options began empty totals audited cut value = record {
       limits = limits;
       exit = told.run.exit;
       run = is_run;
-      mirrors = on_mirrors replicas began empty;
+      mirrors = on_mirrors options.replicas began empty;
       countable = is_countable K seed n limits small told.run.exit ran told.tells;
       ends = ends_run K seed n limits small told.run.exit ran told.tells told.run.grown.grows told.unspent;
       audited = has_verdict (Sound totals) audited;
+      watched = is_value K seed n limits told.run.exit told.run.grown.kept told.tells.middle ran.waves.items told.tells.told options.watch cut value;
     }
 
-    unsound_why : (place : ℕ) (kind : UnsoundKind) → IsAudited plain_mirror (mirror_at rack) (mint_of seed n) (all_submissions seed n) (Unsound place kind) → IsUnsoundWorkload K seed n place kind
-    unsound_why place kind audited =
+    unsound_why : (watch : Bool) (place : ℕ) (kind : UnsoundKind) → IsAudited plain_mirror (mirror_at rack) (mint_of seed n) (all_submissions seed n) (Unsound place kind) → IsUnsoundWorkload K seed n watch place kind
+    unsound_why watch place kind audited =
         let v = has_verdict (Unsound place kind) audited in
         record {
           exit = told.run.exit;
           run = is_run;
-          audited = v;
+          audited = inl v;
           unclean = λ clean.
               never_unsound K (mint_of seed n) (all_submissions seed n) told.run.exit limits (kept_journal K (mint_of seed n) limits (few seed n small) (all_submissions seed n) told.run.exit told.run.grown.kept) told.run.grown.kept v.rows v.journals_are v.ordered idle
               (idle_law K (mint_of seed n) (all_submissions seed n) told.run.exit (omega (arith, limits.some_shard)) (omega (arith, limits.some_lane)) clean told.run.grown.kept idle) place kind v.is;
         }
 
-    wrong_why : (a : Answer) → IsUnsoundBy (IsAudited plain_mirror (mirror_at rack) (mint_of seed n) (all_submissions seed n)) a → WhyNoWorkload K seed n a
-    wrong_why answers.Ok is = absurd is
-    wrong_why answers.BadWords is = absurd is
-    wrong_why (answers.BadInput file at what) is = absurd is
-    wrong_why (answers.TooMuch total) is = absurd is
-    wrong_why (answers.NotReady k) is = absurd is
-    wrong_why (answers.Foreign k kept asked) is = absurd is
-    wrong_why (answers.NotEmpty k) is = absurd is
-    wrong_why (answers.Full k used need capacity) is = absurd is
-    wrong_why (answers.Unsound place what) is = unsound_why place what is
-    wrong_why (answers.ClockEnd k stamp) is = absurd is
-    wrong_why (answers.Damaged k at) is = absurd is
-    wrong_why (answers.ReadFault file) is = absurd is
-    wrong_why answers.WriteFault is = absurd is
-    wrong_why (answers.DiskFault k) is = absurd is
-    wrong_why answers.Memory is = tt
+    wrong_why : (watch : Bool) (a : Answer) → IsUnsoundBy (IsAudited plain_mirror (mirror_at rack) (mint_of seed n) (all_submissions seed n)) a → WhyNoWorkload K seed n watch a
+    wrong_why watch answers.Ok is = absurd is
+    wrong_why watch answers.BadWords is = absurd is
+    wrong_why watch (answers.BadInput file at what) is = absurd is
+    wrong_why watch (answers.TooMuch total) is = absurd is
+    wrong_why watch (answers.NotReady k) is = absurd is
+    wrong_why watch (answers.Foreign k kept asked) is = absurd is
+    wrong_why watch (answers.NotEmpty k) is = absurd is
+    wrong_why watch (answers.Full k used need capacity) is = absurd is
+    wrong_why watch (answers.Unsound place what) is = unsound_why watch place what is
+    wrong_why watch (answers.ClockEnd k stamp) is = absurd is
+    wrong_why watch (answers.Damaged k at) is = absurd is
+    wrong_why watch (answers.ReadFault file) is = absurd is
+    wrong_why watch answers.WriteFault is = absurd is
+    wrong_why watch (answers.DiskFault k) is = absurd is
+    wrong_why watch answers.Memory is = tt
 
-    pub unchecked_why : (new : MirrorRack) (a : Answer) → IsUnchecked rack new (mint_of seed n) (all_submissions seed n) a → WhyNoWorkload K seed n a
-    unchecked_why new a (inl wrong) = wrong_why a wrong
-    unchecked_why new a (inr (inl unopened)) =
-        memory_why a (unopened_none plain_mirror (mirror_at rack) (faults_at rack.misses) (faults_at new.misses) K (mint_of seed n) (all_submissions seed n) told.run.exit
+    -- and what an audit of a cut found
+    pub uncut_why : (watch : Bool) (a : Answer) → WhyNoCut K (mint_of seed n) (all_submissions seed n) ran.waves.items watch a → WhyNoWorkload K seed n watch a
+    uncut_why watch answers.Ok why = absurd why
+    uncut_why watch answers.BadWords why = absurd why
+    uncut_why watch (answers.BadInput file at what) why = absurd why
+    uncut_why watch (answers.TooMuch total) why = absurd why
+    uncut_why watch (answers.NotReady k) why = absurd why
+    uncut_why watch (answers.Foreign k kept asked) why = absurd why
+    uncut_why watch (answers.NotEmpty k) why = absurd why
+    uncut_why watch (answers.Full k used need capacity) why = absurd why
+    uncut_why watch (answers.Unsound place what) (asked, lists, seen, cut) =
+        let h = has_cut K seed n limits told.run.exit told.run.grown.kept told.tells.middle ran.waves.items told.tells.told lists seen (UnsoundPart place what) cut in
+        record {
+          exit = told.run.exit;
+          run = is_run;
+          audited = inr (asked, h);
+          unclean = λ clean. never_unsound_cut K seed n limits told.run.exit told.run.grown.kept clean place what h;
+        }
+    uncut_why watch (answers.ClockEnd k stamp) why = absurd why
+    uncut_why watch (answers.Damaged k at) why = absurd why
+    uncut_why watch (answers.ReadFault file) why = absurd why
+    uncut_why watch answers.WriteFault why = absurd why
+    uncut_why watch (answers.DiskFault k) why = absurd why
+    uncut_why watch answers.Memory why = tt
+
+    pub unchecked_why : (watch : Bool) (new : MirrorRack) (a : Answer) → IsUnchecked rack new (mint_of seed n) (all_submissions seed n) a → WhyNoWorkload K seed n watch a
+    unchecked_why watch new a (inl wrong) = wrong_why watch a wrong
+    unchecked_why watch new a (inr (inl unopened)) =
+        memory_why watch a (unopened_none plain_mirror (mirror_at rack) (faults_at rack.misses) (faults_at new.misses) K (mint_of seed n) (all_submissions seed n) told.run.exit
         (record { limits = limits; shown = shows; kept = told.run.grown.kept }) (idle_rooms K (mint_of seed n) (all_submissions seed n) told.run.exit (λ k. limit_at plain_mirror (mirror_at rack k)) limits told.run.grown.kept idle fits)
         (none_rises K (mint_of seed n) (few seed n small) limits rack new) (Some (genesis_id (mint_of seed n))) a refl unopened)
-    unchecked_why new a (inr (inr memory)) = memory_why a memory
+    unchecked_why watch new a (inr (inr memory)) = memory_why watch a memory
 
   -- what was done is told
-  pub why_done : (written : Type 0) (a : Answer) → WhyNoWorkload K seed n a → IsAnswerToRequest (λ file. ⊥) (λ file. ⊥) written a
-  why_done written answers.Ok is = absurd is
-  why_done written answers.BadWords is = absurd is
-  why_done written (answers.BadInput file at what) is = absurd is
-  why_done written (answers.TooMuch total) is = tt
-  why_done written (answers.NotReady k) is = tt
-  why_done written (answers.Foreign k kept asked) is = tt
-  why_done written (answers.NotEmpty k) is = tt
-  why_done written (answers.Full k used need capacity) is = tt
-  why_done written (answers.Unsound place what) is = tt
-  why_done written (answers.ClockEnd k stamp) is = tt
-  why_done written (answers.Damaged k at) is = tt
-  why_done written (answers.ReadFault file) is = absurd is
-  why_done written answers.WriteFault is = absurd is
-  why_done written (answers.DiskFault k) is = tt
-  why_done written answers.Memory is = tt
+  pub why_done : (watch : Bool) (written : Type 0) (a : Answer) → WhyNoWorkload K seed n watch a → IsAnswerToRequest (λ file. ⊥) (λ file. ⊥) written a
+  why_done watch written answers.Ok is = absurd is
+  why_done watch written answers.BadWords is = absurd is
+  why_done watch written (answers.BadInput file at what) is = absurd is
+  why_done watch written (answers.TooMuch total) is = tt
+  why_done watch written (answers.NotReady k) is = tt
+  why_done watch written (answers.Foreign k kept asked) is = tt
+  why_done watch written (answers.NotEmpty k) is = tt
+  why_done watch written (answers.Full k used need capacity) is = tt
+  why_done watch written (answers.Unsound place what) is = tt
+  why_done watch written (answers.ClockEnd k stamp) is = tt
+  why_done watch written (answers.Damaged k at) is = tt
+  why_done watch written (answers.ReadFault file) is = absurd is
+  why_done watch written answers.WriteFault is = absurd is
+  why_done watch written (answers.DiskFault k) is = tt
+  why_done watch written answers.Memory is = tt
 
   -- the text of a workload
-  pub text_of : (replicas : ℕ) (ran : Ran) (totals : Totals) → IsWorkloadResult K seed n replicas ran totals → IsWorkloadText K seed n replicas (numbers_of ran ++ audit_text totals)
-  text_of replicas ran totals came = record {
+  pub text_of : (options : GenOptions) (ran : Ran) (totals : Totals) (cut : Option ℕ) → IsWorkloadResult K seed n options ran totals cut
+      → IsWorkloadText K seed n options ((numbers_of ran ++ audit_text totals) ++ cut_text cut)
+  text_of options ran totals cut came = record {
     exit = came.exit;
     run = came.run;
     mirrors = came.mirrors;
@@ -282,6 +314,11 @@ module _ (K : Shape) (seed n : ℕ) where
     ends = came.ends;
     totals = totals;
     audited = came.audited;
+    cut = cut;
+    watched = came.watched;
     text_is = refl;
-    clean = λ clean. (let one = one_text K seed n came.limits clean came.exit came.run.kept came.run.waves in one (numbers_of ran) came.ends totals came.audited);
+    clean = λ clean.
+        let one = one_text K seed n came.limits clean came.exit came.run.kept came.run.waves (numbers_of ran) came.ends totals came.audited in
+        let value = value_told K seed n came.limits came.exit came.run.kept clean options.watch cut came.watched in
+        λ i. one i ++ cut_text (value i);
   }

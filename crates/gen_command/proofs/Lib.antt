@@ -4,4 +4,6 @@ pub mod Memory
 pub mod Refused
 pub mod Cut
 pub mod OneText
+pub mod Looked
+mod Lending
 pub mod Came

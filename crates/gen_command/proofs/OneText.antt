@@ -23,7 +23,7 @@ use Rattle.workload.specs.Generator.{mint_of, splits_of, joins_of}
 use Rattle.submission_laws.specs.Whole.{left_of, totals_of, IsWorkloadWhole}
 use Rattle.submission_laws.proofs.Sound.{IsGood, two_sum, splits_sound, joins_sound}
 use Rattle.submission_laws.proofs.Whole.{whole_law}
-use Rattle.gen_command.specs.Generated.{all_good, files_of, all_submissions, made_for, HasVerdictOf, EndsWorkload, batches_for, clean_text}
+use Rattle.gen_command.specs.Generated.{all_good, files_of, all_submissions, made_for, HasVerdictOf, EndsWorkload, batches_for}
 use Rattle.run_lines.proofs.Numbers.{lanes_there}
 use Rattle.gen_command.proofs.Refused.{none_in}
 
@@ -60,7 +60,7 @@ module _ (K : Shape) (seed n : ℕ) (limits : IsWithinLimits K) (clean : Clean (
   whole : IsWorkloadWhole K seed n X
   whole = whole_law K seed n X limits.some_shard limits.some_lane (lanes_there K limits) clean kept waves
 
-  pub one_text : (summary : Text) → EndsWorkload K seed n X summary → (totals : Totals) → HasVerdictOf K (mint_of seed n) (all_submissions seed n) X (Sound totals) → summary ++ audit_text totals ≡ clean_text K seed n
+  pub one_text : (summary : Text) → EndsWorkload K seed n X summary → (totals : Totals) → HasVerdictOf K (mint_of seed n) (all_submissions seed n) X (Sound totals) → summary ++ audit_text totals ≡ summary_text 0 (batches_for K n) n 0 0 (left_of n) ++ audit_text (totals_of seed n)
   one_text summary ends totals audited =
       let none : count_in is_rejected ends.all ≡ 0 = rejected_none K seed n X whole.confirmed ends.all ends.are in
       let all : count_in is_confirmed ends.all ≡ n = (let d = ends.decided in omega (arith, d, none)) in

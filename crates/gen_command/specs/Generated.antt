@@ -1,6 +1,6 @@
 -- What `gen` comes to: a ledger of the workload's mint is made in nodes of its own, the workload's files are run over it, and it is audited.
 use Rattle.std.specs.List.{range_with_len}
-use Rattle.std.specs.Prelude.{◌≡◌, ◌+◌, ◌-◌, ◌*◌, ◌/◌, ◌++◌, ◌<◌, ℕ, zero, suc, length, List, reverse, Some, slice_get}
+use Rattle.std.specs.Prelude.{◌≡◌, ◌⊎◌, Bool, true, Option, ◌+◌, ◌-◌, ◌*◌, ◌/◌, ◌++◌, ◌<◌, ℕ, zero, suc, length, List, reverse, Some, slice_get}
 use Rattle.line_text.specs.Lines.{Text, summary_text}
 use Rattle.cbdc_types.specs.declared.answer.Answer.{Answer}
 use Rattle.cbdc_types.specs.declared.answer.Answer.TheVariants as answers
@@ -8,7 +8,7 @@ use Rattle.cbdc_types.specs.declared.answer.UnsoundKind.{UnsoundKind}
 use Rattle.cbdc_model.specs.Records.{Shape, Record, Row, journal}
 use Rattle.cbdc_model.specs.Ranges.{node_count}
 use Rattle.cbdc_model.specs.Coins.{Output, FullTx}
-use Rattle.cbdc_model.specs.Clean.{Clean}
+use Rattle.cbdc_model.specs.Clean.{Clean, value_out}
 use Rattle.cbdc_model.specs.History.{IsOrdered}
 use Rattle.cbdc_model.specs.World.{KeptJournals}
 use Rattle.cbdc_model.specs.Waves.{Waves, share}
@@ -22,6 +22,9 @@ use Rattle.cbdc_types.specs.declared.answer.Totals.{Totals}
 use Rattle.audit.specs.declared.verdict.Verdict.{Verdict}
 use Rattle.audit.specs.declared.verdict.Verdict.TheVariants.{Sound, Unsound}
 use Rattle.audit.specs.Verdicts.{IsVerdict}
+use Rattle.audit.specs.declared.parts.PartVerdict.TheVariants.{Unsound as UnsoundPart}
+use Rattle.requests.specs.declared.GenOptions.{GenOptions}
+use Rattle.gen_command.specs.Watched.{HasCut, IsCutValue, cut_text, told_if}
 use Rattle.printed_lines.specs.declared.report.Report.{Report}
 use Rattle.line_text.specs.Reports.{audit_text}
 use Rattle.printed_lines.specs.Runs.{AreAllReports, is_confirmed, is_rejected, count_in}
@@ -81,39 +84,44 @@ pub record EndsWorkload (K : Shape) (seed n : ℕ) (X : ℕ → List Record) (te
   pub text_is : text ≡ summary_text 0 (batches_for K n) (count_in is_confirmed all) (count_in is_rejected all) 0 unspent
 
 -- the text of a workload where no hashes of it clash, whatever the order of the lanes' turns: all n transactions are confirmed, so many hashes are left
--- unspent, and the audit's value is the value minted
-abbrev pub clean_text : Shape → ℕ → ℕ → Text
-clean_text K seed n = summary_text 0 (batches_for K n) n 0 0 (left_of n) ++ audit_text (totals_of seed n)
+-- unspent, and the audit's value is the value minted, and so is that of a cut
+abbrev pub clean_text : Shape → ℕ → ℕ → Bool → Text
+clean_text K seed n watch =
+    (summary_text 0 (batches_for K n) n 0 0 (left_of n) ++ audit_text (totals_of seed n)) ++ cut_text (told_if watch (value_out (mint_of seed n)))
 
--- there are journals of such a run, on such disks; the text is the numbers that end it (`EndsWorkload`), and behind them the four totals with which an audit finds
--- it sound; and where no hashes of the workload clash it is `clean_text`
-pub record IsWorkloadText (K : Shape) (seed n replicas : ℕ) (text : Text) : Type 0 where
+-- there are journals of such a run, on such disks; the text is the numbers that end it (`EndsWorkload`), behind them the totals with which an audit finds
+-- it sound, and where an auditor was to look beside the first file's lanes the value of the cut of what it saw (`HasCut`); and where no hashes of
+-- the workload clash it is `clean_text`
+pub record IsWorkloadText (K : Shape) (seed n : ℕ) (options : GenOptions) (text : Text) : Type 0 where
   pub exit : ℕ → List Record
   pub run : IsWorkloadRun K seed n exit
-  pub mirrors : StandsOnMirrors K replicas exit
+  pub mirrors : StandsOnMirrors K options.replicas exit
   pub summary : Text
   pub ends : EndsWorkload K seed n exit summary
   pub totals : Totals
   pub audited : HasVerdictOf K (mint_of seed n) (all_submissions seed n) exit (Sound totals)
-  pub text_is : text ≡ summary ++ audit_text totals
-  pub clean : Clean (mint_of seed n) (all_submissions seed n) → text ≡ clean_text K seed n
+  pub cut : Option ℕ
+  pub watched : IsCutValue K seed n exit options.watch cut
+  pub text_is : text ≡ (summary ++ audit_text totals) ++ cut_text cut
+  pub clean : Clean (mint_of seed n) (all_submissions seed n) → text ≡ clean_text K seed n options.watch
 
 -- the text of a workload was printed
-abbrev pub PrintsWorkload : (Text → Type 0) → Shape → ℕ → ℕ → ℕ → Type 0
-PrintsWorkload printed K seed n replicas = (text : Text) × IsWorkloadText K seed n replicas text × printed text
+abbrev pub PrintsWorkload : (Text → Type 0) → Shape → ℕ → ℕ → GenOptions → Type 0
+PrintsWorkload printed K seed n options = (text : Text) × IsWorkloadText K seed n options text × printed text
 
 -- ---- why a workload was not done
 
--- an audit found this behind a run, which it does only where two outputs of the workload share a hash, or two transactions an id
-pub record IsUnsoundWorkload (K : Shape) (seed n place : ℕ) (kind : UnsoundKind) : Type 0 where
+-- an audit found this behind a run, or of the cut of what an auditor saw beside its first file, which it does only where two outputs of the workload
+-- share a hash, or two transactions an id
+pub record IsUnsoundWorkload (K : Shape) (seed n : ℕ) (watch : Bool) (place : ℕ) (kind : UnsoundKind) : Type 0 where
   pub exit : ℕ → List Record
   pub run : IsWorkloadRun K seed n exit
-  pub audited : HasVerdictOf K (mint_of seed n) (all_submissions seed n) exit (Unsound place kind)
+  pub audited : HasVerdictOf K (mint_of seed n) (all_submissions seed n) exit (Unsound place kind) ⊎ ((watch ≡ true) × HasCut K seed n exit (UnsoundPart place kind))
   pub unclean : Clean (mint_of seed n) (all_submissions seed n) → ⊥
 
 -- why a workload was not done: its audit found something wrong, or memory ran out. No other answer comes: the workload fits, its nodes in memory have
 -- room and stamps for all that it writes, none of them is at fault or in use, and no record is without its cause
-abbrev pub WhyNoWorkload : Shape → ℕ → ℕ → Answer → Type 0
-WhyNoWorkload K seed n (answers.Unsound place kind) = IsUnsoundWorkload K seed n place kind
-WhyNoWorkload K seed n answers.Memory = Unit {0}
-WhyNoWorkload K seed n other = ⊥
+abbrev pub WhyNoWorkload : Shape → ℕ → ℕ → Bool → Answer → Type 0
+WhyNoWorkload K seed n watch (answers.Unsound place kind) = IsUnsoundWorkload K seed n watch place kind
+WhyNoWorkload K seed n watch answers.Memory = Unit {0}
+WhyNoWorkload K seed n watch other = ⊥

@@ -1,5 +1,5 @@
 -- The parts of `gen`'s work over nodes in memory.
-use Rattle.std.specs.Prelude.{◌≡◌, ◌⊎◌, ◌+◌, ◌*◌, ◌^◌, ◌<◌, ◌≤◌, ℕ, List, [], Some}
+use Rattle.std.specs.Prelude.{◌≡◌, ◌⊎◌, ◌+◌, ◌*◌, ◌^◌, ◌<◌, ◌≤◌, ℕ, List, [], Option, Some}
 use Rattle.cbdc_types.specs.Limits.{IsWithinLimits}
 use Rattle.cbdc_types.specs.declared.answer.Answer.{Answer}
 use Rattle.cbdc_model.specs.Records.{Shape, Record}
@@ -24,6 +24,8 @@ use Rattle.file_runs.specs.declared.ran.Ran.{Ran}
 use Rattle.workload.specs.Generator.{mint_of}
 use Rattle.audit_command.specs.Audits.{IsUnsoundBy, WhyUnopened}
 use Rattle.run_lines.specs.Told.{IsCountable, numbers_of}
+use Rattle.requests.specs.declared.GenOptions.{GenOptions}
+use Rattle.gen_command.specs.Watched.{IsCutValue}
 use Rattle.gen_command.specs.Generated.{all_good, all_submissions, IsWorkloadRun, HasVerdictOf, EndsWorkload, StandsOnMirrors}
 use Rattle.submission_laws.specs.Files.{mint_journals}
 
@@ -49,15 +51,16 @@ HaveRoomForFiles K mint files rack = Ample K (sound_by all_good) (λ n. limit_at
 abbrev pub TellsRunOf : Shape → List Output → List (List FullTx) → MirrorRack → Ran → Type 0
 TellsRunOf K mint files rack ran = IsRunTold plain_mirror (mirror_at rack) all_good files ran K mint [] (mint_journals K mint)
 
--- what a workload's run and audit tell is so
-pub record IsWorkloadResult (K : Shape) (seed n replicas : ℕ) (ran : Ran) (totals : Totals) : Type 0 where
+-- what a workload's run and audit tell is so, and the value of a cut
+pub record IsWorkloadResult (K : Shape) (seed n : ℕ) (options : GenOptions) (ran : Ran) (totals : Totals) (cut : Option ℕ) : Type 0 where
   pub limits : IsWithinLimits K
   pub exit : ℕ → List Record
   pub run : IsWorkloadRun K seed n exit
-  pub mirrors : StandsOnMirrors K replicas exit
+  pub mirrors : StandsOnMirrors K options.replicas exit
   pub countable : IsCountable ran
   pub ends : EndsWorkload K seed n exit (numbers_of ran)
   pub audited : HasVerdictOf K (mint_of seed n) (all_submissions seed n) exit (Sound totals)
+  pub watched : IsCutValue K seed n exit options.watch cut
 
 -- the ledger of a mint was audited with the transactions that were handed in, and is sound with these totals
 abbrev pub IsCheckedSound : MirrorRack → List Output → List FullTx → Totals → Type 0

@@ -1,3 +1,4 @@
+pub mod Watched
 pub mod Generated
 pub mod InMemory
 pub mod Promises

@@ -6,13 +6,15 @@ use Rattle.cbdc_model.specs.Clean.{Clean}
 use Rattle.command_answers.specs.Promises.{Needs, Promise}
 use Rattle.submission_laws.specs.Files.{all_submissions}
 use Rattle.workload.specs.Generator.{mint_of}
+use Rattle.requests.specs.declared.GenOptions.{GenOptions}
 use Rattle.gen_command.specs.Generated.{PrintsWorkload, WhyNoWorkload}
 
--- `gen` of a workload of this seed and so many transactions, over a ledger of this shape whose shards have so many disks beside their own: the rack is as it was, and no hashes clash or an audit says so
-abbrev pub gen_promise : {D : Type 0} → Ghosts D → Shape → ℕ → ℕ → ℕ → Promise D
-gen_promise device shape seed count replicas = record {
-  did = λ files before after printed. ((n : ℕ) → after.held n ≡ before.held n) × PrintsWorkload printed shape seed count replicas;
-  why = λ before after answer. ((n : ℕ) → after.disks.held n ≡ before.disks.held n) × WhyNoWorkload shape seed count answer;
+-- `gen` of a workload of this seed and so many transactions, over a ledger of this shape, run as the options say: the rack is as it was, and no hashes
+-- clash or an audit says so
+abbrev pub gen_promise : {D : Type 0} → Ghosts D → Shape → ℕ → ℕ → GenOptions → Promise D
+gen_promise device shape seed count options = record {
+  did = λ files before after printed. ((n : ℕ) → after.held n ≡ before.held n) × PrintsWorkload printed shape seed count options;
+  why = λ before after answer. ((n : ℕ) → after.disks.held n ≡ before.disks.held n) × WhyNoWorkload shape seed count options.watch answer;
   leaves = λ before after answer. Unit {0};
   ended = λ before after answer. ⊥;
   exact = λ before. Unit {0};

@@ -6,11 +6,12 @@ ghost use Rattle.command_answers.specs.Causes.{IsAnswerToRequest, HasToldCause, 
 ghost use Rattle.gen_command.specs.Generated.{files_of as files_from, PrintsWorkload, WhyNoWorkload};
 ghost use Rattle.gen_command.specs.InMemory.{AreDisksReady, AreMirrorsEmpty, HaveRoomForFiles, TellsRunOf, IsCheckedSound, IsUnchecked, IsWorkloadResult};
 ghost use Rattle.command_answers.specs.Texts.{IsPrinted, IsSilent};
-ghost use Rattle.file_runs.specs.Runs.{joined as all_joined};
 ghost use Rattle.input_files.specs.Limits.{IsShort};
 ghost use Rattle.mirror_devices.specs.MirrorRacks.{NoMirrorOut};
 ghost use Rattle.workload.specs.Generator.{mint_of};
 
+use crate::lines::write_workload;
+use crate::watched::value_seen;
 use audit::Verdict;
 use audit_command::joined;
 use cbdc_types::{Answer, FullTx, List, Mint, Output, Shape, Totals};
@@ -21,18 +22,18 @@ use outside::{Gate, Sink};
 use rack_ledgers::audit_on;
 use rack_runs::run_on;
 use requests::{GenOptions, RunOptions};
-use run_lines::write_generated;
 use sentinel::AllGood;
 use std::alloc::{AllocError, Global};
 use std::sync::Wait;
 use std::thread::Threads;
 use workload::{Clients, generate_clients};
 
-// What the run and the audit of a workload come to.
+// What the run and the audit of a workload come to, and the value of the cut of what an auditor saw.
 #[derive(Drop)]
 struct Came {
     ran: Ran,
     totals: Totals,
+    cut: Option<u128>,
 }
 
 // A mint and the client files behind it.
@@ -80,7 +81,7 @@ fn rack_of(
     MirrorRack::new(alloc, coordinators, nodes, replicas, capacity)
 }
 
-// Makes the ledger of a mint on empty disks, and runs client files over it.
+// Makes the ledger of a mint on empty disks, and runs client files over it, the first with an auditor beside its lanes if there is to be one.
 fn run_files<W: Wait + Threads + Sync, G: Gate + Sync>(
     rt: &W,
     alloc: Global,
@@ -88,6 +89,7 @@ fn run_files<W: Wait + Threads + Sync, G: Gate + Sync>(
     mint: Mint,
     clients: &[List<FullTx>],
     rack: &mut MirrorRack,
+    watch: bool,
     gate: &G,
 ) -> Result<Ran, Answer>
     requires all { NoMirrorOut rack.old }
@@ -108,25 +110,22 @@ fn run_files<W: Wait + Threads + Sync, G: Gate + Sync>(
         Err(fault) => return Err(fault),
     };
     let options = RunOptions { repeats: 0 };
-    run_on(rt, alloc, rack, clients, &AllGood, options, gate)
+    run_on(rt, alloc, rack, clients, &AllGood, options, watch, gate)
 }
 
-// Checks the ledger against its mint and client files.
+// Checks the ledger against its mint and what was handed in.
 fn check_files<W: Threads + Sync>(
     rt: &W,
     alloc: Global,
     mint: &[Output],
-    clients: Vec<List<FullTx>>,
+    handed: &[FullTx],
     rack: &mut MirrorRack,
 ) -> Result<Totals, Answer>
     requires all { NoMirrorOut rack.old }
-    ensures did { IfOk result (IsCheckedSound rack.old mint.now (all_joined clients.items)) }
-    ensures why { IfErr result (IsUnchecked rack.old rack.new mint.now (all_joined clients.items)) }
+    ensures did { IfOk result (IsCheckedSound rack.old mint.now handed.now) }
+    ensures why { IfErr result (IsUnchecked rack.old rack.new mint.now handed.now) }
 {
-    let Ok(handed) = joined(alloc, clients) else {
-        return Err(Answer::Memory);
-    };
-    match audit_on(rt, alloc, rack, mint, &handed) {
+    match audit_on(rt, alloc, rack, mint, handed) {
         Ok(Verdict::Sound(totals)) => Ok(totals),
         Ok(Verdict::Unsound { place, kind }) => Err(Answer::Unsound { place, kind }),
         Err(fault) => Err(fault),
@@ -140,43 +139,69 @@ fn copied(mint: &Mint) -> Result<Mint, AllocError>
     mint.clone()
 }
 
-// Makes the workload, runs it over nodes in memory and checks the result.
+// Makes the workload, runs it over nodes in memory and checks the result, and the cut of what an auditor saw if one was to look.
 fn run_workload<W: Wait + Threads + Sync, G: Gate + Sync>(
     rt: &W,
     alloc: Global,
     shape: &Shape,
     seed: u64,
     count: u32,
-    replicas: u32,
+    options: GenOptions,
     gate: &G,
 ) -> Result<Came, Answer>
     requires few { count ≤ 10000 }
-    requires copies { replicas ≤ 3 }
-    ensures did { IfOk result (λ c. IsWorkloadResult shape.now seed count replicas c.ran c.totals) }
-    ensures why { IfErr result (WhyNoWorkload shape.now seed count) }
+    requires copies { options.replicas ≤ 3 }
+    ensures did { IfOk result
+        (λ c. IsWorkloadResult shape.now seed count options c.ran c.totals c.cut) }
+    ensures why { IfErr result (WhyNoWorkload shape.now seed count options.watch) }
 {
     let Ok(Files { mint, clients }) = files_of(alloc, seed, count) else {
         return Err(Answer::Memory);
     };
-    let Ok(mut rack) = rack_of(alloc, shape, count, replicas) else {
+    let Ok(mut rack) = rack_of(alloc, shape, count, options.replicas) else {
         return Err(Answer::Memory);
     };
     let Ok(kept) = copied(&mint) else {
         return Err(Answer::Memory);
     };
-    let ran = match run_files(rt, alloc, shape, mint, &clients, &mut rack, gate) {
+    let ran = match run_files(
+        rt,
+        alloc,
+        shape,
+        mint,
+        &clients,
+        &mut rack,
+        options.watch,
+        gate,
+    ) {
         Ok(ran) => ran,
         Err(fault) => return Err(fault),
     };
-    match check_files(rt, alloc, kept.as_slice(), clients, &mut rack) {
-        Ok(totals) => Ok(Came { ran, totals }),
+    let Ok(handed) = joined(alloc, clients) else {
+        return Err(Answer::Memory);
+    };
+    let totals = match check_files(rt, alloc, kept.as_slice(), &handed, &mut rack) {
+        Ok(totals) => totals,
+        Err(fault) => return Err(fault),
+    };
+    match value_seen(
+        rt,
+        alloc,
+        shape,
+        options.watch,
+        &ran.waves,
+        kept.as_slice(),
+        &handed,
+    ) {
+        Ok(cut) => Ok(Came { ran, totals, cut }),
         Err(fault) => Err(fault),
     }
 }
 
 /// Makes the workload of so many transactions from a seed, runs it over nodes in memory and prints the numbers that
 /// end a run and those of an audit. The rack that the program was handed is not touched. Each shard writes to so many
-/// disks beside its own; the text is the same for every number of them.
+/// disks beside its own; the text is the same for every number of them. If an auditor is to look beside the lanes of the first file, the value of the
+/// cut of what it saw is printed last.
 ///
 /// Where it comes through: the rack is as it was. The text is that of a run of the workload between kept journals and of a sound audit of them; where
 /// no hashes of the workload clash it is one text for every schedule, with all transactions confirmed (clause `did` of `process`).
@@ -195,16 +220,16 @@ pub fn generated<W: Wait + Threads + Sync, O: Sink, G: Gate + Sync>(
     ensures cause { IsAnswerToRequest (λ file. ⊥) (λ file. ⊥)
         (Rose (O.count out.old) (O.count out.new)) result }
     ensures did { IsWell result
-        → PrintsWorkload (IsPrinted (O.taken out.old) (O.taken out.new) result) shape.now seed count options.replicas }
-    ensures why { HasToldCause (WhyNoWorkload shape.now seed count) result }
+        → PrintsWorkload (IsPrinted (O.taken out.old) (O.taken out.new) result) shape.now seed count options }
+    ensures why { HasToldCause (WhyNoWorkload shape.now seed count options.watch) result }
     ensures silent { IsSilent (O.taken out.old) (O.taken out.new) result }
     ensures written_later { O.count out.old ≤ O.count out.new }
 {
-    let came = match run_workload(rt, alloc, shape, seed, count, options.replicas, gate) {
+    let came = match run_workload(rt, alloc, shape, seed, count, options, gate) {
         Ok(came) => came,
         Err(fault) => return fault,
     };
-    match write_generated(out, &came.ran, &came.totals) {
+    match write_workload(out, &came.ran, &came.totals, came.cut) {
         Ok(()) => Answer::Ok,
         Err(_) => Answer::WriteFault,
     }

@@ -2,5 +2,7 @@
 #![tactic(auto)]
 
 mod generating;
+mod lines;
+mod watched;
 
 pub use generating::generated;

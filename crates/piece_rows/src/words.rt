@@ -49,7 +49,7 @@ fn tell_status(told: &mut Told, hashes: &[Hash]) {
     }
 }
 
-// A workload over shards on one disk each is told without a number for that.
+// A workload over shards on one disk each is told without a number for that, and one that is not watched without a word.
 fn tell_gen(told: &mut Told, shape: &Shape, seed: u64, count: u32, options: &GenOptions) {
     told.word("gen");
     tell_shape(told, shape);
@@ -58,6 +58,9 @@ fn tell_gen(told: &mut Told, shape: &Shape, seed: u64, count: u32, options: &Gen
     if options.replicas > 0 {
         told.word("replicas");
         told.number(options.replicas as u64);
+    }
+    if options.watch {
+        told.word("watch");
     }
 }
 

@@ -67,9 +67,9 @@ impl PointOrder {
     }
 }
 
-// The kind of a record by its word; 0 behind a message of a sentinel ahead of a lane.
+// The kind of a record by its word; 0 behind a message of a sentinel ahead of a lane, and behind a look of an auditor.
 fn kind_of(word: &str, told: &mut Told) -> u8 {
-    if word == "sent" {
+    if word == "sent" || word == "look" {
         return 0;
     }
     for kind in 1..10 {

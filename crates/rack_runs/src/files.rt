@@ -33,7 +33,7 @@ impl<'a, V: Verifier> Work for RunFiles<'a, V> {
     }
 }
 
-/// Runs client files over a ledger with no open batch.
+/// Runs client files over a ledger with no open batch, the first with an auditor beside its lanes if there is to be one.
 pub(crate) fn work_files<
     W: Wait + Threads + Sync,
     D: Disk + Send,
@@ -46,6 +46,7 @@ pub(crate) fn work_files<
     files: &[List<FullTx>],
     verifier: &V,
     options: RunOptions,
+    watch: bool,
     gate: &G,
 ) -> Worked<D, Vec<Wave>>
     requires idle { AreIdle ledger.header.shape (ledger_journals ledger) }
@@ -60,6 +61,7 @@ pub(crate) fn work_files<
             came: Ok(Vec::new(alloc)),
         };
     }
+    let ledger = ledger.watched(watch);
     let FilesRun { ledger, came } = run_files(rt, alloc, ledger, files, verifier, options, gate);
     Worked { ledger, came }
 }

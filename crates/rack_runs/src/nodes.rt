@@ -12,6 +12,7 @@ use cbdc_types::Answer;
 use coord_log::CoordLog;
 use file_runs::Ledger;
 use lane_driver::LaneFault;
+use lane_waves::Watch;
 use outside::Disk;
 use rack_ledgers::Nodes;
 use recovery::ResumedBatch;
@@ -88,6 +89,7 @@ pub(crate) fn ledger_of<D: Disk>(nodes: Nodes<D>) -> Ledger<D>
         header,
         logs,
         shards,
+        watch: Watch::Off,
     }
 }
 
@@ -102,6 +104,7 @@ pub(crate) fn nodes_of<D: Disk>(ledger: Ledger<D>) -> Nodes<D>
         header,
         logs,
         shards,
+        watch: _,
     } = ledger;
     see_logs(logs.as_slice());
     see_shards(shards.as_slice());

@@ -135,7 +135,8 @@ fn recovered_of(alloc: Global, told: Told<()>) -> Ran
     }
 }
 
-/// Opens the ledger on a rack, brings its open batches to their end, runs client files and puts all disks back.
+/// Opens the ledger on a rack, brings its open batches to their end, runs client files and puts all disks back. Where `watch` says so an auditor looks
+/// at one node after another beside the lanes of the first file; what it saw stands with that file's wave.
 pub fn run_on<W: Wait + Threads + Sync, R: Rack, V: Verifier + Sync, G: Gate + Sync>(
     rt: &W,
     alloc: Global,
@@ -143,6 +144,7 @@ pub fn run_on<W: Wait + Threads + Sync, R: Rack, V: Verifier + Sync, G: Gate + S
     files: &[List<FullTx>],
     verifier: &V,
     options: RunOptions,
+    watch: bool,
     gate: &G,
 ) -> Result<Ran, Answer>
 where
@@ -176,7 +178,9 @@ where
         Ok(begun) => begun,
         Err(fault) => return Err(fault),
     };
-    let Worked { ledger, came } = work_files(rt, alloc, ledger, files, verifier, options, gate);
+    let Worked { ledger, came } = work_files(
+        rt, alloc, ledger, files, verifier, options, watch, gate,
+    );
     match end_on(rack, &work, ledger, resumed, came) {
         Ok(told) => Ok(ran_of(told)),
         Err(fault) => Err(fault),

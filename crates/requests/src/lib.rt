@@ -33,6 +33,8 @@ pub struct RunOptions {
 pub struct GenOptions {
     /// How many disks beside its own each shard writes to, 0 to 3.
     pub replicas: u32,
+    /// An auditor looks at the nodes while the lanes run.
+    pub watch: bool,
 }
 
 /// What the words ask for.

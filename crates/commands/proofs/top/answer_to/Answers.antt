@@ -66,12 +66,12 @@ returns-in-Gen-clause-kept g c =
     let at = scene g.I.Inbox g.R.Rack g.O.Sink in
     let before = at c.args.inbox.now c.args.rack.now c.args.out.now in
     let after = at c.args.inbox.now c.args.rack.now c.generated.new.out in
-    let p = gen_promise g.R.Disk.Disk c.in-Gen.shape c.in-Gen.seed c.in-Gen.count c.in-Gen.options.replicas in
+    let p = gen_promise g.R.Disk.Disk c.in-Gen.shape c.in-Gen.seed c.in-Gen.count c.in-Gen.options in
     subst (λ r. HasKept (needs_of r) (promise_of g.R.Disk.Disk r) before after (c.args.rack.now ≡ c.args.rack.now) (c.args.inbox.now ≡ c.args.inbox.now) c.generated.result) (sym c.in-Gen.is)
     (record {
       cause = c.generated.ensures.cause;
       did = λ well. ((λ n. refl), c.generated.ensures.did well);
-      why = told_by (WhyNoWorkload c.in-Gen.shape c.in-Gen.seed c.in-Gen.count) (p.why before after) c.generated.result (λ b why. ((λ n. refl), why)) c.generated.ensures.why;
+      why = told_by (WhyNoWorkload c.in-Gen.shape c.in-Gen.seed c.in-Gen.count c.in-Gen.options.watch) (p.why before after) c.generated.result (λ b why. ((λ n. refl), why)) c.generated.ensures.why;
       untouched = λ _. refl;
       spared = λ _. refl;
       unread = λ _. refl;

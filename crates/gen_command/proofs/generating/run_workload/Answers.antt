@@ -10,14 +10,14 @@ use Rattle.gen_command.proofs.generating.run_workload.Goals as goal
 pub run_files-requires-clause-ready : goal.run_files-requires-clause-ready
 run_files-requires-clause-ready g c κs lives =
     subst (λ m. AreDisksReady c.args.shape.now m c.in-Ok-rack_of.rack) (sym c.in-Ok.ensures.mint)
-    (are_ready c.args.shape.now c.args.seed c.args.count c.requires.few c.args.replicas c.in-Ok-rack_of.rack c.in-Ok-rack_of.ensures.limits c.in-Ok-rack_of.ensures.empty)
+    (are_ready c.args.shape.now c.args.seed c.args.count c.requires.few c.args.options.replicas c.in-Ok-rack_of.rack c.in-Ok-rack_of.ensures.limits c.in-Ok-rack_of.ensures.empty)
 
 pub run_files-requires-clause-room : goal.run_files-requires-clause-room
 run_files-requires-clause-room g c κs lives =
     let files = c.deref.ensures.value ∙ c.in-Ok.ensures.clients in
     subst (λ m. HaveRoomForFiles c.args.shape.now m c.deref.result.now c.in-Ok-rack_of.rack) (sym c.in-Ok.ensures.mint)
     (subst (λ fs. HaveRoomForFiles c.args.shape.now (mint_of c.args.seed c.args.count) fs c.in-Ok-rack_of.rack) (sym files)
-    (workload_fits c.args.shape.now c.args.seed c.args.count c.requires.few c.args.replicas c.in-Ok-rack_of.rack c.in-Ok-rack_of.ensures.limits c.in-Ok-rack_of.ensures.empty))
+    (workload_fits c.args.shape.now c.args.seed c.args.count c.requires.few c.args.options.replicas c.in-Ok-rack_of.rack c.in-Ok-rack_of.ensures.limits c.in-Ok-rack_of.ensures.empty))
 
 pub returns-in-Err-clause-why : goal.returns-in-Err-clause-why
 returns-in-Err-clause-why g c = memory_why c.args.shape.now c.args.seed c.args.count c.in-Err.fault c.in-Err.ensures.why
