@@ -1,5 +1,5 @@
-"""A group of members by the table of events in docs/DEFINITIONS.md: a model of its own, which shares no code with the program. Records are letters.
-See tools/pages/promotion_picture.py."""
+"""A group of members by the table of events in docs/DEFINITIONS.md: a model of its own, which shares no code with the program. Records are letters, events
+words, as ("send", 2, 1). See tools/stress/group-lists, tools/pages/promotion_picture.py and examples/members."""
 
 # How the model is made wrong, for a look at what shows it.
 BROKEN = ("early", "old", "ack", "cut", "lead", "second")
@@ -27,13 +27,34 @@ class Group:
     def backups(self):
         return [at for at, it in enumerate(self.members) if it.inside and at != self.primary]
 
+    def is_free(self):
+        return self.answered == len(self.records) or self.spoil == "second"
+
+    def is_told(self):
+        told = [self.known[at] == len(self.records) for at in self.backups()]
+        return all(told) or self.spoil == "early" and any(told)
+
+    def may_lead(self, to):
+        return to in self.backups() and (self.members[to].term == self.term or self.spoil == "lead")
+
     def happen(self, event):
         kind, *words = event
         getattr(self, kind)(*words)
 
+    def world(self, event):
+        """What an event is at the group's node of a world, in the words of rows."""
+        kind, *words = event
+        if kind == "take" and self.is_free():
+            return f"begin {words[0]}"
+        if kind == "answer" and self.is_told() and self.flying:
+            return "end"
+        if kind == "promote" and self.may_lead(*words):
+            is_kept = self.flying and len(self.members[words[0]].records) == len(self.records)
+            return f"crash {'kept' if is_kept else 'lost'} reopen"
+        return ""
+
     def take(self, name):
-        is_free = self.answered == len(self.records) or self.spoil == "second"
-        if is_free and self.is_after(self.records, name):
+        if self.is_free() and self.is_after(self.records, name):
             self.members[self.primary].records += name
             self.flying = True
 
@@ -65,12 +86,11 @@ class Group:
             own.records = own.records[: None if self.spoil == "cut" else place] + record
 
     def answer(self):
-        told = [self.known[at] == len(self.records) for at in self.backups()]
-        if all(told) or self.spoil == "early" and any(told):
+        if self.is_told():
             self.answered, self.flying = len(self.records), False
 
     def promote(self, to):
-        if to not in self.backups() or self.members[to].term != self.term and self.spoil != "lead":
+        if not self.may_lead(to):
             return
         self.members[self.primary].inside = False
         self.term += 1
@@ -81,7 +101,8 @@ class Group:
         self.sent += [("hello", at, self.term, place, self.records[place]) for at in self.backups()]
 
     def told(self):
-        """A line for each member, as the rows have it."""
+        """A line for each member, and one of what is answered, as rows have them."""
         for at, own in enumerate(self.members):
             word = "leads" if at == self.primary else "follows" if own.inside else "left"
             yield f"{word} {own.term} {' '.join(own.records)}"
+        yield f"answered {self.answered}{' flying' if self.flying else ''}"
