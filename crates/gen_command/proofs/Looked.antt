@@ -106,7 +106,7 @@ module _ (K : Shape) (seed n : ℕ) (within : IsWithinLimits K) (X : ℕ → Lis
     pub has_cut : (lists : List (Vec Record)) → IsSeenFirst ws lists → (v : PartVerdict) → IsCutVerdict K (mint_of seed n) (all_submissions seed n) (lists_in lists) v → HasCut K seed n X v
     has_cut lists seen v cut =
         let (M, second, looks) = first_looks K seed n I X ws told lists seen in
-        let many : length (lists_in lists) ≡ node_count K = length-map lists (λ l. l.items) ∙ looks.many in
+        let many : length (lists_in lists) ≡ node_count K = length-map lists (λ (l : Vec Record). l.items) ∙ looks.many in
         let fronts = fronts_of K M lists looks in
         record {
           middle = M;

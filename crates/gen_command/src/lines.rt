@@ -20,7 +20,8 @@ fn cut_line(value: u128) -> ArrayVec<u8, 64>
 {
     let mut line: ArrayVec<u8, 64> = ArrayVec::new();
     let mut digits = Buffer::new();
-    let _ = line.try_extend_from_slice(b"cut value ");
+    let _ = line.try_extend_from_slice(b"cut value");
+    line.push(b' ');
     let _ = line.try_extend_from_slice(digits.format(value).as_bytes());
     line.push(b'\n');
     line

@@ -61,8 +61,8 @@ pub(crate) fn work_files<
             came: Ok(Vec::new(alloc)),
         };
     }
-    let ledger = ledger.watched(watch);
-    let FilesRun { ledger, came } = run_files(rt, alloc, ledger, files, verifier, options, gate);
+    let marked = ledger.watched(watch);
+    let FilesRun { ledger, came } = run_files(rt, alloc, marked, files, verifier, options, gate);
     Worked { ledger, came }
 }
 

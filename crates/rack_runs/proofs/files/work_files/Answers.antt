@@ -1,8 +1,11 @@
-use Rattle.std.proofs.Common.{length, sym, ◌∙◌}
+use Rattle.std.proofs.Common.{length, sym, ◌∙◌, subst}
+use Rattle.cbdc_model.specs.World.{AreIdle}
 use Rattle.std.proofs.lemmas.Bool.{eqb-true}
 use Rattle.ledger_runs.proofs.Keeping.{ledger_same}
 use Rattle.ledger_runs.specs.Faults.{HaveFailed}
-use Rattle.file_runs.specs.Ledgers.{ledger_journals, ledger_flights, ledger_faults, ledger_opened}
+use Rattle.file_runs.specs.Ledgers.{ledger_journals, ledger_flights, ledger_faults, ledger_opened, IsChecked}
+use Rattle.file_runs.specs.Stretches.{ledger_sight, Stretch}
+use Rattle.file_runs.specs.Deeds.{files_deed}
 use Rattle.rack_runs.proofs.Filed.{none_of, some_of, none_leave, none_end, files_worked}
 use Rattle.rack_runs.proofs.files.work_files.Goals as goal
 
@@ -23,4 +26,12 @@ returns-then-is_empty g c =
 pub returns : goal.returns
 returns g c =
     files_worked g.D.Disk (g.V.Verifier.verdict_of c.args.verifier.now) c.args.files.now c.args.ledger c.run_files-ledger.result.ledger c.run_files-ledger.result.came
-    (some_of (length c.args.files.now) (sym c.is_empty.ensures ∙ c.if-is_empty.false)) c.run_files-ledger.ensures
+    (some_of (length c.args.files.now) (sym c.is_empty.ensures ∙ c.if-is_empty.false))
+    (subst (λ l. Stretch (files_deed (g.V.Verifier.verdict_of c.args.verifier.now) c.args.files.now) (ledger_sight g.D.Disk l) (ledger_sight g.D.Disk c.run_files-ledger.result.ledger) c.run_files-ledger.result.came)
+    c.watched-marked.ensures c.run_files-ledger.ensures)
+
+pub run_files-ledger-requires-clause-idle : goal.run_files-ledger-requires-clause-idle
+run_files-ledger-requires-clause-idle g c κs k = subst (λ l. AreIdle l.header.shape (ledger_journals l)) (sym c.watched-marked.ensures) c.requires.idle
+
+pub run_files-ledger-requires-clause-checked : goal.run_files-ledger-requires-clause-checked
+run_files-ledger-requires-clause-checked g c κs k = subst (λ l. IsChecked l) (sym c.watched-marked.ensures) c.requires.checked
