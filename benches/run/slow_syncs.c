@@ -6,7 +6,7 @@
 #include <stdlib.h>
 #include <time.h>
 
-#include "../../tools/told.h"
+#include "../../tools/shared/told.h"
 
 struct told {
     atomic_ulong syncs, beside;

@@ -91,16 +91,10 @@ fn print<O: Sink>(out: &mut O, totals: &Totals) -> Answer
 
 /// Checks the journals against a mint and the transactions that were handed in. No journal changes.
 ///
-/// Where it comes through: the one verdict of the journals by the mint and what was handed in is Sound. So the sentence about the money holds of
-/// the ledger that the disks tell, if its first records are the mint's, no hashes clash and each committed transaction has an input; and that the
-/// value is the value minted, where each of these makes as much as it takes, and money what was minted plus issued less redeemed, where each keeps
-/// the money. The disks are as behind `status`.
-///
-/// In full (clause `did` of `process`): the files held the mint and the transactions; there are a shape within its limits and rows in order, in
-/// which the journal of each node of a ledger of this mint is what its disk's content, where told, opens to, and which have no other rows, and each
-/// disk had room for its journal there with what is kept for its open batches; the one verdict of the audit of these rows is Sound, and so the
-/// money of this ledger is accounted for, as `account_law` of `rack_ledgers` says; what is printed are its seven numbers; each disk is back and
-/// reads as before, and whatever a crash leaves of one of the ledger that told its content opens to exactly its journal in these rows.
+/// Where it comes through: the one verdict of the journals by the mint and what was handed in is Sound. So the sentence about the money holds of the
+/// ledger that the disks tell, if its first records are the mint's, no hashes clash and each committed transaction has an input. The value is then
+/// the value minted, where each of these makes as much as it takes; and money is what was minted plus issued less redeemed, where each keeps the
+/// money. The disks are as behind `status` (clause `did` of `process`).
 pub fn audit<W: Threads + Sync, I: Inbox, R: Rack, O: Sink>(
     rt: &W,
     alloc: Global,

@@ -11,9 +11,9 @@ pub use Rattle.audit_command.specs.Promises.{CanAudit}
 use Rattle.rack_laws.specs.Ready.{IsRackReady}
 use Rattle.commands.specs.Promises.{promise_of}
 
--- the disks are ready for a run of files, of which these submissions are sound (`IsRackReady`): they show a kept ledger, with room for every record that
--- is still to come of its open batches and of the sound transactions, each record at its largest, and with stamps for them all up to 2^62 (`Ample`); and
--- no count of faults of its nodes rises
+-- the disks are ready for a run of files, of which these submissions are sound (`IsRackReady`): they show a kept ledger, and no count of faults of
+-- its nodes rises. It has room for every record that is still to be written of its open batches and of the sound transactions, each record at its
+-- largest, and stamps for them all up to 2^62 (`Ample`)
 abbrev pub AreReadyFor : {D : Type 0} → Ghosts D → Scene D → Scene D → (FullTx → Bool) → List (List FullTx) → Type 0
 AreReadyFor device before after sound files = IsRackReady device before.disks after.disks sound files
 

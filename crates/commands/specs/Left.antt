@@ -8,9 +8,9 @@ use Rattle.requests.specs.declared.Request.{Request}
 use Rattle.command_answers.specs.Scene.{Scene}
 use Rattle.commands.specs.Promises.{promise_of, needs_of}
 
--- what is left by what was asked for and did not come through: by `init` of a mint that its file holds all disks as they were read, or first records at
--- the nodes above the one at which their writing stopped; by `run` of transactions that its files hold, and by `recover`, all disks as they were read, or
--- as a lane's fault leaves them; by `status` and `audit` all disks as they were read; of a workload and of a text that is shown nothing is said here
+-- what is left by what was asked for and was not done. By `init` of a mint that its file holds: all disks as they were read, or first records at the
+-- nodes above the one at which their writing stopped. By `run` of transactions that its files hold, and by `recover`: all disks as they were read, or
+-- as a lane's fault leaves them. By `status` and `audit`: all disks as they were read. Of a workload and of a text that is shown nothing is said here
 abbrev pub RequestLeaves : {D : Type 0} → Ghosts D → Scene D → Scene D → Request → Answer → Type 0
 RequestLeaves device before after r answer = (promise_of device r).leaves before after answer
 

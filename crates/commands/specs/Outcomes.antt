@@ -13,9 +13,9 @@ use Rattle.commands.specs.Promises.{promise_of}
 abbrev pub OutputTook : {D : Type 0} → Scene D → Scene D → Answer → Text → Type 0
 OutputTook before after answer = IsPrinted before.printed after.printed answer
 
--- what was asked for was done, and its lines were printed (`OutputTook`): a ledger was made (`DidInit`), files were run over one (`DidRun`), its open batches
--- were brought to their end (`DidRecover`), hashes were looked up (`DidStatus`), its journals were audited and are sound (`DidAudit`), a workload was
--- run in memory, and the disks are as before (`PrintsWorkload`), or a text was shown
+-- what was asked for was done, and its lines were printed (`OutputTook`). It is one of these: a ledger was made (`DidInit`), files were run over one
+-- (`DidRun`), its open batches were brought to their end (`DidRecover`), hashes were looked up (`DidStatus`), its journals were audited and are sound
+-- (`DidAudit`), a workload was run in memory, and the disks are as before (`PrintsWorkload`), or a text was shown
 abbrev pub Did : {D : Type 0} → Ghosts D → Scene D → Scene D → Request → Answer → Type 0
 Did device before after r answer = (promise_of device r).did before.file before.disks after.disks (OutputTook before after answer)
 

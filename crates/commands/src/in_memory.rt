@@ -16,9 +16,9 @@ use std::alloc::Global;
 use std::sync::Wait;
 use std::thread::Threads;
 
-/// The same over files, nodes and an output in memory: a file that is there is read; the rack, which has a place for each node that a ledger may have,
-/// with a disk that never fails, stands for any rack of plain disks for all nodes of a ledger; and the output, which takes `N` bytes, fails only where
-/// it is full. So none of their counts of faults rises, but the output's at its end.
+/// The same over files, nodes and an output in memory. A file that is there is read. The rack has a place for each node that a ledger may have, with
+/// a disk that never fails, and represents any rack of plain disks for all nodes of a ledger. The output, which takes `N` bytes, fails only where it
+/// is full. So none of their counts of faults rises, but the output's at its end.
 ///
 /// The same over files, nodes and an output in memory, of which none fails but an output that is full (`MemInbox`, `PlainRack`, `PlainSink`): where
 /// nothing hinders what is asked, with no premise on counts of faults (`IsUnhinderedWhereSteady`), it ends with Ok or Memory, or with WriteFault, where

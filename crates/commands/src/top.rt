@@ -221,21 +221,29 @@ where
 /// - Of `gen`: whatever it answers, the rack is as it was (`spared`). Where no hashes of its workload clash it is proved that the same words give
 ///   the same text; that they don't is a hypothesis. Tested in `ledger_rows` (`gen.rows`: one transaction, a thousand twice, one lane) and on the
 ///   README's block.
-/// - Of `init`, `run`, `status`, `recover`, `audit`: the printed text (which is proved too), the status, and what then stands on the disks are
-///   tested by rows of `ledger_rows`: `bytes.rows` (the places of all records of one transaction on both disks), `run.rows` (one coin to two, the
-///   same twice, two spenders in one file and in two, an output spent in its own batch and later, three files in one run, wrong claims, a full disk,
-///   what is known of hashes), `init.rows` (mints, a disk without room, a second `init`, words, a run over empty disks), `refusal.rows` (each reason
-///   to refuse a submission, files outside their grammar, verdict files, a damaged shard), `audit.rows` and `several.rows` (audits, journals that do
-///   not fit together), `left.rows` (what refusals leave of the disks, byte by byte), `bad_words.rows` (words that ask for nothing; which files are
-///   read and which disks taken), `points.rows` (what is asked of nodes, in order), `stop.rows` (two shards: a run stopped behind each record and
-///   recovered, what `status` tells of one, a torn gate, `run` that resumes first, two files stopped anywhere and brought to their end, a disk that
-///   fails at each of its first calls, disks of another mint and of the other kind, an output that takes a part, help), `stops.rows` (two runs of two
-///   files, recoveries in each phase and an `init`: each disk stopped at each of its calls, or failing at that one alone, crashed in four ways
-///   (nothing that was not synced, all, torn bytes of two kinds), recovered and audited, with what is committed then; a rack that lacks a disk; an
-///   output that takes less than the text, by each number of bytes), `bad_bytes.rows` (files and disks with bad bytes behind a run of one
-///   transaction), `repeats.rows` (with repeats: the calls that are made, the same text and bytes, resumed batches without), `lanes.rows` (two lanes),
-///   `threads.rows` (three lanes, each in its shard's lock, or its coordinator's, until another has done its batch; a lane behind a shard's lock
-///   until another has done its batch there) and `many_lanes.rows` (sixteen lanes, all on the way at one time).
+/// - Of `init`, `run`, `status`, `recover`, `audit`: The printed text (which is proved too), the status, and what is then on the disks are tested by
+///   rows of `ledger_rows`, as the next items say.
+/// - In `bytes.rows`: The places of all records of one transaction on both disks.
+/// - In `run.rows`: One coin to two, the same twice, two spenders in one file and in two, an output spent in its own batch and later, three files in
+///   one run, wrong claims, a full disk, what is known of hashes.
+/// - In `init.rows`: Mints, a disk without room, a second `init`, words, a run over empty disks.
+/// - In `refusal.rows`: Each reason to refuse a submission, files outside their grammar, verdict files, a damaged shard.
+/// - In `audit.rows` and `several.rows`: Audits, journals that do not fit together.
+/// - In `left.rows`: What refusals leave of the disks, byte by byte.
+/// - In `bad_words.rows`: Words that ask for nothing; which files are read and which disks taken.
+/// - In `points.rows`: What is asked of nodes, in order.
+/// - In `stop.rows` (two shards): A run stopped behind each record and recovered, what `status` prints of one, a torn gate, `run` that resumes first,
+///   two files stopped anywhere and brought to their end, a disk that fails at each of its first calls, disks of another mint and of the other kind,
+///   an output that takes a part, help.
+/// - In `stops.rows`: Two runs of two files, recoveries in each phase and an `init`. Each disk is stopped at each of its calls, or fails at that one
+///   alone, is crashed in four ways (nothing that was not synced, all, torn bytes of two kinds), recovered and audited, with what is committed then.
+///   Also a rack that lacks a disk, and an output that takes less than the text, by each number of bytes.
+/// - In `bad_bytes.rows`: Files and disks with bad bytes behind a run of one transaction.
+/// - In `repeats.rows` (with repeats): The calls that are made, the same text and bytes, resumed batches without.
+/// - In `lanes.rows`: Two lanes.
+/// - In `threads.rows`: Three lanes, each in its shard's lock, or its coordinator's, until another has done its batch; a lane behind a shard's lock
+///   until another has done its batch there.
+/// - In `many_lanes.rows`: Sixteen lanes, all on the way at one time.
 pub fn process<W: Wait + Threads + Sync, I: Inbox, R: Rack, O: Sink, G: Gate + Sync>(
     rt: &W,
     alloc: Global,
@@ -251,12 +259,12 @@ where
 
     // All disks of the rack may be taken again when it ends.
     ensures back { (n : ℕ) → R.can_take result.rack n }
-    // What the words ask for was done, and its lines were printed, all of them at Ok and a front at WriteFault: a ledger was made (`DidInit`), files were
-    // run over one (`DidRun`), its open batches were brought to their end (`DidRecover`), hashes were looked up (`DidStatus`), its journals were audited
-    // and are sound (`DidAudit`), or a workload was run in memory (`PrintsWorkload`). What was run over or brought to an end was a ledger that the disks
-    // told, in which each record was caused (`TookLedger` says what is left of it), and where it was kept all that `IsPrintedRun` and
-    // `IsPrintedRecovery` say holds: above all, where no hashes clash (`Clean`), the headline, of the journals at exit. A look and an audit leave the
-    // disks as they were. Help and the version are printed, and nothing else is done.
+    // What the words ask for was done, and its lines were printed, all of them at Ok and a front at WriteFault. It is one of these: a ledger was made
+    // (`DidInit`), files were run over one (`DidRun`), its open batches were brought to their end (`DidRecover`), hashes were looked up
+    // (`DidStatus`), its journals were audited and are sound (`DidAudit`), or a workload was run in memory (`PrintsWorkload`). What was run over or
+    // brought to an end was a ledger that the disks told, in which each record was caused (`TookLedger` says what is left of it). Where it was kept
+    // all that `IsPrintedRun` and `IsPrintedRecovery` say holds: above all, where no hashes clash (`Clean`), the headline, of the journals at exit. A
+    // look and an audit leave the disks as they were. Help and the version are printed, and nothing else is done.
     ensures did { let before = scene I.Inbox R.Rack O.Sink inbox.old rack out.old in
         let after = scene I.Inbox R.Rack O.Sink inbox.new result.rack out.new in
         IsWell result.status → AskedDid R.Disk.Disk before after (texts words.now) result.status }
@@ -268,10 +276,11 @@ where
         let after = scene I.Inbox R.Rack O.Sink inbox.new result.rack out.new in
         IsFaultPrinted before after (texts words.now) result.status }
 
-    // Each answer but Ok, WriteFault, BadWords and Memory has its cause (`Why`): a file that is the first not read, with its place; a ledger that can't
-    // be made (`IsUnmade`) or opened (`IsUnopened`), by the first reason, or a record of it that is the first not caused (`IsUnresumed`), and the disks are back
-    // as they were read; a lane's fault (`IsLaneFault`), which has its own cause and leaves what is said there; or what an audit found (`WasAudited`).
-    // `gen` ends so only where its audit is Unsound, and then hashes of its workload clash (`WhyNoWorkload`).
+    // Each answer but Ok, WriteFault, BadWords and Memory has its cause (`Why`), which is one of four. A file is the first not read, and its place is
+    // given. A ledger can't be made (`IsUnmade`) or opened (`IsUnopened`), by the first reason, or a record of it is the first not caused
+    // (`IsUnresumed`), and the disks are back as they were read. A lane met a fault (`IsLaneFault`), which has its own cause and leaves what is said
+    // there. Or an audit found something wrong (`WasAudited`). `gen` ends so only where its audit is Unsound, and then hashes of its workload clash
+    // (`WhyNoWorkload`).
     ensures why { let before = scene I.Inbox R.Rack O.Sink inbox.old rack out.old in
         let after = scene I.Inbox R.Rack O.Sink inbox.new result.rack out.new in
         HasToldCause (AskedWhy R.Disk.Disk before after (texts words.now)) result.status }
@@ -289,10 +298,10 @@ where
     // The inbox tells of each file what it told before.
     ensures inbox { (name : Text) → I.file inbox.new name ≡ I.file inbox.old name }
 
-    // Where it was not done the rack is as it was, or: behind `status` and `audit` all disks are as they were read (`AreDisksBack`); where a run or a
-    // recovery did not come through, also where memory ran out, they are as they were read, or all is as a lane's fault leaves it (`TurnsLeave`); where a
-    // ledger was not made (any status of `init` but 0 and 11), they are as they were read, or the writing of first records stopped at a node
-    // (`InitStoppedAt`). Tested in `left.rows`.
+    // Where it was not done the rack is as it was, or one of these holds. Behind `status` and `audit` all disks are as they were read
+    // (`AreDisksBack`). Where a run or a recovery was not done, also where memory ran out, they are as they were read, or all is as a lane's fault
+    // leaves it (`TurnsLeave`). Where a ledger was not made (any status of `init` but 0 and 11), they are as they were read, or the writing of first
+    // records stopped at a node (`InitStoppedAt`). Tested in `left.rows`.
     ensures left { let before = scene I.Inbox R.Rack O.Sink inbox.old rack out.old in
         let after = scene I.Inbox R.Rack O.Sink inbox.new result.rack out.new in
         (IsWell result.status → ⊥)
@@ -306,20 +315,21 @@ where
         StaysKeptWhatever R.Disk.Disk before after (texts words.now) }
 
     // Of `run`, `recover`, `status`, `audit`: where it comes through (Ok or WriteFault), where a lane's fault ends a run or a recovery, and where an
-    // audit finds something wrong (`IsEndedLater`), nothing that the disks held at entry was to be refused (`HasNoCause`): if each of the ledger's disks
-    // tells its content, no node has a cause to be refused as NotReady, Damaged, Foreign or Full, whatever the counts of faults, nor at `run` and
-    // `recover` any record to be the first that is not caused. So, but for a disk's fault and running out of memory, a ledger is refused only where its
-    // disks give such a cause (`why`), and nothing is done over one whose disks give it.
+    // audit finds something wrong (`IsEndedLater`), nothing that the disks held at entry was to be refused (`HasNoCause`). That is: if each of the
+    // ledger's disks tells its content, no node has a cause to be refused as NotReady, Damaged, Foreign or Full, whatever the counts of faults, nor
+    // at `run` and `recover` any record to be the first that is not caused. So, but for a disk's fault and running out of memory, a ledger is refused
+    // only where its disks give such a cause (`why`), and nothing is done over one whose disks give it.
     ensures exact { let before = scene I.Inbox R.Rack O.Sink inbox.old rack out.old in
         let after = scene I.Inbox R.Rack O.Sink inbox.new result.rack out.new in
         (r : Asked) → WordsAskFor (texts words.now) r
         → IsWell result.status ⊎ IsEndedLater R.Disk.Disk before after r result.status
         → IsExact R.Disk.Disk before r }
 
-    // Where nothing hinders what is asked (`IsUnhindered`) it ends with Ok or Memory, or with WriteFault, where the sink's count rose (`write_fault`). Nothing
-    // does where all that it is about is told, no count of it rises, and it is as `CanInit`, `CanRun` and `CanAudit` say, or, of `recover` and `status`,
-    // `AreReadyFor` (of these and of `run`: with room for every record that is still to come, `Ample`), and each hash of `status` has its 32 bytes; of
-    // `gen`, where no hashes of its workload clash; of help, always.
+    // Where nothing hinders what is asked (`IsUnhindered`) it ends with Ok or Memory, or with WriteFault, where the sink's count rose
+    // (`write_fault`). Nothing does where all that it is about is told, no count of it rises, and it is as `CanInit`, `CanRun` and `CanAudit` say,
+    // or, of `recover` and `status`, `AreReadyFor`. Of these two and of `run` that is with room for every record that is still to be written
+    // (`Ample`); of `status` each hash has its 32 bytes besides. Nothing hinders `gen` where no hashes of its workload clash, and help never is
+    // hindered.
     ensures complete { let before = scene I.Inbox R.Rack O.Sink inbox.old rack out.old in
         let after = scene I.Inbox R.Rack O.Sink inbox.new result.rack out.new in
         (r : Asked) → WordsAskFor (texts words.now) r → IsUnhindered R.Disk.Disk before after r

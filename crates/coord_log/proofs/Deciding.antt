@@ -1,12 +1,12 @@
 -- What is owed to a call that decides, and that its Commit has its place.
-use Rattle.std.proofs.Common.{◌≡◌, ℕ, suc, ◌+◌, ◌*◌, ◌<◌, ◌≤◌, max, List, length, reverse, ap, sym, ◌∙◌, subst, arith, Some, None, Option, Err}
+use Rattle.std.proofs.Common.{◌≡◌, ℕ, suc, ◌+◌, ◌*◌, ◌<◌, ◌≤◌, max, List, length, refl, ap, sym, ◌∙◌, subst, arith, Some, None, Option, Err}
 use Rattle.std.specs.Prelude.{All}
 use Rattle.std.proofs.lemmas.List.{length-map}
 use Rattle.outside.specs.declared.disk.Disk.{Ghosts}
 use Rattle.gate_journal.specs.Shown.{broken_of}
 use Rattle.cbdc_types.specs.declared.batch.ShardReplies.{ShardReplies}
 use Rattle.cbdc_types.specs.declared.calls.NodeFault.TheVariants.{ClockEnd}
-use Rattle.cbdc_model.specs.Records.{Header, Shape, Record, Batch, Compact, Outcome, txs_of, outcomes_in, Commit}
+use Rattle.cbdc_model.specs.Records.{Shape, Record, Batch, Compact, Outcome, txs_of, outcomes_in, Commit}
 use Rattle.cbdc_model.specs.Slots.{slot, Idle, InPrepare}
 use Rattle.cbdc_model.specs.Grammar.{IsBatchOf, IsOutcome, HasSize}
 use Rattle.cbdc_model.specs.Next.{next_stamp}
@@ -14,16 +14,17 @@ use Rattle.cbdc_model.specs.Deciding.{decided, reply_cause}
 use Rattle.cbdc_model.specs.Due.{Answers, Writes, last_late, open_batch, decide_due, commit_record}
 use Rattle.cbdc_model.specs.Room.{size_of, room_in}
 use Rattle.record_log.specs.Logs.{HasLogRoom}
-use Rattle.record_log.specs.declared.log.RecordLog.{RecordLog}
+use Rattle.node_journal.specs.Sound.{journal_of}
+use Rattle.node_journal.specs.declared.nodes.Node.{Node}
 use Rattle.coord_core.specs.Masks.{mask_of, masks_of}
 use Rattle.coord_core.specs.Decided.{latest_reply, ShardsRise, AreRepliesTo}
 use Rattle.coord_core.specs.Lanes.{CoordOf, IsCoordWhole, IsOwnLane, CoordAdmits, coord_lane, lane_kept, ahead_in, ahead_of, IsSameButRoom, KeepsOtherRooms, core_batch}
 use Rattle.coord_core.specs.Stands.{CoordStands}
 use Rattle.coord_core.proofs.Deciding.{latest_is}
 use Rattle.coord_log.specs.Logs.{commit_due}
-use Rattle.coord_log.specs.Inside.{largest, IsCoordReady, StandsOn, IsDue}
+use Rattle.coord_log.specs.Inside.{largest, IsCoordSound, IsDue}
 use Rattle.coord_core.proofs.Rooms.{others_roomed}
-use Rattle.coord_core.proofs.Same.{stands_same}
+use Rattle.coord_log.proofs.Written.{stands_on}
 use Rattle.coord_core.proofs.Journals.{prepared_size}
 use Rattle.coord_log.proofs.Places.{commit_place, next_fits, next_ahead, commit_size}
 use Rattle.coord_log.proofs.Owed.{core_batch_is, named_batch, in_time, too_late, memory_for, all_memory}
@@ -74,46 +75,41 @@ decide_late c K J broken lane t txs replies stands whole t-is late are =
     too_late broken last_late (next_stamp J (reply_cause K replies)) (Writes (next_stamp J (reply_cause K replies)) (commit_record K lane replies J)) whole (rw s late)
     ∙ ap (λ x. Answers (Err (ClockEnd x))) s
 
-pub decide_ready : {D : Type 0} {G : Ghosts D} (l : RecordLog D G) (b c : CoordOf) (flight : Option Record) (lane stamp : ℕ) (os : List Outcome) (r : Record)
-    → IsCoordWhole c → IsSameButRoom b c → KeepsOtherRooms b c lane → StandsOn l b → broken_of l.journal ≡ None → IsCoordReady l b flight → IsOwnLane b.header lane → (slot (reverse l.records.items) lane).phase ≡ InPrepare
-    → 1 ≤ stamp → stamp ≤ last_late → r ≡ Commit stamp (core_batch b lane) os → All (λ o. IsOutcome l.header.shape o) os → CoordAdmits c r → IsDue l c flight r
-decide_ready {D} {G} l b c flight lane stamp os r whole same keeps on sound ready own phase some le r-is outcomes next =
-    let J : List Record = reverse l.records.items in
-    let P : Record → Type 0 = λ x. IsDue l c flight x in
-    let next' : CoordAdmits c (Commit stamp (core_batch b lane) os) = let Q : Record → Type 0 = λ x. CoordAdmits c x in subst Q r-is next in
+pub decide_ready : {D : Type 0} {G : Ghosts D} (n : Node CoordOf D G) (c : CoordOf) (lane stamp : ℕ) (os : List Outcome) (r : Record)
+    → IsCoordWhole c → IsSameButRoom n.core c → KeepsOtherRooms n.core c lane → IsCoordSound n → broken_of n.log.journal ≡ None → IsOwnLane n.core.header lane → (slot (journal_of n) lane).phase ≡ InPrepare
+    → 1 ≤ stamp → stamp ≤ last_late → r ≡ Commit stamp (core_batch n.core lane) os → All (λ o. IsOutcome n.log.header.shape o) os → CoordAdmits c r → IsDue {D = D} {G = G} (record { log = n.log; core = c; opened = n.opened; flight = n.flight }) r
+decide_ready {D} {G} n c lane stamp os r whole same keeps sound unbroken own phase some le r-is outcomes next =
+    let l = n.log in
+    let b : CoordOf = n.core in
+    let J : List Record = journal_of n in
+    let on = sound.on in
+    let ready = sound.ready unbroken in
+    let P : Record → Type 0 = λ x. IsDue {D = D} {G = G} (record { log = n.log; core = c; opened = n.opened; flight = n.flight }) x in
+    let next' : CoordAdmits c (Commit stamp (core_batch n.core lane) os) = let Q : Record → Type 0 = λ x. CoordAdmits c x in subst Q r-is next in
     let at : (coord_lane c lane).slot.phase ≡ InPrepare = ap (λ s. s.phase) next'.1 in
     let kept : lane_kept (coord_lane c lane) ≡ 110 + 57 * length (coord_lane c lane).masks = ap (λ x. room_in x 0 (length (coord_lane c lane).masks)) at in
     let ahead : ahead_in (coord_lane c lane).slot.phase ≡ 3 = ap ahead_in at in
-    let node : l.header.node < l.header.shape.coordinators = let Q : Header → Type 0 = λ h. h.node < h.shape.coordinators in subst Q (same.header ∙ on.header) whole.node in
-    let batch : IsBatchOf l.header.shape (open_batch J lane) = named_batch l.header J lane node on.journal (λ e. (let w : InPrepare ≡ Idle = sym phase ∙ e in cc)) in
-    let size : HasSize l.header.shape (txs_of J (open_batch J lane)) = prepared_size l.header J lane on.journal phase in
-    let count : length os ≡ length (txs_of J (open_batch J lane)) =
+    let batch : IsBatchOf n.log.header.shape (open_batch (journal_of n) lane) = named_batch n.log.header J lane on.node.kind on.node.journal (λ e. (let w : InPrepare ≡ Idle = sym phase ∙ e in cc)) in
+    let size : HasSize n.log.header.shape (txs_of (journal_of n) (open_batch (journal_of n) lane)) = prepared_size n.log.header J lane on.node.journal phase in
+    let count : length os ≡ length (txs_of (journal_of n) (open_batch (journal_of n) lane)) =
     sym next'.2 ∙ ap length (same.masks lane ∙ on.stands.masks lane own phase) ∙ length-map (txs_of J (open_batch J lane)) (λ t. mask_of b.header.shape.shards t) in
-    let rooms = others_roomed b c lane same keeps ready.place.rooms in
-    let memory : HasLogRoom l (0 + ahead_of c.lanes) largest = let Q : ℕ → Type 0 = λ n. HasLogRoom l (0 + n) largest in subst Q (sym same.ahead) ready.place.memory in
+    let rooms = others_roomed b c lane same keeps ready.rooms in
+    let memory : HasLogRoom n.log (0 + ahead_of c.lanes) largest = let Q : ℕ → Type 0 = λ k. HasLogRoom n.log (0 + k) largest in subst Q (sym same.ahead) ready.memory in
+    let fits = next_fits c lane (size_of (Commit stamp (core_batch n.core lane) os)) whole (omega (arith, kept, commit_size os, next'.2)) in
     subst P (sym r-is) (record {
-      on = record {
-        header = same.header ∙ on.header;
-        limits = on.limits;
-        stands = stands_same b c J same on.stands;
-        journal = on.journal;
-      };
-      whole = sound;
-      used = ready.used;
-      none_left = ready.none_left;
+      on = stands_on n l c (record { disk = refl; gate = refl; broken = refl }) refl refl same on;
+      whole = unbroken;
       next = next';
       grammar = (
         (some, le),
-        (let Q : Batch → Type 0 = λ x. IsBatchOf l.header.shape x in subst Q (sym (core_batch_is b J lane on.stands own)) batch),
-        node,
+        (let Q : Batch → Type 0 = λ x. IsBatchOf n.log.header.shape x in subst Q (sym (core_batch_is b J lane on.stands own)) batch),
+        on.node.kind,
         ((omega (arith, size.0, count)), (omega (arith, size.1, count))),
         outcomes,
       );
-      size = memory_for l (ahead_of c.lanes) (size_of (Commit stamp (core_batch b lane) os)) (next_ahead c lane whole (omega arith)) (omega (arith, commit_size os, size.1, count, on.limits.batch)) memory;
-      free = omega (arith, ready.place.space, same.kept);
-      fits = omega (arith, ready.place.space, same.kept, next_fits c lane (size_of (Commit stamp (core_batch b lane) os)) whole (omega (arith, kept, commit_size os, next'.2)));
-      needs = omega (arith, ready.used, ready.place.space, same.kept, next_fits c lane (size_of (Commit stamp (core_batch b lane) os)) whole (omega (arith, kept, commit_size os, next'.2)));
-      place = λ d takes. commit_place l c d stamp (core_batch b lane) os whole next' takes rooms (omega (arith, ready.place.space, same.kept)) (all_memory l (ahead_of c.lanes) memory);
+      size = memory_for l (ahead_of c.lanes) (size_of (Commit stamp (core_batch n.core lane) os)) (next_ahead c lane whole (omega arith)) (omega (arith, commit_size os, size.1, count, on.node.limits.batch)) memory;
+      needs = omega (arith, on.free, same.kept, fits);
+      place = λ d takes. commit_place l c d stamp (core_batch n.core lane) os whole next' takes rooms (omega (arith, ready.space, same.kept)) (all_memory l (ahead_of c.lanes) memory);
     })
 
 -- the outcomes that were told are those of the record

@@ -16,7 +16,7 @@ use Rattle.cbdc_model.specs.After.{IsJournal}
 use Rattle.cbdc_model.specs.Next.{next_stamp}
 use Rattle.cbdc_model.specs.Due.{Due, Answers, Writes, last_early, if_room, used_of, new_batch, prepare_due, prepare_record}
 use Rattle.cbdc_model.specs.Room.{size_of, compact_size, room_behind_prepare, kept_room, need_of}
-use Rattle.cbdc_model.specs.Sights.{Sight, Stays, MeetsFault, IsBrokenSince}
+use Rattle.cbdc_model.specs.Sights.{Sight, Stays, MeetsFault}
 use Rattle.record_log.specs.Logs.{HasLogRoom, KeepsRoom, IsUntouched}
 use Rattle.record_log.specs.declared.log.RecordLog.{RecordLog}
 use Rattle.node_journal.specs.Nodes.{broken_behind}
@@ -24,47 +24,26 @@ use Rattle.coord_core.specs.Hashes.{AreHashed}
 use Rattle.coord_core.specs.Lanes.{CoordOf, IsCoordWhole, IsOwnLane, CoordAdmits, IsSameButRoom, HasNoLessRoom, no_lane, coord_lane, kept_of, ahead_of, next_core_batch}
 use Rattle.coord_core.specs.Stands.{CoordStands}
 use Rattle.coord_log.specs.Logs.{HasShortLists}
-use Rattle.coord_log.specs.Inside.{largest, IsCoordReady, StandsOn, IsCoordSound, IsDue, IsNoRoom}
+use Rattle.node_journal.specs.declared.nodes.Node.{Node}
+use Rattle.coord_log.specs.Inside.{largest, StandsOn, IsCoordSound, IsDue, IsNoRoom}
 use Rattle.coord_core.proofs.Rooms.{rooms_grow}
 use Rattle.coord_core.proofs.Same.{stands_same}
 use Rattle.coord_log.proofs.Places.{prepare_place, room_for_fewer}
 use Rattle.coord_core.proofs.Kept.{kept_is}
 use Rattle.coord_log.proofs.Owed.{in_time}
+use Rattle.coord_log.proofs.Written.{stands_on}
 
 -- more room, and nothing else
-pub stands_on : {D : Type 0} {G : Ghosts D} (old new : RecordLog D G) (b c : CoordOf) → new.records.items ≡ old.records.items → new.header ≡ old.header → IsSameButRoom b c → StandsOn old b → StandsOn new c
-stands_on old new b c records header same on = record {
-  header = same.header ∙ on.header ∙ sym header;
-  limits = rw header on.limits;
-  stands = rw records (stands_same b c (reverse old.records.items) same on.stands);
-  journal = rw (header, records) on.journal;
+pub sound_kept : {D : Type 0} {G : Ghosts D} (n : Node CoordOf D G) (l : RecordLog D G) (c : CoordOf) → IsUntouched n.log l → l.records.items ≡ n.log.records.items → l.header ≡ n.log.header
+    → KeepsRoom n.log l → IsSameButRoom n.core c → HasNoLessRoom n.core c → IsCoordSound n → IsCoordSound {D = D} {G = G} (record { log = l; core = c; opened = n.opened; flight = n.flight })
+sound_kept {D} {G} n l c untouched records header keeps same grown sound = record {
+  on = stands_on n l c untouched records header same sound.on;
+  ready = λ e. (let ready = sound.ready (sym untouched.broken ∙ e) in record {
+    space = omega (arith, untouched.gate, ready.space, same.kept, ap G.limit untouched.disk);
+    rooms = rooms_grow n.core c same grown ready.rooms;
+    memory = let P : ℕ → Type 0 = λ k. HasLogRoom l (0 + k) largest in subst P (sym same.ahead) (keeps (0 + ahead_of n.core.lanes) largest ready.memory);
+  });
 }
-
-pub sound_kept : {D : Type 0} {G : Ghosts D} (old new : RecordLog D G) (b c : CoordOf) (opened : ℕ) (flight : Option Record) → IsUntouched old new → new.records.items ≡ old.records.items → new.header ≡ old.header
-    → KeepsRoom old new → IsSameButRoom b c → HasNoLessRoom b c → IsCoordSound old b opened flight → IsCoordSound new c opened flight
-sound_kept {D} {G} old new b c opened flight untouched records header keeps same grown sound =
-    let count : G.count (disk_of new.journal) ≡ G.count (disk_of old.journal) = ap G.count untouched.disk in
-    let limit : G.limit (disk_of new.journal) ≡ G.limit (disk_of old.journal) = ap G.limit untouched.disk in
-    let B : ℕ → Option ℕ → Type 0 = λ n x. IsBrokenSince opened n x in
-    let used : used_of (reverse new.records.items) ≡ used_of (reverse old.records.items) = ap (λ x. used_of (reverse x)) records in
-    record {
-      on = stands_on old new b c records header same sound.on;
-      since_opened = omega (arith, sound.since_opened, count);
-      broken = let P : ℕ → Type 0 = λ n. B n (broken_of new.journal) in subst P (sym count) (let Q : Option ℕ → Type 0 = λ x. B (G.count (disk_of old.journal)) x in subst Q (sym untouched.broken) sound.broken);
-      ready = λ e. (let ready = sound.ready (sym untouched.broken ∙ e) in record {
-        used = omega (arith, untouched.gate, ready.used, used);
-        none_left = ready.none_left;
-        place = record {
-          space = omega (arith, untouched.gate, ready.place.space, same.kept, limit);
-          rooms = rooms_grow b c same grown ready.place.rooms;
-          memory = let P : ℕ → Type 0 = λ n. HasLogRoom new (0 + n) largest in subst P (sym same.ahead) (keeps (0 + ahead_of b.lanes) largest ready.place.memory);
-        };
-      });
-      flying = rw (header, records) sound.flying;
-      unbroken = λ e. untouched.broken ∙ sound.unbroken e;
-      fits = rw (header, records, limit) sound.fits;
-      free = omega (arith, sound.free, used, same.kept, limit);
-    }
 
 -- there was no room
 pub room_refused : {A : Type 0} (due : Due A) (old new : Sight) (J : List Record) (used need limit : ℕ) (fault : NodeFault) → IsNoRoom used need limit fault
@@ -116,37 +95,35 @@ prepare_grammar h c lane txs whole is own early some limit short hashed =
       }),
     )
 
-pub prepare_ready : {D : Type 0} {G : Ghosts D} (old l : RecordLog D G) (b c : CoordOf) (flight : Option Record) (lane size : ℕ) (txs : List Compact) (r : Record)
-    → IsCoordWhole c → IsSameButRoom b c → HasNoLessRoom b c → StandsOn old b → broken_of old.journal ≡ None → IsCoordReady old b flight → IsUntouched old l → l.records.items ≡ old.records.items → l.header ≡ old.header
-    → IsOwnLane b.header lane → 1 ≤ length txs → length txs ≤ b.header.shape.batch → All HasShortLists txs → All AreHashed txs → b.last + 1 ≤ last_early
-    → r ≡ Prepare (b.last + 1) (next_core_batch b lane) txs → CoordAdmits c r → size ≡ size_of r → HasLogRoom l (ahead_of c.lanes + 4) size → HasLogRoom l (ahead_of c.lanes + 4) largest
-    → gate_of old.journal + 1 + (size + room_behind_prepare (length txs) + kept_of c.lanes) ≤ G.limit (disk_of old.journal) → IsDue l c flight r
-prepare_ready {D} {G} old l b c flight lane size txs r whole same grown on sound ready untouched records header own some limit short hashed early r-is next size-is room memory space =
-    let on' : StandsOn l c = stands_on old l b c records header same on in
-    let limits : G.limit (disk_of l.journal) ≡ G.limit (disk_of old.journal) = ap G.limit untouched.disk in
-    let batch : next_core_batch c lane ≡ next_core_batch b lane = ap (λ s. record { lane = lane; number = s.number + 1 }) (same.slots lane) in
-    let is : r ≡ Prepare (c.last + 1) (next_core_batch c lane) txs = r-is ∙ ap (λ x. Prepare (x + 1) (next_core_batch b lane) txs) (sym same.last) ∙ ap (λ x. Prepare (c.last + 1) x txs) (sym batch) in
-    let P : Record → Type 0 = λ x. IsDue l c flight x in
+pub prepare_ready : {D : Type 0} {G : Ghosts D} (n : Node CoordOf D G) (l : RecordLog D G) (c : CoordOf) (lane size : ℕ) (txs : List Compact) (r : Record)
+    → IsCoordWhole c → IsSameButRoom n.core c → HasNoLessRoom n.core c → IsCoordSound n → broken_of n.log.journal ≡ None → IsUntouched n.log l → l.records.items ≡ n.log.records.items → l.header ≡ n.log.header
+    → IsOwnLane n.core.header lane → 1 ≤ length txs → length txs ≤ n.core.header.shape.batch → All HasShortLists txs → All AreHashed txs → n.core.last + 1 ≤ last_early
+    → r ≡ Prepare (n.core.last + 1) (next_core_batch n.core lane) txs → CoordAdmits c r → size ≡ size_of r → HasLogRoom l (ahead_of c.lanes + 4) size → HasLogRoom l (ahead_of c.lanes + 4) largest
+    → gate_of n.log.journal + 1 + (size + room_behind_prepare (length txs) + kept_of c.lanes) ≤ G.limit (disk_of n.log.journal) → IsDue {D = D} {G = G} (record { log = l; core = c; opened = n.opened; flight = n.flight }) r
+prepare_ready {D} {G} n l c lane size txs r whole same grown sound unbroken untouched records header own some limit short hashed early r-is next size-is room memory space =
+    let b : CoordOf = n.core in
+    let J : List Record = reverse l.records.items in
+    let on : StandsOn {D = D} {G = G} (record { log = l; core = c; opened = n.opened; flight = n.flight }) = stands_on n l c untouched records header same sound.on in
+    let limits : G.limit (disk_of l.journal) ≡ G.limit (disk_of n.log.journal) = ap G.limit untouched.disk in
+    let batch : next_core_batch c lane ≡ next_core_batch n.core lane = ap (λ s. record { lane = lane; number = s.number + 1 }) (same.slots lane) in
+    let is : r ≡ Prepare (c.last + 1) (next_core_batch c lane) txs = r-is ∙ ap (λ x. Prepare (x + 1) (next_core_batch n.core lane) txs) (sym same.last) ∙ ap (λ x. Prepare (c.last + 1) x txs) (sym batch) in
+    let P : Record → Type 0 = λ x. IsDue {D = D} {G = G} (record { log = l; core = c; opened = n.opened; flight = n.flight }) x in
     let next' : CoordAdmits c (Prepare (c.last + 1) (next_core_batch c lane) txs) = let Q : Record → Type 0 = λ x. CoordAdmits c x in subst Q is next in
     let own' : IsOwnLane c.header lane = let Q : Header → Type 0 = λ h. IsOwnLane h lane in subst Q (sym same.header) own in
-    let batch_le : length txs ≤ l.header.shape.batch = let Q : Header → Type 0 = λ h. length txs ≤ h.shape.batch in subst Q (on.header ∙ sym header) limit in
+    let batch_le : length txs ≤ l.header.shape.batch = let Q : Header → Type 0 = λ h. length txs ≤ h.shape.batch in subst Q (sound.on.header ∙ sym header) limit in
     let s : size ≡ size_of (Prepare (c.last + 1) (next_core_batch c lane) txs) = size-is ∙ ap size_of is in
-    let used : used_of (reverse l.records.items) ≡ used_of (reverse old.records.items) = ap (λ x. used_of (reverse x)) records in
-    let there : IsJournal c.header (reverse l.records.items) = let Q : Header → Type 0 = λ h. IsJournal h (reverse l.records.items) in subst Q (sym on'.header) on'.journal in
-    let kept : kept_of c.lanes ≡ kept_room l.header.shape (reverse l.records.items) = kept_is c (reverse l.records.items) whole on'.stands there ∙ ap (λ h. kept_room h.shape (reverse l.records.items)) on'.header in
-    let room' : HasLogRoom l 1 (size_of (Prepare (c.last + 1) (next_core_batch c lane) txs)) = let Q : ℕ → Type 0 = λ n. HasLogRoom l 1 n in subst Q s (room_for_fewer l (ahead_of c.lanes + 4) 1 size (omega arith) room) in
+    let used : gate_of n.log.journal + 1 ≡ used_of (reverse l.records.items) = sound.on.node.used unbroken ∙ ap (λ x. used_of (reverse x)) (sym records) in
+    let there : IsJournal c.header (reverse l.records.items) = let Q : Header → Type 0 = λ h. IsJournal h (reverse l.records.items) in subst Q (sym on.header) on.node.journal in
+    let kept : kept_of c.lanes ≡ kept_room l.header.shape (reverse l.records.items) = kept_is c J whole on.stands there ∙ ap (λ h. kept_room h.shape (reverse l.records.items)) on.header in
+    let room' : HasLogRoom l 1 (size_of (Prepare (c.last + 1) (next_core_batch c lane) txs)) = let Q : ℕ → Type 0 = λ k. HasLogRoom l 1 k in subst Q s (room_for_fewer l (ahead_of c.lanes + 4) 1 size (omega arith) room) in
     subst P (sym is) (record {
-      on = on';
-      whole = untouched.broken ∙ sound;
-      used = omega (arith, untouched.gate, ready.used, used);
-      none_left = ready.none_left;
+      on = on;
+      whole = untouched.broken ∙ unbroken;
       next = next';
-      grammar = prepare_grammar l.header c lane txs whole on'.header own' (omega (arith, early, same.last)) some batch_le short hashed;
+      grammar = prepare_grammar l.header c lane txs whole on.header own' (omega (arith, early, same.last)) some batch_le short hashed;
       size = room';
-      free = omega (arith, untouched.gate, limits, space);
-      fits = omega (arith, untouched.gate, limits, space, s);
-      needs = omega (arith, ready.used, used, limits, space, s, kept);
-      place = λ d takes. prepare_place l c d (c.last + 1) (next_core_batch c lane) txs whole next' takes (rooms_grow b c same grown ready.place.rooms) memory (omega (arith, untouched.gate, limits, space, s));
+      needs = omega (arith, used, limits, space, s, kept);
+      place = λ d takes. prepare_place l c d (c.last + 1) (next_core_batch c lane) txs whole next' takes (rooms_grow b c same grown (sound.ready unbroken).rooms) memory (omega (arith, untouched.gate, limits, space, s));
     })
 
 -- what the lanes say of the Prepare is what the journal says

@@ -1,100 +1,84 @@
--- What a write leaves of a coordinator's parts.
-use Rattle.std.proofs.Common.{◌≡◌, ℕ, ◌+◌, ◌≤◌, List, ◌∷◌, length, reverse, ap, sym, ◌∙◌, subst, arith, Some, None, Option}
-use Rattle.std.specs.Prelude.{IfSome, sum_by}
+-- What a write leaves of a coordinator's parts, and what the memory does that is taken before it.
+use Rattle.std.proofs.Common.{◌≡◌, ℕ, ◌+◌, List, ◌∷◌, length, reverse, ap, sym, ◌∙◌, subst, arith}
+use Rattle.std.specs.Prelude.{sum_by}
 use Rattle.std.proofs.lemmas.List.Sums.{sum_by-cons}
 use Rattle.outside.specs.declared.disk.Disk.{Ghosts}
-use Rattle.gate_journal.specs.Shown.{disk_of, gate_of}
-use Rattle.cbdc_types.specs.Limits.{IsWithinLimits}
+use Rattle.gate_journal.specs.Shown.{disk_of, broken_of}
 use Rattle.cbdc_model.specs.Records.{Header, Record}
-use Rattle.cbdc_model.specs.After.{After, Follows, IsJournal}
+use Rattle.cbdc_model.specs.After.{After, Follows}
 use Rattle.cbdc_model.specs.Due.{used_of}
-use Rattle.cbdc_model.specs.Room.{size_of, need_of}
-use Rattle.cbdc_model.specs.Sights.{HasRisen, IsBrokenSince}
+use Rattle.cbdc_model.specs.Room.{size_of}
+use Rattle.record_grammar.specs.Kinds.{IsCoord}
 use Rattle.record_log.specs.Bodies.{body_of}
 use Rattle.record_log.proofs.LogSizes.{size_is}
-use Rattle.record_log.specs.Logs.{HasLogRoom}
+use Rattle.record_log.specs.Logs.{HasLogRoom, IsUntouched}
 use Rattle.record_log.specs.declared.log.RecordLog.{RecordLog}
-use Rattle.coord_core.specs.Lanes.{CoordOf, ahead_of}
+use Rattle.coord_core.specs.Lanes.{CoordOf, IsSameButRoom, kept_of, ahead_of}
 use Rattle.coord_core.specs.Stands.{CoordStands, CoordHasTaken}
 use Rattle.coord_core.proofs.Journals.{follows_next}
-use Rattle.coord_core.proofs.Same.{takes_header}
+use Rattle.coord_core.proofs.Same.{stands_same}
+use Rattle.node_journal.specs.Sound.{IsNode, journal_of}
 use Rattle.node_journal.specs.Writing.{HasKept, HasBroken}
-use Rattle.node_journal.proofs.Journals.{journal_goes_on}
+use Rattle.node_journal.specs.declared.nodes.Node.{Node}
 use Rattle.node_journal.proofs.Behind.{pushed}
-use Rattle.coord_log.specs.Inside.{largest, HasPlace, IsCoordSound, IsDue}
+use Rattle.node_journal.proofs.Sound.{reserved, none_some}
+use Rattle.coord_log.specs.Inside.{largest, HasPlace, StandsOn, IsCoordSound, IsDue}
 
 module _ {D : Type 0} {G : Ghosts D} where
-  -- memory and room for the record itself
-  pub own_memory : (l : RecordLog D G) (c : CoordOf) (flight : Option Record) (r : Record) → IsDue l c flight r → HasLogRoom l 1 (length (body_of r))
-  own_memory l c flight r due =
-      let size = size_is l.header r due.on.limits due.grammar in
+  -- memory for the record itself
+  pub own_memory : (n : Node CoordOf D G) (r : Record) → IsDue n r → HasLogRoom n.log 1 (length (body_of r))
+  own_memory n r due =
+      let size = size_is n.log.header r due.on.node.limits due.grammar in
       record { records = due.size.records; body = omega (arith, due.size.body, size); row = omega (arith, due.size.row, size) }
 
-  pub own_room : (l : RecordLog D G) (c : CoordOf) (flight : Option Record) (r : Record) → IsDue l c flight r → gate_of l.journal + 1 + (9 + length (body_of r)) ≤ G.limit (disk_of l.journal)
-  own_room l c flight r due = omega (arith, size_is l.header r due.on.limits due.grammar, due.fits)
-
   -- it is next
-  due_after : (l : RecordLog D G) (c : CoordOf) (flight : Option Record) (r : Record) → IsDue l c flight r → After l.header (reverse l.records.items) r
-  due_after l c flight r due =
-      let F : Header → Type 0 = λ h. Follows h (reverse l.records.items) r in
-      (due.grammar, subst F due.on.header (follows_next c (reverse l.records.items) r due.on.stands due.next))
+  pub due_after : (n : Node CoordOf D G) (r : Record) → IsDue n r → After n.log.header (journal_of n) r
+  due_after n r due =
+      let F : Header → Type 0 = λ h. Follows h (journal_of n) r in
+      (due.grammar, subst F due.on.header (follows_next n.core (journal_of n) r due.on.stands due.next))
 
   -- the record was written
-  pub sound_after : (old new : RecordLog D G) (c d : CoordOf) (flight landed : Option Record) (r : Record) (opened : ℕ)
-      → IsDue old c flight r → opened ≤ G.count (disk_of old.journal) → HasKept old new r → landed ≡ None → CoordHasTaken c d r → IsCoordSound new d opened landed
-  sound_after old new c d flight landed r opened due since kept none taken =
-      let P : List Record = reverse old.records.items in
-      let J : reverse new.records.items ≡ r ∷ P = pushed old new r kept in
-      let size : 9 + length (body_of r) ≡ size_of r = size_is old.header r due.on.limits due.grammar in
-      let place : HasPlace old d (size_of r) 1 = due.place d taken.taken in
-      let sums : sum_by size_of (r ∷ P) ≡ size_of r + sum_by size_of P = sum_by-cons size_of r P in
-      let u : used_of (reverse new.records.items) ≡ gate_of new.journal + 1 = ap used_of J ∙ omega (arith, sums, due.used, kept.gate, size) in
-      let memory : HasLogRoom new (ahead_of d.lanes) largest =
-      kept.room (ahead_of d.lanes) largest (let M : ℕ → Type 0 = λ n. HasLogRoom old n largest in subst M (omega arith) place.memory) in
+  pub sound_after : (old new : Node CoordOf D G) (r : Record) → IsDue old r → IsNode IsCoord new → HasKept old.log new.log r → CoordHasTaken old.core new.core r → new.core.header ≡ old.core.header → IsCoordSound new
+  sound_after old new r due is kept taken same =
+      let J : journal_of new ≡ r ∷ journal_of old = pushed old.log new.log r kept in
+      let size : 9 + length (body_of r) ≡ size_of r = size_is old.log.header r due.on.node.limits due.grammar in
+      let place : HasPlace old.log new.core (size_of r) 1 = due.place new.core taken.taken in
+      let sums : sum_by size_of (r ∷ journal_of old) ≡ size_of r + sum_by size_of (journal_of old) = sum_by-cons size_of r (journal_of old) in
+      let M : ℕ → Type 0 = λ n. HasLogRoom old.log n largest in
       record {
         on = record {
-          header = takes_header c d r taken.taken ∙ due.on.header ∙ sym kept.header;
-          limits = let L : Header → Type 0 = λ h. IsWithinLimits h.shape in subst L (sym kept.header) due.on.limits;
-          stands = let S : List Record → Type 0 = λ x. CoordStands d x in subst S (sym J) (taken.stands P due.on.stands);
-          journal = let I : Header → List Record → Type 0 = λ h x. IsJournal h x in rw (kept.header, J) (journal_goes_on old.header P r due.on.journal (due_after old c flight r due));
+          node = is;
+          header = same ∙ due.on.header ∙ sym kept.header;
+          stands = let S : List Record → Type 0 = λ x. CoordStands new.core x in subst S (sym J) (taken.stands (journal_of old) due.on.stands);
+          free = omega (arith, ap used_of J, sums, due.on.node.used due.whole, place.space, kept.limit);
         };
-        since_opened = omega (arith, since, kept.later);
-        broken = let B : Option ℕ → Type 0 = λ b. IsBrokenSince opened (G.count (disk_of new.journal)) b in subst B (sym kept.broken) tt;
         ready = λ e. record {
-          used = sym u;
-          none_left = none;
-          place = record {
-            space = omega (arith, place.space, kept.gate, kept.limit, size);
-            rooms = place.rooms;
-            memory = let M : ℕ → Type 0 = λ n. HasLogRoom new n largest in subst M (omega arith) memory;
-          };
+          space = omega (arith, place.space, kept.gate, kept.limit, size);
+          rooms = place.rooms;
+          memory = kept.room (0 + ahead_of new.core.lanes) largest (subst M (omega arith) place.memory);
         };
-        flying = let F : Option Record → Type 0 = λ f. IfSome f (After new.header (reverse new.records.items)) in subst F (sym none) tt;
-        unbroken = λ e. kept.broken;
-        fits = let F : Option Record → Type 0 = λ f. IfSome f (λ q. used_of (reverse new.records.items) + need_of new.header.shape (reverse new.records.items) q ≤ G.limit (disk_of new.journal)) in subst F (sym none) tt;
-        free = omega (arith, u, kept.gate, size, place.space, kept.limit);
       }
 
   -- the disk failed at it
-  pub sound_broken : (old new : RecordLog D G) (c d : CoordOf) (flight landed : Option Record) (r : Record) (opened : ℕ)
-      → IsDue old c flight r → opened ≤ G.count (disk_of old.journal) → HasBroken old new → landed ≡ Some r → d ≡ c → IsCoordSound new d opened landed
-  sound_broken old new c d flight landed r opened due since failed is same =
-      let risen : HasRisen opened (G.count (disk_of new.journal)) = omega (arith, since, failed.rose, failed.later) in
-      let B : Option ℕ → Type 0 = λ b. IsBrokenSince opened (G.count (disk_of new.journal)) b in
-      let S : CoordOf → Option Record → Type 0 = λ x f. IsCoordSound new x opened f in
-      let sound : IsCoordSound new c opened (Some r) = record {
+  pub sound_broken : (old new : Node CoordOf D G) (r : Record) → IsDue old r → IsNode IsCoord new → HasBroken old.log new.log → new.core ≡ old.core → IsCoordSound new
+  sound_broken old new r due is failed same =
+      let J : journal_of new ≡ journal_of old = ap reverse failed.records in
+      record {
         on = record {
-          header = due.on.header ∙ sym failed.header;
-          limits = let L : Header → Type 0 = λ h. IsWithinLimits h.shape in subst L (sym failed.header) due.on.limits;
-          stands = let P : List Record → Type 0 = λ x. CoordStands c (reverse x) in subst P (sym failed.records) due.on.stands;
-          journal = rw (failed.header, failed.records) due.on.journal;
+          node = is;
+          header = ap (λ c. c.header) same ∙ due.on.header ∙ sym failed.header;
+          stands = subst (λ d. CoordStands d (journal_of new)) (sym same) (subst (λ x. CoordStands old.core x) (sym J) due.on.stands);
+          free = omega (arith, ap used_of J, ap (λ c. kept_of c.lanes) same, due.on.free, failed.limit);
         };
-        since_opened = omega (arith, since, failed.later);
-        broken = subst B (sym failed.broken) (risen, omega arith);
-        ready = λ e. absurd (let z : Some (G.count (disk_of new.journal)) ≡ None = sym failed.broken ∙ e in cc);
-        flying = let F : Header → List Record → Type 0 = λ h x. After h x r in rw (failed.header, failed.records) (due_after old c flight r due);
-        unbroken = λ e. absurd (let z : Some r ≡ None = e in cc);
-        fits = rw (failed.header, failed.records, failed.limit) due.needs;
-        free = omega (arith, ap (λ x. used_of (reverse x)) failed.records, due.used, due.free, failed.limit);
-      } in
-      rw (same, is) sound
+        ready = λ e. none_some (G.count (disk_of new.log.journal)) (broken_of new.log.journal) failed.broken e;
+      }
+
+  -- more room, and nothing else
+  pub stands_on : (n : Node CoordOf D G) (l : RecordLog D G) (c : CoordOf) → IsUntouched n.log l → l.records.items ≡ n.log.records.items → l.header ≡ n.log.header → IsSameButRoom n.core c → StandsOn n
+      → StandsOn {D = D} {G = G} (record { log = l; core = c; opened = n.opened; flight = n.flight })
+  stands_on n l c untouched records header same on = record {
+    node = reserved IsCoord n l c on.node untouched records header;
+    header = same.header ∙ on.header ∙ sym header;
+    stands = subst (λ x. CoordStands c (reverse x)) (sym records) (stands_same n.core c (journal_of n) same on.stands);
+    free = omega (arith, on.free, ap (λ x. used_of (reverse x)) records, same.kept, ap G.limit untouched.disk);
+  }

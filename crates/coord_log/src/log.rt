@@ -1,13 +1,10 @@
 // The calls at a coordinator.
-ghost use Rattle.std.specs.Prelude.{◌≡◌, ◌≢◌, ◌⊎◌, ◌↔◌, IsTrue, IsSome, ◌+◌, ◌≤◌, ◌<◌, ◌^◌, ◌∷◌, [], List, ℕ, Option, None, Some, true, false, suc, max, length, reverse, vec_capacity, All, OnOk, OnErr, IfOk, IfErr, IfSome, IsErrOf};
-ghost use Rattle.outside.specs.Counts.{Rose};
-ghost use Rattle.gate_journal.specs.Shown.{disk_of, broken_of};
-ghost use Rattle.cbdc_model.specs.Records.{Record, Prepare, Commit, Discard, Done, is_in_lane, last_stamp, txs_of};
+ghost use Rattle.std.specs.Prelude.{◌≡◌, ◌⊎◌, ◌↔◌, IsTrue, IsSome, ◌+◌, ◌≤◌, ◌<◌, ◌^◌, ◌∷◌, None, Some, true, false, length, reverse, vec_capacity, All, OnOk, OnErr, IfOk, IfErr, IfSome};
+ghost use Rattle.cbdc_model.specs.Records.{Record, Prepare, Commit, Discard, Done, is_in_lane, txs_of};
 ghost use Rattle.cbdc_model.specs.After.{After, IsJournal};
 ghost use Rattle.cbdc_model.specs.Slots.{slot, Idle, InPrepare, InCommit, InDiscard};
-ghost use Rattle.cbdc_model.specs.Room.{kept_room, need_of};
-ghost use Rattle.cbdc_model.specs.Due.{used_of, open_batch, prepare_due, decide_due, discard_due, done_due};
-ghost use Rattle.cbdc_model.specs.Sights.{Meets, MeetsFault, IsBrokenSince};
+ghost use Rattle.cbdc_model.specs.Due.{open_batch, prepare_due, decide_due, discard_due, done_due};
+ghost use Rattle.cbdc_model.specs.Sights.{Meets, MeetsFault};
 ghost use Rattle.coord_core.specs.Phases.{slot_of};
 ghost use Rattle.coord_core.specs.Hashes.{AllNameBatches};
 ghost use Rattle.coord_core.specs.Decided.{ShardsRise, StampsBelow, AreRepliesTo};
@@ -15,16 +12,18 @@ ghost use Rattle.coord_core.specs.Lanes.{IsOwnLane};
 ghost use Rattle.coord_log.specs.Logs.{HasShortLists, commit_due};
 ghost use Rattle.node_journal.specs.Nodes.{sight};
 ghost use Rattle.node_journal.specs.Answered.{KeepsNode, HasAnswered};
+ghost use Rattle.node_journal.specs.Sound.{IsSoundNode};
 ghost use Rattle.coord_log.specs.OpenLanes.{open_lane};
 
 use crate::copying::{outcomes_of, stamp_of, tell, txs_of};
-use crate::writing::{make_room, write};
+use crate::writing::{make_room, write_due};
 use cbdc_types::{
     BatchId, CompactTx, Header, LaneId, NodeFault, OpenLane, Outcome, Phase, Record, Replies, Stamp,
 };
 use coord_core::{CoordCore, LanePhase};
+use node_journal::Node;
 use outside::Disk;
-use record_log::{RecordLog, size_of_record};
+use record_log::size_of_record;
 use std::alloc::{AllocError, Global};
 use std::marker::Model;
 
@@ -38,57 +37,41 @@ const LAST_STAMP: u64 = (1 << 62) + (1 << 20);
 #[derive(Drop)]
 pub struct CoordLog<D: Disk> {
     alloc: Global,
-    log: RecordLog<D>,
-    core: CoordCore,
-    opened: u64,
-    flight: Option<Record>,
+    node: Node<CoordCore, D>,
 }
 
 impl<D: Disk> Model for CoordLog<D> {
     ghost use Rattle.node_journal.specs.Nodes.{NodeOf};
-    ghost use Rattle.node_journal.specs.Shown.{shown};
+    ghost use Rattle.node_journal.specs.Sound.{view_of};
     ghost use Rattle.coord_log.specs.Inside.{IsCoordSound};
 
     ghost Value = { NodeOf D };
 
-    ghost view = { λ l. shown l.log l.opened l.flight };
+    ghost view = { λ l. view_of l.node };
 
-    ghost invariant = { λ l. IsCoordSound l.log l.core l.opened l.flight };
+    ghost invariant = { λ l. IsCoordSound l.node };
 }
 
 impl<D: Disk> CoordLog<D> {
-    ghost use Rattle.node_journal.specs.Shown.{shown};
-    ghost use Rattle.coord_log.specs.Inside.{IsCoordSound, IsDue};
+    ghost use Rattle.node_journal.specs.Sound.{view_of};
+    ghost use Rattle.coord_log.specs.Inside.{IsCoordSound};
 
     /// The header of its journal. Takes no memory.
     pub fn header(&self) -> &Header
         ensures header { result.now ≡ self.now.header }
 
-        // Its disk's count has not fallen since it was opened, and has risen if an append has failed since.
-        ensures since_opened { self.now.opened ≤ self.now.faults }
-        ensures since_broken { IsBrokenSince self.now.opened self.now.faults self.now.broken }
-        ensures count { self.now.faults ≡ D.count self.now.disk }
-        ensures capacity { self.now.capacity ≡ D.limit self.now.disk }
-
-        // A record is in flight exactly where an append has failed since, and it had room.
-        ensures landed { self.now.broken ≡ None → self.now.flight ≡ None }
-        ensures unbroken { self.now.flight ≡ None → self.now.broken ≡ None }
-        ensures fits { IfSome self.now.flight (λ r.
-            used_of self.now.journal + need_of self.now.header.shape self.now.journal r ≤ self.now.capacity) }
-
-        // What its journal takes, with what is kept for its open batches, lies within the capacity.
-        ensures room { used_of self.now.journal + kept_room self.now.header.shape self.now.journal
-            ≤ self.now.capacity }
+        // Its count of faults, what is in flight and the room of its journal are sound.
+        ensures sound { IsSoundNode D.Disk self.now }
     {
-        let _core = self.core.header();
-        &self.log.header
+        let _core = self.node.core.header();
+        &self.node.log.header
     }
 
     /// Whether an append has failed since it was opened: its record is in flight. Takes no memory.
     pub fn is_broken(&self) -> bool
         ensures { IsTrue result ↔ IsSome self.now.flight }
     {
-        self.flight.is_some()
+        self.node.flight.is_some()
     }
 
     /// Its records, the newest last. Takes no memory.
@@ -99,20 +82,20 @@ impl<D: Disk> CoordLog<D> {
         // A record in flight may come next.
         ensures flying { IfSome self.now.flight (After self.now.header self.now.journal) }
     {
-        self.log.records.as_slice()
+        self.node.log.records.as_slice()
     }
 
     /// Gives the disk back. Takes no memory.
     pub fn into_disk(self) -> D
         ensures { result ≡ self.disk }
     {
-        let CoordLog {
-            alloc: _,
+        let CoordLog { alloc: _, node } = self;
+        let Node {
             log,
             core: _,
             opened: _,
             flight: _,
-        } = self;
+        } = node;
         log.into_disk()
     }
 
@@ -120,7 +103,7 @@ impl<D: Disk> CoordLog<D> {
     pub fn phase(&self, lane: LaneId) -> LanePhase
         ensures { slot_of result ≡ slot self.now.journal lane }
     {
-        self.core.phase(lane)
+        self.node.core.phase(lane)
     }
 
     /// Begins a batch of 1 to `batch` transactions on an idle lane of this coordinator. The room and the memory for
@@ -143,11 +126,11 @@ impl<D: Disk> CoordLog<D> {
             (prepare_due self.old.header.shape self.old.capacity lane txs.now
             self.old.broken self.old.journal) self.old self.new result }
     {
-        match self.log.is_broken() {
+        match self.node.log.is_broken() {
             Some(since) => return Err(NodeFault::Broken { since }),
             None => {}
         }
-        let Ok(next) = self.core.prepare(lane, txs) else {
+        let Ok(next) = self.node.core.prepare(lane, txs) else {
             return Err(NodeFault::Memory);
         };
         let Record::Prepare { stamp, batch, .. } = &next else {
@@ -158,11 +141,16 @@ impl<D: Disk> CoordLog<D> {
         if stamp.0 > LAST_PREPARE {
             return Err(NodeFault::ClockEnd { stamp });
         }
-        match make_room(&mut self.log, &self.core, size_of_record(&next), txs.len()) {
+        match make_room(
+            &mut self.node.log,
+            &self.node.core,
+            size_of_record(&next),
+            txs.len(),
+        ) {
             Ok(()) => {}
             Err(fault) => return Err(fault),
         }
-        match write(&mut self.log, &mut self.core, &mut self.flight, next) {
+        match write_due(&mut self.node, next) {
             Ok(()) => {}
             Err(fault) => return Err(fault),
         }
@@ -207,17 +195,17 @@ impl<D: Disk> CoordLog<D> {
             ≡ length (txs_of self.old.journal (open_batch self.old.journal lane))) }
         ensures keeps { KeepsNode D.Disk self.old self.new result }
     {
-        match self.log.is_broken() {
+        match self.node.log.is_broken() {
             Some(since) => return Err(NodeFault::Broken { since }),
             None => {}
         }
-        let stamp = self.core.commit_stamp(replies);
+        let stamp = self.node.core.commit_stamp(replies);
         if stamp.0 > LAST_STAMP {
             return Err(NodeFault::ClockEnd { stamp });
         }
-        let next = self.core.decide(lane, replies);
+        let next = self.node.core.decide(lane, replies);
         tell(&next, out);
-        match write(&mut self.log, &mut self.core, &mut self.flight, next) {
+        match write_due(&mut self.node, next) {
             Ok(()) => {}
             Err(fault) => return Err(fault),
         }
@@ -236,16 +224,16 @@ impl<D: Disk> CoordLog<D> {
             (discard_due lane cause self.old.broken self.old.journal)
             self.old self.new result }
     {
-        match self.log.is_broken() {
+        match self.node.log.is_broken() {
             Some(since) => return Err(NodeFault::Broken { since }),
             None => {}
         }
-        let stamp = self.core.after(cause);
+        let stamp = self.node.core.after(cause);
         if stamp.0 > LAST_STAMP {
             return Err(NodeFault::ClockEnd { stamp });
         }
-        let next = self.core.discard(lane, cause);
-        match write(&mut self.log, &mut self.core, &mut self.flight, next) {
+        let next = self.node.core.discard(lane, cause);
+        match write_due(&mut self.node, next) {
             Ok(()) => {}
             Err(fault) => return Err(fault),
         }
@@ -264,16 +252,16 @@ impl<D: Disk> CoordLog<D> {
             (done_due lane cause self.old.broken self.old.journal)
             self.old self.new result }
     {
-        match self.log.is_broken() {
+        match self.node.log.is_broken() {
             Some(since) => return Err(NodeFault::Broken { since }),
             None => {}
         }
-        let stamp = self.core.after(cause);
+        let stamp = self.node.core.after(cause);
         if stamp.0 > LAST_STAMP {
             return Err(NodeFault::ClockEnd { stamp });
         }
-        let next = self.core.done(lane, cause);
-        match write(&mut self.log, &mut self.core, &mut self.flight, next) {
+        let next = self.node.core.done(lane, cause);
+        match write_due(&mut self.node, next) {
             Ok(()) => {}
             Err(fault) => return Err(fault),
         }
@@ -291,7 +279,7 @@ impl<D: Disk> CoordLog<D> {
             LanePhase::Discarded(n) => (n, Phase::Discarded),
         };
         let batch = BatchId { lane, number };
-        let records = self.log.records.as_slice();
+        let records = self.node.log.records.as_slice();
         let txs = txs_of(self.alloc, records, &batch)?;
         let outcomes = outcomes_of(self.alloc, records, &batch)?;
         Ok(Some(OpenLane {
@@ -303,18 +291,10 @@ impl<D: Disk> CoordLog<D> {
         }))
     }
 
-    // A coordinator that was opened just now.
-    pub(crate) fn of_parts(alloc: Global, log: RecordLog<D>, core: CoordCore) -> CoordLog<D>
-        requires { IsCoordSound log core (D.count (disk_of log.journal)) None }
-        ensures { result ≡ shown log (D.count (disk_of log.journal)) None }
+    pub(crate) fn of_parts(alloc: Global, node: Node<CoordCore, D>) -> CoordLog<D>
+        requires { IsCoordSound node }
+        ensures { result ≡ view_of node }
     {
-        let opened = log.faults();
-        CoordLog {
-            alloc,
-            log,
-            core,
-            opened,
-            flight: None,
-        }
+        CoordLog { alloc, node }
     }
 }

@@ -12,7 +12,7 @@ use crate::CoordLog;
 use crate::writing::LARGEST_COMMIT;
 use cbdc_types::NodeOpenFault;
 use coord_core::CoordCore;
-use node_journal::{Opened, open_node};
+use node_journal::{Node, open_node};
 use outside::Disk;
 use std::alloc::Global;
 
@@ -20,8 +20,8 @@ impl<D: Disk> CoordLog<D> {
     /// Opens a coordinator's disk. A refusal hands the disk back.
     ///
     /// At Ok the coordinator's journal is that of the disk's bytes, each record after those before it, with nothing in flight, and its bytes with
-    /// those kept for its open batches lie within the capacity; else which refusal it is: no whole first record, a shard's journal, damaged at the
-    /// first open gate with no whole next record, or too full, with its numbers; DiskFault only where the count rose; unless the disk failed, it
+    /// those kept for its open batches lie within the capacity. Else which refusal it is: no whole first record, a shard's journal, damaged at the
+    /// first open gate with no whole next record, or too full, with its numbers; DiskFault only where the count rose. Unless the disk failed, it
     /// reads as before; a crash leaves nothing new.
     ///
     /// Out of memory: the disk comes back as it was read.
@@ -53,12 +53,27 @@ impl<D: Disk> CoordLog<D> {
             (λ l. Leaves D.tells_past D.moment D.images_since D.images disk l.disk (D.images disk))
             (λ e. Leaves D.tells_past D.moment D.images_since D.images disk e.0 (D.images disk)) }
     {
-        let opened: Result<Opened<CoordCore, D>, (D, NodeOpenFault)> = open_node(alloc, disk);
+        let opened: Result<Node<CoordCore, D>, (D, NodeOpenFault)> = open_node(alloc, disk);
         match opened {
-            Ok(Opened { log, core }) => {
+            Ok(
+                Node {
+                    log,
+                    core,
+                    opened,
+                    flight,
+                },
+            ) => {
                 let mut roomy = log;
                 match roomy.reserve(core.records_ahead(), LARGEST_COMMIT) {
-                    Ok(()) => Ok(CoordLog::of_parts(alloc, roomy, core)),
+                    Ok(()) => Ok(CoordLog::of_parts(
+                        alloc,
+                        Node {
+                            log: roomy,
+                            core,
+                            opened,
+                            flight,
+                        },
+                    )),
                     Err(_) => Err((roomy.into_disk(), NodeOpenFault::Memory)),
                 }
             }

@@ -1,16 +1,16 @@
 // Writing a record, and the room for it.
-ghost use Rattle.std.specs.Prelude.{◌≡◌, ◌+◌, ◌*◌, ◌≤◌, ◌<◌, ◌^◌, ◌++◌, ◌∷◌, ℕ, false, length, OnOk, OnErr, IfErr};
+ghost use Rattle.std.specs.Prelude.{◌≡◌, ◌+◌, ◌*◌, ◌≤◌, ◌<◌, ◌^◌, false, OnOk, IfErr};
 ghost use Rattle.gate_journal.specs.Shown.{disk_of, gate_of};
 ghost use Rattle.cbdc_model.specs.Room.{room_behind_prepare};
 ghost use Rattle.coord_core.specs.Lanes.{IsCoordWhole, kept_of, ahead_of};
 ghost use Rattle.record_log.specs.Logs.{HasLogRoom, KeepsRoom, IsUntouched};
 ghost use Rattle.node_journal.specs.Answered.{HasAnswered, one_write};
-ghost use Rattle.node_journal.specs.Shown.{shown};
+ghost use Rattle.node_journal.specs.Sound.{view_of};
 ghost use Rattle.coord_log.specs.Inside.{largest, IsCoordSound, IsDue, IsNoRoom};
 
 use cbdc_types::{NodeFault, Record};
 use coord_core::CoordCore;
-use node_journal::write_next;
+use node_journal::{Node, write};
 use outside::Disk;
 use record_log::RecordLog;
 
@@ -24,19 +24,15 @@ const OUTCOME: u64 = 57;
 pub(crate) const LARGEST_COMMIT: u64 = 58410;
 
 /// Writes a record that has its place, and then takes it in. Where the disk fails, the record is in flight.
-pub(crate) fn write<D: Disk>(
-    log: &mut RecordLog<D>,
-    core: &mut CoordCore,
-    flight: &mut Option<Record>,
+pub(crate) fn write_due<D: Disk>(
+    node: &mut Node<CoordCore, D>,
     next: Record,
 ) -> Result<(), NodeFault>
-    requires { IsDue log.old core.old flight.old next }
-    ensures sound { (opened : ℕ) → opened ≤ D.count (disk_of log.old.journal)
-        → IsCoordSound log.new core.new opened flight.new }
-    ensures answered { (opened : ℕ) → HasAnswered D.Disk false (one_write next)
-        (shown log.old opened flight.old) (shown log.new opened flight.new) result }
+    requires { IsDue node.old next }
+    ensures sound { IsCoordSound node.new }
+    ensures answered { HasAnswered D.Disk false (one_write next) (view_of node.old) (view_of node.new) result }
 {
-    write_next(log, core, flight, next)
+    write(node, next)
 }
 
 /// Takes the room for a Prepare of so many bytes and transactions and for all records that are still to come: on

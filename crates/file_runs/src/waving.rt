@@ -17,16 +17,17 @@ use std::thread::Threads;
 
 /// Runs a wave of idle lanes at the nodes of a ledger, each lane on a thread of its own.
 ///
-/// A wave over a ledger's nodes. Each lane runs what it got, whatever the order in which lanes come to a node: a file's run as the definitions have
-/// it; kept journals stay kept, also at a fault; where no lane stopped, no node has a record in flight where none had one, and each lane that had
-/// done nothing tells the batch and the outcome of each transaction that it prepared newly, in order, one for each, and how many batches these are
-/// (as far as 64 bits count). Journals that are checked stay checked; each lane that stopped has its cause, by the journals at the end: the disk of
-/// a node that it asks (its coordinator, for its next Prepare, where it is idle; else a shard that its open batch concerns, once each lesser one
-/// has its record of the phase, a Lock, a Finish or a Forget, or its coordinator, once all have) has failed since that was opened, or there is no
-/// room, with the numbers, or no stamp at the Prepare of the next piece of what it gets (the lane is idle and has prepared the pieces before it,
-/// and nothing else), or at the first Lock that its prepared batch lacks; where no lane stopped each has prepared all that it gets, cut into pieces
-/// of a batch's size, and nothing else; and whatever the others met, each lane that met no fault has run all that it got, and is idle (header, wave
-/// (`IsWave`)). Tested in `ledger_rows` (`run.rows`, `lanes.rows`, `threads.rows`).
+/// A wave over a ledger's nodes. Each lane runs what it got, whatever the order in which lanes ask a node: a file's run as the definitions have it.
+/// Kept journals stay kept, also at a fault, and journals that are checked stay checked. Where no lane stopped, no node has a record in flight where
+/// none had one, and each lane that had done nothing tells the batch and the outcome of each transaction that it prepared newly, in order, one for
+/// each, and how many batches these are (as far as 64 bits count). Each lane has then prepared all that it gets, cut into pieces of a batch's size,
+/// and nothing else. Whatever the others met, each lane that met no fault has run all that it got, and is idle (header, wave (`IsWave`)).
+///
+/// Each lane that stopped has its cause, by the journals at the end. Either the disk of a node that it asks has failed since that was opened: of its
+/// coordinator, for its next Prepare, where it is idle; else of a shard that its open batch concerns, once each lesser one has its record of the
+/// phase, a Lock, a Finish or a Forget, or of its coordinator, once all have. Or there is no room, with the numbers, or no stamp at the Prepare of
+/// the next piece of what it gets (the lane is idle and has prepared the pieces before it, and nothing else), or at the first Lock that its prepared
+/// batch lacks.
 ///
 /// A record in flight, which a failed call may have left on a disk or not, follows its node's journal and is caused, where each did before and all
 /// that the lanes get is proper. A Prepare in flight was so before, and its lane has prepared nothing since; or it is that of its lane's next

@@ -45,7 +45,7 @@ use Rattle.printed_lines.specs.Unspent.{IsUnspentCount}
 use Rattle.workload.specs.Generator.{mint_of, minted_of, joined_of, split_of, join_of}
 use Rattle.audit_command.specs.Audits.{IsUnsoundBy}
 use Rattle.command_answers.specs.Causes.{IsAnswerToRequest}
-use Rattle.run_command.specs.Told.{IsCountable, numbers_of}
+use Rattle.run_lines.specs.Told.{IsCountable, numbers_of}
 use Rattle.audit.specs.declared.parts.PartVerdict.TheVariants.{Unsound as UnsoundPart}
 use Rattle.requests.specs.declared.GenOptions.{GenOptions}
 use Rattle.gen_command.specs.Watched.{cut_text, IsCutTold, WhyNoCut}
@@ -61,7 +61,7 @@ use Rattle.rack_runs.proofs.Lanes.{run_none}
 use Rattle.rack_laws.proofs.Openings.{unopened_none}
 use Rattle.rack_laws.proofs.KeptRooms.{ample_rooms, idle_rooms, more_room, used_within}
 use Rattle.rack_laws.proofs.Sound.{never_unsound}
-use Rattle.run_command.proofs.Numbers.{run_numbers, countable}
+use Rattle.run_lines.proofs.Numbers.{run_numbers, countable}
 use Rattle.gen_command.proofs.Cut.{batches_are_cut}
 use Rattle.gen_command.proofs.Refused.{none_open, none_refused, all_decided}
 use Rattle.gen_command.proofs.Workloads.{few}

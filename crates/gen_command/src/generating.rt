@@ -203,18 +203,8 @@ fn run_workload<W: Wait + Threads + Sync, G: Gate + Sync>(
 /// disks beside its own; the text is the same for every number of them. If an auditor is to look beside the lanes of the first file, the value of the
 /// cut of what it saw is printed last.
 ///
-/// Where it comes through: the rack is as it was. The text is that of a run of the workload between kept journals and of a sound audit of them;
-/// where no hashes of the workload clash it is one text for every schedule, with all transactions confirmed.
-///
-/// In full (clause `did` of `process`): the rack holds what it held; there are journals that are kept, of the workload's mint and transactions, and
-/// in which the waves of its two files, every witness being good, follow the first records of that mint; what is printed is the six numbers that
-/// end a run between these journals (0 resumed; as many batches as the lanes cut the two files into; how many of the submissions are confirmed and
-/// how many rejected, by their outcomes there, which together are all; 0 refused; the hashes that are unspent), and the four totals with which an
-/// audit of their history finds them sound; the journals stood on disks in memory, one for a coordinator and as many more for a shard as the options say,
-/// and at the end what a crash leaves of each of them opens to its node's journal; where an auditor was to look there are lists of all nodes, each a
-/// beginning of its node's journal between the two files and none empty, whose cut is kept, and the value of the audit of that cut is printed; and where no hashes of the workload clash this is one text, whatever the order in which the lanes come
-/// to the nodes: all n transactions are confirmed and none is rejected, two hashes for each coin of the mint, less one for each join, are unspent,
-/// as many coins are in the audit's book, of the value minted, and n are committed; and the value of the cut is that, too.
+/// Where it comes through: the rack is as it was. The text is that of a run of the workload between kept journals and of a sound audit of them; where
+/// no hashes of the workload clash it is one text for every schedule, with all transactions confirmed (clause `did` of `process`).
 pub fn generated<W: Wait + Threads + Sync, O: Sink, G: Gate + Sync>(
     rt: &W,
     alloc: Global,

@@ -3,7 +3,7 @@ ghost use Rattle.std.specs.Prelude.{◌≡◌, ◌++◌, codes};
 ghost use Rattle.outside.specs.Counts.{HasCause};
 ghost use Rattle.line_text.specs.Lines.{Prints, counted_line};
 ghost use Rattle.line_text.specs.Reports.{audit_text};
-ghost use Rattle.run_command.specs.Told.{IsCountable, numbers_of};
+ghost use Rattle.run_lines.specs.Told.{IsCountable, numbers_of};
 ghost use Rattle.gen_command.specs.Watched.{cut_text};
 
 use arrayvec::ArrayVec;
@@ -12,7 +12,7 @@ use file_runs::Ran;
 use itoa::Buffer;
 use line_text::{WriteFault, write_all};
 use outside::Sink;
-use run_command::write_generated;
+use run_lines::write_generated;
 
 // The line of the value of a cut.
 fn cut_line(value: u128) -> ArrayVec<u8, 64>

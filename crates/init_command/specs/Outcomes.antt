@@ -38,9 +38,9 @@ pub record DidInit {D : Type 0} (device : Ghosts D) (files : Text → Option (Li
   -- how many coins the mint has, what they come to and its id were printed
   pub prints : printed (init_lines mint)
 
--- the file holds no mint, or the ledger could not be made of the one that it holds, by the first reason that there is (`IsUnmade`): the mint's values
--- come to too much; a node is in use, all before it not being so; a node's disk failed, so that its count rose, no node before it being in use; or, no
--- node being in use, a disk has no room for its first record, all above it having room
+-- the file holds no mint, or the ledger could not be made of the one that it holds, by the first reason that there is (`IsUnmade`). The mint's values
+-- amount to too much; a node is in use, all before it not being so; a node's disk failed, so that its count rose, no node before it being in use; or,
+-- no node being in use, a disk has no room for its first record, all above it having room
 abbrev pub WhyNoInit : {D : Type 0} → Ghosts D → Scene D → Scene D → Shape → FileWord → Answer → Type 0
 WhyNoInit device before after shape file answer =
     IsNotRead file.place (before.file file.name.now) mint_of_file (before.file_faults file.name.now) (after.file_faults file.name.now) answer

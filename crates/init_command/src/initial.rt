@@ -53,14 +53,9 @@ fn make<I: Inbox, R: Rack>(
 /// What `process` promises where the words ask for it (`init_promise`), as `HasKept` says it. So do `run`, `recover`, `status` and `audit` of the
 /// crates beside it.
 ///
-/// Where it comes through: no node was in use and each disk had room for its first record. Each that told its content holds that record alone,
-/// whatever a crash leaves; all other disks are as before. These journals are a kept ledger of the mint in the file. Printed: how many coins it
-/// has, what they come to, its id.
-///
-/// In full (clause `did` of `process`): the file, where told, held the mint, no node was in use, each disk had room for its first record and a
-/// closing gate, and each that told its content holds that record alone, and whatever a crash leaves of it opens to that, each disk of the ledger
-/// having as much room as the one that was in its place, while all other disks are as before; these journals are a kept ledger of the mint, to
-/// which nothing was handed in yet; what is printed is how many coins the mint has, what they come to, and its id.
+/// Where it comes through: no node was in use and each disk had room for its first record and a closing gate. Each that told its content holds that
+/// record alone, whatever a crash leaves; all other disks are as before. These journals are a kept ledger of the mint in the file. Printed: how many
+/// coins it has, the sum of their values, its id (clause `did` of `process`).
 pub fn init<I: Inbox, R: Rack, O: Sink>(
     alloc: Global,
     shape: &Shape,

@@ -20,8 +20,8 @@ pub struct Locked<N: Sighted> {
 /// Makes a lock round each node, with a seat for each lane of its row, and one of the watcher's lane. Where memory is wanting all nodes come back,
 /// asked nothing.
 ///
-/// At Ok a lock round each node, in order, each with a fresh seat for each lane of its row, in order, and one more, of the watcher's lane, and the
-/// nodes' list, which is empty and has room for them all; else memory ran out, and all nodes are back in order: each has its journal, nothing new is
+/// At Ok a lock around each node, in order, each with a fresh seat for each lane of its row, in order, and one more, of the watcher's lane; and the
+/// nodes' list, which is empty and has room for them all. Else memory ran out, and all nodes are back in order: each has its journal, nothing new is
 /// in flight there, its disk has failed no less often, and what stays true of it is true still.
 pub fn lock_all<N: Sighted>(
     alloc: Global,

@@ -40,9 +40,9 @@ impl<
 > LaneRun<'a, W, D, S, B, X> {
     /// Runs the lane's transactions, and keeps its result. Then it lets go of its sentinel, which makes nothing more for it.
     ///
-    /// A settled, idle lane at seats of the wave's locks ends so: it is the same lane with the same transactions, and its seats are of the same
-    /// locks; either it has done all that it got and is idle, and reports its batches, each done behind the one before it with the outcomes of its
-    /// Commit; or it stopped, with all that `run_lane` says of that, and its fault has its cause in a node as the lane has seen it.
+    /// A settled, idle lane at seats of the wave's locks ends as the same lane with the same transactions, and its seats are of the same locks.
+    /// Either it has done all that it got and is idle, and reports its batches, each done behind the one before it with the outcomes of its Commit.
+    /// Or it stopped, with all that `run_lane` says of that, and its fault has its cause in a node as the lane has seen it.
     pub fn go<G: Gate + Sync>(&mut self, alloc: Global, shape: &Shape, gate: &G)
         requires begins { RunBegins S.sight B.tables shape.now self.old }
         ensures ends { RunEnds S.sight B.tables shape.now self.old self.new }

@@ -81,8 +81,8 @@ IsOfNode k (answers.DiskFault n) = n ≡ k
 IsOfNode k answers.Memory = Unit {0}
 IsOfNode k other = ⊥
 
--- no node was in use (`MayBeMade`), and the writing of first records, from the highest node down, stopped at this one, of which the answer speaks:
--- the disks of the nodes below it are unchanged, those above it hold their first records, and a crash leaves of its own no first record, what it
+-- no node was in use (`MayBeMade`), and the writing of first records, from the highest node down, stopped at this one, of which the answer speaks.
+-- The disks of the nodes below it are unchanged, those above it hold their first records, and a crash leaves of its own no first record, what it
 -- might have left before, or, where the disk failed, the new one alone
 pub record InitStoppedAt {D : Type 0} (K : Shape) (mint : List Output) (device : Ghosts D) (before now : ℕ → Option D) (answer : Answer) (k : ℕ) : Type 0 where
   pub was : MayBeMade K mint device before

@@ -94,8 +94,9 @@ pub record LacksLock (K : Shape) (lane : ℕ) (X : ℕ → List Record) : Type 0
 abbrev pub IsBeforeLocks : Shape → ℕ → (ℕ → List Record) → Type 0
 IsBeforeLocks K lane X = (lane_phase K X lane ≡ Idle) ⊎ LacksLock K lane X
 
--- the cause of a lane's fault of this node and kind, from journals E to X, by the nodes whose disks have failed and what disks may hold: a node that
--- the lane asks has a disk that failed; or no room or no stamp for what the lane wants; memory runs out between batches, or before a batch has its Locks
+-- the cause of a lane's fault of this node and kind, from journals E to X, by the nodes whose disks have failed and what disks may hold. A node that
+-- the lane asks has a disk that failed, or no room or no stamp for what the lane wants; or memory runs out between batches, or before a batch has its
+-- Locks
 abbrev pub IsCauseOf : Shape → ℕ → (List Compact → Type 0) → (ℕ → List Record) → (ℕ → List Record) → (ℕ → Type 0) → (ℕ → ℕ → Type 0) → ℕ → LaneFaultKind → Type 0
 IsCauseOf K lane next E X failed may_hold node DiskStopped = HasNoDiskFor K lane next X failed node
 IsCauseOf K lane next E X failed may_hold node (NoRoom used need capacity) = HasNoRoomFor K lane next E X may_hold node used need capacity

@@ -72,16 +72,20 @@ fn resume_next<L: Turns, G: Gate>(
 /// Brings the open batches of all lanes to their end, in rising order of the lanes, and takes all memory for that before the first
 /// is taken up. A lane that meets a fault ends; the others go on. The answer is then the least lane's fault.
 ///
-/// The open batch of each lane is brought to its end, lane by lane in rising order, each by records of that lane alone; kept journals grow at their
-/// ends and stay kept, also at a fault; at Ok no node has a record in flight where none had one, and what is reported is each batch that was open,
-/// in order: which it is, the phase in which it stood, and the outcomes that its coordinator has of it; none was prepared newly. Journals that are
-/// checked stay checked; a fault has its cause: the disk of a node that the lane asks (a shard that its batch concerns, once each lesser one has
-/// its record of the phase, or its coordinator, once all have) has failed since that was opened, or there is no room, with the numbers, or no stamp
-/// at the first Lock that the batch lacks; and it is that of the least lane that met one: all lesser lanes are idle; where memory ran out at a
-/// Lock, that lane's batch was prepared and is so still. Behind a lane's fault all others are taken up: each lane is idle, or its batch lacks a
-/// Lock, or the disk of a node that it asks has failed, or its batch is prepared still and the call that took it up reported that memory ran out;
-/// where there is no memory for the batches that are open and for what brings them to their end, nothing is done (idle, keeps, resumed, told,
-/// prepares, quiet, flies, keeps_ledger (`KeepsLedger`), checked, grows, order, fault, least, rests).
+/// The open batch of each lane is brought to its end, lane by lane in rising order, each by records of that lane alone. Kept journals grow at their
+/// ends and stay kept, also at a fault, and journals that are checked stay checked. At Ok no node has a record in flight where none had one, and what
+/// is reported is each batch that was open, in order: which it is, the phase in which it was, and the outcomes that its coordinator has of it. None
+/// was prepared newly.
+///
+/// A fault is that of the least lane that met one: all lesser lanes are idle. It has its cause: the disk of a node that the lane asks (a shard that
+/// its batch concerns, once each lesser one has its record of the phase, or its coordinator, once all have) has failed since that was opened, or
+/// there is no room, with the numbers, or no stamp at the first Lock that the batch lacks. Where memory ran out at a Lock, that lane's batch was
+/// prepared and is so still.
+///
+/// Behind a lane's fault all others are taken up. Each lane is idle, or its batch lacks a Lock, or the disk of a node that it asks has failed, or its
+/// batch is prepared still and the call that took it up reported that memory ran out. Where there is no memory for the batches that are open and for
+/// what brings them to their end, nothing is done (idle, keeps, resumed, told, prepares, quiet, flies, keeps_ledger (`KeepsLedger`), checked, grows,
+/// order, fault, least, rests).
 ///
 /// Out of memory: before the first batch is taken up, with nothing written; after that only as `Plan::go`, and each lane is between batches, lacks
 /// a Lock, asks a node whose disk failed, or is prepared still (`rests`).

@@ -1,6 +1,6 @@
 -- What is seen of a node behind a write.
 use Rattle.std.proofs.Common.{◌≡◌, ℕ, [], ◌∷◌, reverse, Option, Some, ap, ◌∙◌}
-use Rattle.std.specs.Prelude.{Result, Ok, Err, OnOk, OnErr, IfErr, MatchResult}
+use Rattle.std.specs.Prelude.{Result, Ok, Err, OnOk, OnErr}
 use Rattle.std.proofs.lemmas.List.{reverse-append}
 use Rattle.cbdc_model.specs.Records.{Record}
 use Rattle.cbdc_model.specs.Sights.{Appends, Fails}
@@ -11,25 +11,9 @@ use Rattle.node_journal.specs.Shown.{shown}
 use Rattle.node_journal.specs.Writing.{HasKept, HasBroken}
 
 -- what follows of either result
-pub on_ok : {T E P Q : Type 0} (r : Result T E) → OnOk r P → (P → Q) → OnOk r Q
-on_ok (Ok a) p f = f p
-on_ok (Err e) p f = tt
-
-pub on_err : {T E P Q : Type 0} (r : Result T E) → OnErr r P → (P → Q) → OnErr r Q
-on_err (Ok a) p f = tt
-on_err (Err e) p f = f p
-
 pub by_result : {T E P Q R : Type 0} (r : Result T E) → OnOk r P → OnErr r Q → (P → R) → (Q → R) → R
 by_result (Ok a) p q f g = f p
 by_result (Err e) p q f g = g q
-
-pub matched : {T E P Q : Type 0} {L : E → Type 0} {A : T → Type 0} {B : E → Type 0} (r : Result T E) → OnOk r P → OnErr r Q → IfErr r L → (P → (a : T) → A a) → (Q → (e : E) → L e → B e) → MatchResult r A B
-matched (Ok a) p q l f g = f p a
-matched (Err e) p q l f g = g q e l
-
-pub at_result : {T E P Q : Type 0} {L : E → Type 0} (A : Result T E → Type 0) (r : Result T E) → OnOk r P → OnErr r Q → IfErr r L → (P → (a : T) → A (Ok a)) → (Q → (e : E) → L e → A (Err e)) → A r
-at_result A (Ok a) p q l f g = f p a
-at_result A (Err e) p q l f g = g q e l
 
 module _ {D : Type 0} {G : Ghosts D} where
   -- the record is the newest

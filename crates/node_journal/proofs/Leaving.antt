@@ -13,7 +13,7 @@ use Rattle.record_log.specs.declared.log.RecordLog.{RecordLog}
 use Rattle.record_log.specs.Held.{bodies_of, OpensTo, OpensToEither}
 use Rattle.record_log.specs.Logs.{HoldsAll, IsUntouched}
 use Rattle.node_journal.specs.Nodes.{NodeOf, HoldsJournal, OpensToSeen, IsLeftBetween, LeavesBetween}
-use Rattle.node_journal.specs.Shown.{shown, opened_view}
+use Rattle.node_journal.specs.Shown.{shown}
 
 -- a call that writes nothing
 pub leaves_as_it_was : {D : Type 0} (G : Ghosts D) (s : NodeOf D) → ((c : List ℕ) → IsTrue (G.tells_past s.disk) → G.images_since s.disk (G.moment s.disk) c → G.images s.disk c)
@@ -94,8 +94,3 @@ to_broken {D} {G} l records opened r same broken each =
       each = λ c image. rw twice (each c image);
       reads = λ e. cc;
     }
-
--- of one that was just opened
-pub same_opened : {D : Type 0} {G : Ghosts D} (old new : RecordLog D G) → IsUntouched old new → new.records.items ≡ old.records.items → new.header ≡ old.header → opened_view new ≡ opened_view old
-same_opened {D} {G} old new untouched records header =
-    shown_same old new (G.count (disk_of new.journal)) None untouched records header ∙ ap (λ d. shown old (G.count d) None) untouched.disk

@@ -5,3 +5,4 @@ pub mod Stops
 pub mod Playing
 pub mod Behind
 pub mod Answered
+pub mod Sound

@@ -1,6 +1,6 @@
 pub mod Nodes
 pub mod Shown
 pub mod Opening
-pub mod Opened
 pub mod Writing
 pub mod Answered
+pub mod Sound

@@ -1,5 +1,5 @@
 -- What contracts see of a node's log.
-use Rattle.std.specs.Prelude.{ℕ, reverse, Option, None}
+use Rattle.std.specs.Prelude.{ℕ, reverse, Option}
 use Rattle.outside.specs.declared.disk.Disk.{Ghosts}
 use Rattle.gate_journal.specs.Shown.{disk_of, gate_of, broken_of}
 use Rattle.cbdc_model.specs.Records.{Record}
@@ -19,7 +19,3 @@ shown {D} {G} l opened flight = record {
   capacity = G.limit (disk_of l.journal);
   disk = disk_of l.journal;
 }
-
--- one that was just opened, with nothing in flight
-abbrev pub opened_view : {D : Type 0} {G : Ghosts D} → RecordLog D G → NodeOf D
-opened_view {D} {G} l = shown l (G.count (disk_of l.journal)) None

@@ -10,22 +10,15 @@ ghost use Rattle.record_log.specs.Held.{MayHold, OpensTo};
 ghost use Rattle.record_log.specs.LogReading.{HoldsBefore, IsNoLog};
 ghost use Rattle.node_journal.specs.Nodes.{HoldsJournal};
 ghost use Rattle.node_journal.specs.Opening.{IsPlayed, IsJournalOf, IsNoNodeOf};
-ghost use Rattle.node_journal.specs.Opened.{IsOpened};
-ghost use Rattle.node_journal.specs.Shown.{opened_view};
+ghost use Rattle.node_journal.specs.Sound.{IsOpened, journal_of, view_of};
 
+use crate::nodes::Node;
 use crate::replaying::{cut_fault, replayed};
 use cbdc_types::NodeOpenFault;
 use outside::Disk;
 use record_grammar::Core;
 use record_log::{NoLog, RecordLog, open_records};
 use std::alloc::Global;
-
-/// What a node's disk was opened into.
-#[derive(Drop)]
-pub struct Opened<C: Core, D: Disk> {
-    pub log: RecordLog<D>,
-    pub core: C,
-}
 
 // The core that stands for a log, with room for the records that are still to come.
 fn core_of<C: Core, D: Disk>(alloc: Global, log: &RecordLog<D>) -> Result<C, NodeOpenFault>
@@ -79,35 +72,40 @@ fn no_log_fault<C: Core>(alloc: Global, refused: NoLog) -> NodeOpenFault
 /// Opens a node's disk into its log and its core. A refusal hands the disk back.
 ///
 /// Out of memory: the disk comes back as it was read.
-pub fn open_node<C: Core, D: Disk>(
-    alloc: Global,
-    disk: D,
-) -> Result<Opened<C, D>, (D, NodeOpenFault)>
+pub fn open_node<C: Core, D: Disk>(alloc: Global, disk: D) -> Result<Node<C, D>, (D, NodeOpenFault)>
     ensures opened { IfOk result (IsOpened C.header C.stands C.kind) }
 
     // The content opens to just this journal, and a crash leaves nothing else.
-    ensures opens { IfOk result (λ o. Tells (D.content disk) (λ c. IsJournalOf C.kind o.log.header
-        (reverse o.log.records.items) c × HoldsJournal D.Disk (opened_view o.log))) }
+    ensures opens { IfOk result (λ n. Tells (D.content disk) (λ c.
+        IsJournalOf C.kind n.log.header (journal_of n) c × HoldsJournal D.Disk (view_of n))) }
 
     // Which refusal it is.
     ensures refusal { IfErr result
         (λ e. Tells (D.content disk) (λ c. IsNoNodeOf C.kind C.other (D.limit disk) c e.1)) }
     ensures later { MatchResult result
-        (λ o. D.count disk ≤ D.count (disk_of o.log.journal)) (λ e. D.count disk ≤ D.count e.0) }
+        (λ n. D.count disk ≤ D.count (disk_of n.log.journal)) (λ e. D.count disk ≤ D.count e.0) }
     ensures fault { IfErr result (λ e. e.1 ≡ NodeOpenFault.DiskFault → Rose (D.count disk) (D.count e.0)) }
     ensures limit { MatchResult result
-        (λ o. D.limit (disk_of o.log.journal) ≡ D.limit disk) (λ e. D.limit e.0 ≡ D.limit disk) }
+        (λ n. D.limit (disk_of n.log.journal) ≡ D.limit disk) (λ e. D.limit e.0 ≡ D.limit disk) }
 
     // Unless it failed, the disk reads as before, and a crash may leave nothing more than before.
-    ensures same { MatchResult result (λ o. D.content (disk_of o.log.journal) ≡ D.content disk)
+    ensures same { MatchResult result (λ n. D.content (disk_of n.log.journal) ≡ D.content disk)
         (λ e. e.1 ≢ NodeOpenFault.DiskFault → D.content e.0 ≡ D.content disk) }
-    ensures leaves { MatchResult result (λ o.
-        Leaves D.tells_past D.moment D.images_since D.images disk (disk_of o.log.journal) (D.images disk))
+    ensures leaves { MatchResult result (λ n.
+        Leaves D.tells_past D.moment D.images_since D.images disk (disk_of n.log.journal) (D.images disk))
         (λ e. Leaves D.tells_past D.moment D.images_since D.images disk e.0 (D.images disk)) }
 {
     match open_records(alloc, disk) {
         Ok(log) => match core_of(alloc, &log) {
-            Ok(core) => Ok(Opened { log, core }),
+            Ok(core) => {
+                let opened = log.faults();
+                Ok(Node {
+                    log,
+                    core,
+                    opened,
+                    flight: None,
+                })
+            }
             Err(fault) => Err((log.into_disk(), fault)),
         },
         Err((disk, refused)) => {

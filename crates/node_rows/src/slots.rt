@@ -36,7 +36,12 @@ fn locked(known: &Known, words: &[&str], told: &mut Told) -> LaneSlot {
     let own = part_told(known, rest(words, 3), told);
     let held = repeated(Reply::Held, own.len(), told);
     let stamp = Stamp(told.number_at(words, 2));
-    LaneSlot::Locked(told.number_at(words, 1), own, held, stamp)
+    LaneSlot::Locked {
+        number: told.number_at(words, 1),
+        part: own,
+        replies: held,
+        locked_at: stamp,
+    }
 }
 
 // `finished NUMBER STAMP STAMP NAME@PLACE..`, all of them Held and committed
@@ -44,15 +49,14 @@ fn finished(known: &Known, words: &[&str], told: &mut Told) -> LaneSlot {
     let own = part_told(known, rest(words, 4), told);
     let held = repeated(Reply::Held, own.len(), told);
     let given = repeated(true, own.len(), told);
-    let (number, stamp) = (told.number_at(words, 1), Stamp(told.number_at(words, 2)));
-    LaneSlot::Finished(
-        number,
-        own,
-        held,
-        given,
-        stamp,
-        Stamp(told.number_at(words, 3)),
-    )
+    LaneSlot::Finished {
+        number: told.number_at(words, 1),
+        part: own,
+        replies: held,
+        decisions: given,
+        locked_at: Stamp(told.number_at(words, 2)),
+        finished_at: Stamp(told.number_at(words, 3)),
+    }
 }
 
 // A slot: `idle NUMBER STAMP`, or one of the above.
@@ -63,7 +67,10 @@ fn slot(known: &Known, words: &[&str], told: &mut Told) -> LaneSlot {
         _ => {
             told.expect(words, 0, "idle");
             told.at_most(words, 3);
-            LaneSlot::Idle(told.number_at(words, 1), Stamp(told.number_at(words, 2)))
+            LaneSlot::Idle {
+                number: told.number_at(words, 1),
+                stamp: Stamp(told.number_at(words, 2)),
+            }
         }
     }
 }

@@ -1,5 +1,6 @@
 //! Runs the rows on parts of the program that its words name: `locks` and `devices`, those of `lock_rows` and `device_rows`, which stand in code, and the
-//! files in the folders `pieces`, `nodes`, `journals` and `cuts`. Where the first word is `speeds` it runs no rows, and measures the part that the next names.
+//! files in the folders `pieces`, `nodes`, `journals`, `cuts`, `groups` and `mirrors`. Where the first word is `speeds` it runs no rows, and measures the
+//! part that the next names.
 #![tactic(auto)]
 
 use row_records::words_where;
@@ -15,7 +16,14 @@ const LOCKS: &str = "locks";
 const DEVICES: &str = "devices";
 
 // The folders of files.
-const FOLDERS: [&str; 4] = ["pieces/", "nodes/", "journals/", "cuts/"];
+const FOLDERS: [&str; 6] = [
+    "pieces/",
+    "nodes/",
+    "journals/",
+    "cuts/",
+    "groups/",
+    "mirrors/",
+];
 
 // The first word where parts are measured, and no rows are run.
 const SPEEDS: &str = "speeds";
@@ -71,6 +79,8 @@ fn run_rows<R: AllocGlobal + Env + Files + Print + Threads + Wait + Sync>(
     let has_nodes = node_rows::run_rows(rt)?;
     let has_journals = journal_rows::run_rows(rt)?;
     let has_cuts = cut_rows::run_rows(rt)?;
+    let has_groups = group_rows::run_rows(rt)?;
+    let has_mirrors = mirror_rows::run_rows(rt)?;
     Ok(
         have_no_others
             && has_locks
@@ -78,7 +88,9 @@ fn run_rows<R: AllocGlobal + Env + Files + Print + Threads + Wait + Sync>(
             && has_pieces
             && has_nodes
             && has_journals
-            && has_cuts,
+            && has_cuts
+            && has_groups
+            && has_mirrors,
     )
 }
 

@@ -1,16 +1,16 @@
 //! The definitions of the ledger as a plain program: slow functions whose contracts are the definitions, word for word, and which compute them on
 //! small inputs. Journals and histories are lists whose newest record comes first.
 //!
-//! - The running program uses none of it. Here are the definitions of `cbdc_model`; whether submissions are clean, and journals kept and finished
-//!   alike; what a run adds to the journals, wave after wave (all journals that those at exit may have been once are tried); the whole ledger as
-//!   a value, with what may happen to its nodes in any order; and what each command prints.
-//! - Tested in `journal_rows`, on worked examples whose numbers come from the rules of these documents and not from the program. Ids, compact
-//!   forms, shard numbers, stamps, what is in the grammar and a sentinel's first refusal these rows take from the program itself (`shard_ranges`,
-//!   `audit`, `record_grammar`, `sentinel`), whose contracts are the definitions. Proper is what a sentinel lets pass to which all
-//!   witnesses are good: by a law of `run_laws`, just what the definition says.
+//! - The running program uses none of it. Here are the definitions of `cbdc_model`, and whether submissions are clean, and journals kept and finished
+//!   alike. What a run adds to the journals is here wave after wave (all journals that those at exit may have been once are tried). Also the whole
+//!   ledger as a value, with what may happen to its nodes in any order, and what each command prints.
+//! - Tested in `journal_rows`, on worked examples whose numbers come from the rules of these documents and not from the program. Ids, compact forms,
+//!   shard numbers, stamps, what is in the grammar and a sentinel's first refusal these rows take from the program itself (`shard_ranges`, `audit`,
+//!   `record_grammar`, `sentinel`), whose contracts are the definitions. Proper is what a sentinel lets pass to which all witnesses are good: by a
+//!   law of `run_laws`, just what the definition says.
 //! - `World::step`, `World::run`: Tested in `journal_rows` (`worlds.rows`).
-//! - That each command prints the text computed here is a promise of `process`; of `gen` these are the numbers that end a run and those of an
-//!   audit. What is computed of texts is tested in `journal_rows` and `piece_rows`.
+//! - That each command prints the text computed here is a promise of `process`; of `gen` these are the numbers that end a run and those of an audit.
+//!   What is computed of texts is tested in `journal_rows` and `piece_rows`.
 //! - Open: no test shows submissions that are not clean: that would be a collision of SHA-256. That a text is given wherever one belongs to the
 //!   journals.
 //! - Tested in `journal_rows` (`plain.rows`, `shards.rows`): `is_clean`, `history_of`, `is_kept_ledger`, `is_alike` and `are_alike`.

@@ -49,11 +49,13 @@ fn verdict_of<W: Threads + Sync, D: Disk>(
 /// Audits the ledger on a rack, which should be that of a mint, with transactions that were handed in. All disks are back, and no journal
 /// has changed. All processors make the compact forms of what was handed in.
 ///
-/// At Ok the one verdict of an audit of the history of the ledger that the disks tell, with this mint and what was handed in: there are rows in
-/// order, in which the journal of each node of a ledger of this mint is what its disk's content opens to, and which have no other rows; whatever
-/// the verdict, each disk that is told had room for its journal of these rows and for what is kept for the batches open there, and reads as before,
-/// and whatever a crash may leave of one that told its content opens to just that journal; where it is Sound, the money of this ledger is accounted
-/// for (`account_law`); else the first node that can't be opened or is of another ledger, and why. All disks are back as they were read.
+/// At Ok the one verdict of an audit of the history of the ledger that the disks tell, with this mint and what was handed in. There are rows in
+/// order, in which the journal of each node of a ledger of this mint is what its disk's content opens to, and which have no other rows. Whatever the
+/// verdict, each disk that is told had room for its journal of these rows and for what is kept for the batches open there, and reads as before, and
+/// whatever a crash may leave of one that told its content opens to just that journal. Where it is Sound, the money of this ledger is accounted for
+/// (`account_law`).
+///
+/// Else the first node that can't be opened or is of another ledger, and why. All disks are back as they were read.
 pub fn audit_on<W: Threads + Sync, R: Rack>(
     rt: &W,
     alloc: Global,

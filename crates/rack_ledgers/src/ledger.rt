@@ -19,7 +19,7 @@ pub struct Nodes<D: Disk> {
 }
 
 /// Puts the disks of all nodes back, the last one first and that of node 0 last. So another program, which takes node 0 before all others, finds it
-/// taken as long as any of them is (tested by `tools/two-at-once`).
+/// taken as long as any of them is (tested by `tools/gate/two-at-once`).
 pub fn close_nodes<R: Rack>(rack: &mut R, nodes: Nodes<R::Disk>)
     requires { MayClose R.Disk.Disk
         (R.can_put rack.old) (R.can_take rack.old) nodes.logs.items nodes.shards.items }

@@ -22,12 +22,12 @@ pub fn none_uncaused_law<R: Rack>(rack: &R)
 /// Where the disks tell a ledger, with their contents, none of its nodes is refused as NotReady, Damaged or Foreign, whatever room there is, and
 /// none as Full where the disks have room.
 ///
-/// Where the disks tell a ledger (of some shape within the limits and some genesis, each node's disk is told, with its content, which opens to just
-/// the node's journal under the node's header), no node of it can be refused as NotReady, Damaged or Foreign; nor as Full, where each disk has room
-/// for its journal and for what is kept for its open batches. So it is whatever mint is asked for, if none is or the one that began this ledger.
+/// The disks tell a ledger where, for some shape within the limits and some genesis, each node's disk is told, with its content, which opens to just
+/// the node's journal under the node's header. No node of it can then be refused as NotReady, Damaged or Foreign; nor as Full, where each disk has
+/// room for its journal and for what is kept for its open batches. So it is whatever mint is asked for, if none is or the one that began this ledger.
 /// What `run` and `recover` (of a kept ledger) and `status` promise where they come through is all that the law asks, and so is what `audit`
-/// promises; so of a rack whose disks are told, with their contents, and over which one of them may come through, it never answers NotReady,
-/// Damaged, Foreign or Full as it opens the nodes.
+/// promises. So of a rack whose disks are told, with their contents, and over which one of them may come through, it never answers NotReady, Damaged,
+/// Foreign or Full as it opens the nodes.
 pub fn none_refused_law<R: Rack>(rack: &R)
     // Where no mint is asked for.
     ensures opened { (K : Shape) (genesis : Digest) (J : ℕ → List Record) (before now : ℕ → ℕ) (answer : Told)

@@ -104,9 +104,9 @@ pub record TookLedger {D : Type 0} (device : Ghosts D) (held back : ℕ → Opti
 abbrev pub KeepsFlights : {D : Type 0} → Ghosts D → (ℕ → Option D) → Shape → (ℕ → List Record) → (ℕ → Option Record) → Type 0
 KeepsFlights device held K X flights = (n : ℕ) → n < node_count K → OfTold (held n) (λ d. (c : List ℕ) → device.images d c → OpensToEither (reverse (X n)) (flights n) c)
 
--- what lanes do over a ledger, as relations between journals: the transactions that are handed in, group by group; those that may be next for a lane,
--- from journals at entry to later ones; whose fault ends it, by the nodes whose disks have failed and by what disks may hold; what has been begun; and
--- what is so where all of it came through
+-- what lanes do over a ledger, as relations between journals. `handed`: the transactions that are handed in, group by group. `next`: those that may
+-- be next for a lane, from journals at entry to later ones. `ends`: whose fault ends it, by the nodes whose disks have failed and by what disks may
+-- hold. `begun`: what has been begun. `through`: what is so where all of it came through
 pub record Turns : Type 1 where
   pub handed : List (List FullTx)
   pub next : Shape → (ℕ → List Record) → (ℕ → List Record) → ℕ → List Compact → Type 0
@@ -171,7 +171,7 @@ abbrev pub AddsOpen : Shape → (ℕ → List Record) → (ℕ → List Record) 
 AddsOpen K E X = Adds (λ b. (has_prepare K E b ≡ true) × (has_done K E b ≡ false)) E X
 
 -- `AddsOpen`; or, where there are files, the open batches and then the waves of the first of the files are at their end (`Waves`), and all records
--- behind those are of batches that were not prepared then and that the next file alone has begun (`HasBegunFirst`): no record of a file comes
+-- behind those are of batches that were not prepared then and that the next file alone has begun (`HasBegunFirst`). So no record of a file is written
 -- before all batches of the open ones and of the files before are done
 abbrev pub IsCutWaves : Shape → (FullTx → Bool) → List (List FullTx) → (ℕ → List Record) → (ℕ → List Record) → Type 0
 IsCutWaves K sound files E X =

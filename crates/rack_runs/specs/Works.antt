@@ -37,9 +37,9 @@ use Rattle.rack_runs.specs.Runs.{IsGrown, TookLedger, AddsOpen, Turns}
 use Rattle.rack_runs.specs.Stops.{WhyNoTurns}
 use Rattle.rack_runs.specs.declared.told.Told.{Told}
 
--- what a command does, as relations between journals: the transactions that it hands in, group by group; those that may be next for a lane, from
--- journals at entry to later ones; whose fault ends it, from the journals that it was given; what has been begun, whatever the result, from those at
--- entry; and what was done where it came through, from those that it was given
+-- what a command does, as relations between journals. `handed`: the transactions that it hands in, group by group. `next`: those that may be next for
+-- a lane, from journals at entry to later ones. `ends`: whose fault ends it, from the journals that it was given. `begun`: what has been begun,
+-- whatever the result, from those at entry. `did`: what was done where it came through, from those that it was given
 pub record Deed (Done : Type 0) : Type 1 where
   pub handed : List (List FullTx)
   pub next : Shape → (ℕ → List Record) → (ℕ → List Record) → ℕ → List Compact → Type 0
@@ -65,10 +65,10 @@ pub record IsBehind (K : Shape) (E M : ℕ → List Record) : Type 0 where
   pub keeps : OfKept K E (StaysKept K E M)
   pub resumed : OfKept K E (λ _ _. IsResumed K E M)
 
--- what a work leaves, whatever the result, from journals M that it was given to X: they have grown at their ends, and where they were kept they are,
--- with what was handed in besides; what is in flight may come next at its node, as before, and a Prepare was so before or is next for its lane; each
--- lane is between batches, or its batch lacks a Lock, or the disk of a node that it asks has failed; and what may be next and what has been begun
--- is so from all journals, too, from which M came by a resuming
+-- what a work leaves, whatever the result, from journals M that it was given to X. They have grown at their ends, and where they were kept they are,
+-- with what was handed in besides. What is in flight may come next at its node, as before, and a Prepare was so before or is next for its lane. Each
+-- lane is between batches, or its batch lacks a Lock, or the disk of a node that it asks has failed. What may be next and what has been begun is so
+-- from all journals, too, from which a resuming led to M
 pub record LeavesWork {Done : Type 0} (d : Deed Done) (K : Shape) (M X : ℕ → List Record) (before after : ℕ → Option Record) (failed : ℕ → Type 0) : Type 0 where
   pub grows : (n : ℕ) → IsEnd (M n) (X n)
   pub keeps : OfKept K M (λ mint submissions. StaysKept K M X mint (submissions ++ joined d.handed))

@@ -68,13 +68,9 @@ fn write_recovered<O: Sink>(out: &mut O, recovered: &Ran) -> Result<(), WriteFau
 /// Takes the batches that an earlier run left open to their end, and tells each with its phase and how many of its
 /// transactions were confirmed and rejected.
 ///
-/// Where it comes through: the same as `run`, of the open batches alone: a line for each, with the phase in which it stood, and how many of its
-/// transactions are confirmed and rejected.
-///
-/// In full (clause `did` of `process`): the same as of `run` (of the ledger, and of a kept one) of the open batches alone; and of the journals at
-/// entry and those at this very recovery's exit, what is printed is a line for each batch that was open, in rising order of the lanes, with the
-/// phase in which it stood and how many of its transactions are confirmed and rejected, and behind them how many batches these are and how many
-/// hashes are unspent.
+/// Where it comes through: the same as `run`, of the open batches alone: a line for each, in rising order of the lanes, with the phase in which it
+/// was, and how many of its transactions are confirmed and rejected. Behind them: how many batches these are and how many hashes are unspent (clause
+/// `did` of `process`).
 pub fn recover<W: Wait + Threads + Sync, R: Rack, O: Sink, G: Gate + Sync>(
     rt: &W,
     alloc: Global,

@@ -1,7 +1,7 @@
 // `run`: the transactions of client files, file by file.
 ghost use Rattle.std.specs.Prelude.{◌≡◌, ◌⊎◌, ℕ, IfOk, IfErr};
 ghost use Rattle.outside.specs.Counts.{HasCause};
-ghost use Rattle.run_command.specs.Reports.{Reports};
+ghost use Rattle.run_lines.specs.Reports.{Reports};
 ghost use Rattle.command_answers.specs.Causes.{IsReadOrNodeFault};
 ghost use Rattle.command_answers.specs.Promises.{HasKept};
 ghost use Rattle.run_command.specs.Promises.{run_promise, run_needs};
@@ -11,7 +11,7 @@ ghost use Rattle.rack_ledgers.specs.Racked.{disks_in};
 ghost use Rattle.line_text.specs.Lines.{Text};
 ghost use Rattle.command_answers.specs.Left.{IsBeforeDisks};
 
-use crate::write_report;
+use run_lines::write_report;
 use cbdc_types::{Answer, FullTx, List};
 use file_runs::Ran;
 use input_files::{Inputs, inputs_in};
@@ -104,24 +104,10 @@ fn write_beside<W: Threads, O: Sink>(
 /// Where it comes through: the disks, as far as they told, held a ledger, each record of which was caused by those before it; its journals have grown
 /// by records that are caused too, within the disks' room. Of a kept one the headline holds, where no hashes clash, and of any kept one a line is
 /// printed for each submission. A refused one has the first reason that applies. Each sound one has its one place in one new Prepare, and nothing
-/// else has one; it is
-/// confirmed exactly where every shard that it concerns held it, else its line names the least shard that did not, with the hash and the cause of that
-/// shard's reply. It is confirmed always where its inputs are unspent when its file's wave begins and no other sound one of its file spends them. Then
-/// six numbers are printed.
-///
-/// In full (clause `did` of `process`): the files, where told, held the transactions and verdicts; the disks, where told, held a ledger, within its
-/// limits, each record of whose history was caused by what stood before it (what is told of each node's disk opens to its journal), and had room
-/// for their journals and for what is kept for the batches open there; its journals have grown at their ends, by records that are caused too, and
-/// for them and for what is kept each disk has room, in each place as much as there was; where all disks were told whatever a crash leaves of each
-/// opens to exactly its node's journal; and the disks that are no nodes of it are as before; of whatever kept ledger they showed, it is a run as
-/// `run_on` says, with the headline, and each disk holds exactly its journal; and of the journals at entry and those at this very run's exit, what
-/// is printed is a line for each submission, in order of file and place (refused, for the first reason that applies; or confirmed or rejected, with
-/// its batch and outcome at its turn among the transactions of its lane's new Prepares); each sound submission has its one place in one new
-/// Prepare, which has its compact form there, and nothing else has one; its line confirms it exactly where every shard that it concerns held it,
-/// else it names the least shard that did not, with the hash and the cause of that shard's reply, and each Lock has the replies that its shard's
-/// journal before it gives; a sound submission whose inputs are unspent when its file's wave begins, and which no other sound submission of its
-/// file spends, is confirmed; and behind the lines how many batches were resumed, how many were prepared newly, how many submissions were
-/// confirmed, rejected and refused, and how many hashes are unspent.
+/// else has one; it is confirmed exactly where every shard that it concerns held it, else its line names the least shard that did not, with the hash
+/// and the cause of that shard's reply. It is confirmed always where its inputs are unspent when its file's wave begins and no other sound one of its
+/// file spends them. Then six numbers are printed: batches resumed and newly prepared, submissions confirmed, rejected and refused, hashes unspent
+/// (clause `did` of `process`).
 pub fn run<W: Wait + Threads + Sync, I: Inbox, R: Rack, O: Sink, G: Gate + Sync>(
     rt: &W,
     alloc: Global,

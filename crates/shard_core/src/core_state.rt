@@ -69,9 +69,9 @@ fn room_of(slot: &LaneSlot) -> u64
         → result ≡ min (lane_room J lane) (2 ^ 64 - 1) }
 {
     match slot {
-        LaneSlot::Idle(_, _) => 0,
-        LaneSlot::Locked(_, part, _, _) => (part.len() as u64).saturating_add(76),
-        LaneSlot::Finished(_, _, _, _, _, _) => 34,
+        LaneSlot::Idle { .. } => 0,
+        LaneSlot::Locked { part, .. } => (part.len() as u64).saturating_add(76),
+        LaneSlot::Finished { .. } => 34,
     }
 }
 
@@ -124,9 +124,9 @@ fn keep(parts: &mut Vec<Vec<Entry>>, lane: LaneId, part: Vec<Entry>) {
 // The part of a finished batch, none of another one.
 fn finished_part(alloc: Global, slot: LaneSlot) -> Vec<Entry> {
     match slot {
-        LaneSlot::Finished(_, part, _, _, _, _) => part.into_vec(),
-        LaneSlot::Idle(_, _) => Vec::new(alloc),
-        LaneSlot::Locked(_, _, _, _) => Vec::new(alloc),
+        LaneSlot::Finished { part, .. } => part.into_vec(),
+        LaneSlot::Idle { .. } => Vec::new(alloc),
+        LaneSlot::Locked { .. } => Vec::new(alloc),
     }
 }
 
@@ -157,17 +157,19 @@ fn remembered_in(slot: &LaneSlot, id: &Hash) -> Option<Remembered>
         → told_fate result ≡ lane_fate J id.now lane }
 {
     match slot {
-        LaneSlot::Idle(_, _) => None,
-        LaneSlot::Locked(_, part, _, _) => {
+        LaneSlot::Idle { .. } => None,
+        LaneSlot::Locked { part, .. } => {
             if has_entry(part.as_slice(), id) {
                 Some(Remembered::Waiting)
             } else {
                 None
             }
         }
-        LaneSlot::Finished(_, part, _, decisions, _, _) => {
-            decided_in(part.as_slice(), decisions.as_slice(), id)
-        }
+        LaneSlot::Finished {
+            part,
+            decisions,
+            ..
+        } => decided_in(part.as_slice(), decisions.as_slice(), id),
     }
 }
 
@@ -427,9 +429,9 @@ impl ShardCore {
             return false;
         }
         match self.slots.slot(batch.lane) {
-            LaneSlot::Idle(number, _) => *number < batch.number,
-            LaneSlot::Locked(_, _, _, _) => false,
-            LaneSlot::Finished(_, _, _, _, _, _) => false,
+            LaneSlot::Idle { number, .. } => *number < batch.number,
+            LaneSlot::Locked { .. } => false,
+            LaneSlot::Finished { .. } => false,
         }
     }
 
@@ -443,11 +445,13 @@ impl ShardCore {
             return false;
         }
         match self.slots.slot(batch.lane) {
-            LaneSlot::Idle(_, _) => false,
-            LaneSlot::Locked(number, _, replies, _) => {
-                *number == batch.number && misfit(replies.as_slice(), decisions).is_none()
-            }
-            LaneSlot::Finished(_, _, _, _, _, _) => false,
+            LaneSlot::Idle { .. } => false,
+            LaneSlot::Locked {
+                number,
+                replies,
+                ..
+            } => *number == batch.number && misfit(replies.as_slice(), decisions).is_none(),
+            LaneSlot::Finished { .. } => false,
         }
     }
 
@@ -461,9 +465,9 @@ impl ShardCore {
             return false;
         }
         match self.slots.slot(batch.lane) {
-            LaneSlot::Idle(_, _) => false,
-            LaneSlot::Locked(_, _, _, _) => false,
-            LaneSlot::Finished(number, _, _, _, _, _) => *number == batch.number,
+            LaneSlot::Idle { .. } => false,
+            LaneSlot::Locked { .. } => false,
+            LaneSlot::Finished { number, .. } => *number == batch.number,
         }
     }
 
@@ -494,7 +498,12 @@ impl ShardCore {
             entries.as_slice(),
             batch,
         );
-        let slot = LaneSlot::Locked(batch.number, part, replies, *stamp);
+        let slot = LaneSlot::Locked {
+            number: batch.number,
+            part,
+            replies,
+            locked_at: *stamp,
+        };
         self.slots.put(batch.lane, slot);
         swap_memory(&mut self.decisions, batch.lane, decisions);
         self.owed += count;
@@ -515,7 +524,13 @@ impl ShardCore {
         else {
             unreachable!();
         };
-        let LaneSlot::Locked(number, part, replies, at) = self.slots.take(batch.lane) else {
+        let LaneSlot::Locked {
+            number,
+            part,
+            replies,
+            locked_at,
+        } = self.slots.take(batch.lane)
+        else {
             unreachable!();
         };
         let ds = decisions.as_slice();
@@ -527,7 +542,14 @@ impl ShardCore {
         self.owed -= hash_count(part.as_slice());
         let memory = swap_memory(&mut self.decisions, batch.lane, Vec::new(self.alloc));
         let kept = decided(memory, ds);
-        let slot = LaneSlot::Finished(number, part, replies, kept, at, *stamp);
+        let slot = LaneSlot::Finished {
+            number,
+            part,
+            replies,
+            decisions: kept,
+            locked_at,
+            finished_at: *stamp,
+        };
         self.slots.put(batch.lane, slot);
         self.last = *stamp;
     }
@@ -542,8 +564,11 @@ impl ShardCore {
             unreachable!();
         };
         let forgotten = self.slots.take(batch.lane);
-        self.slots
-            .put(batch.lane, LaneSlot::Idle(batch.number, *stamp));
+        let slot = LaneSlot::Idle {
+            number: batch.number,
+            stamp: *stamp,
+        };
+        self.slots.put(batch.lane, slot);
         self.last = *stamp;
         keep(
             &mut self.spare,

@@ -26,13 +26,13 @@ pub enum LockAnswer {
 }
 
 // A slot's number.
-pub fn number_of(slot: &LaneSlot) -> u64
+fn number_of(slot: &LaneSlot) -> u64
     ensures { result ≡ slot_number slot.now }
 {
     match slot {
-        LaneSlot::Idle(number, _) => *number,
-        LaneSlot::Locked(number, _, _, _) => *number,
-        LaneSlot::Finished(number, _, _, _, _, _) => *number,
+        LaneSlot::Idle { number, .. } => *number,
+        LaneSlot::Locked { number, .. } => *number,
+        LaneSlot::Finished { number, .. } => *number,
     }
 }
 
@@ -82,9 +82,9 @@ pub fn judge_lock(slot: &LaneSlot, call: &LockCall) -> LockAnswer
         → IsLockJudged result J call.now.batch call.now.part call.now.cause }
 {
     match slot {
-        LaneSlot::Idle(number, stamp) => lock_idle(*number, *stamp, call),
-        LaneSlot::Locked(number, part, _, _) => lock_open(*number, part.as_slice(), call),
-        LaneSlot::Finished(number, part, _, _, _, _) => lock_open(*number, part.as_slice(), call),
+        LaneSlot::Idle { number, stamp } => lock_idle(*number, *stamp, call),
+        LaneSlot::Locked { number, part, .. } => lock_open(*number, part.as_slice(), call),
+        LaneSlot::Finished { number, part, .. } => lock_open(*number, part.as_slice(), call),
     }
 }
 
@@ -94,12 +94,20 @@ pub fn kept_replies(alloc: Global, slot: &LaneSlot) -> Result<Replied, AllocErro
         → SlotStands slot.now J b.lane → SlotRemembers slot.now b.number → core_replies r ≡ kept_at J b) }
 {
     match slot {
-        LaneSlot::Idle(_, stamp) => Ok(Replied {
+        LaneSlot::Idle { stamp, .. } => Ok(Replied {
             replies: List::new(alloc),
             stamp: *stamp,
         }),
-        LaneSlot::Locked(_, _, replies, stamp) => replied(alloc, replies, *stamp),
-        LaneSlot::Finished(_, _, replies, _, stamp, _) => replied(alloc, replies, *stamp),
+        LaneSlot::Locked {
+            replies,
+            locked_at,
+            ..
+        } => replied(alloc, replies, *locked_at),
+        LaneSlot::Finished {
+            replies,
+            locked_at,
+            ..
+        } => replied(alloc, replies, *locked_at),
     }
 }
 
@@ -112,44 +120,34 @@ fn replied(alloc: Global, replies: &List<Reply>, stamp: Stamp) -> Result<Replied
     })
 }
 
-// What a Finish is answered where no batch of the lane is remembered.
-#[tactic(auto, using(crate::proofs::Finishes::finishes))]
-fn finish_idle(number: u64, call: &FinishCall) -> StampPlan
-    ensures next { (t : ℕ)
-        → FitsFinish result (LaneSlot.Idle number t) call.now.batch.number call.now.decisions }
-    ensures plan { (J : Items Record) (t : ℕ) → SlotStands (LaneSlot.Idle number t) J call.now.batch.lane
-        → core_plan result ≡ next_finish J call.now.batch call.now.decisions call.now.cause }
+// Why a Finish or a Forget is refused whose number is not that of the lane's last batch.
+fn other_number(number: u64, given: u64) -> Refused
+    ensures stale { given < number → result ≡ Refused.Stale number }
+    ensures ahead { number < given → result ≡ Refused.NotLocked number }
 {
-    if call.batch.number <= number {
-        StampPlan::Refused(Refused::Stale { kept: number })
+    if given < number {
+        Refused::Stale { kept: number }
     } else {
-        StampPlan::Refused(Refused::NotLocked { kept: number })
+        Refused::NotLocked { kept: number }
     }
 }
 
-// What a Finish is answered where the lane's last batch is locked with these replies, under this stamp.
-#[tactic(auto, using(crate::proofs::Finishes::finishes))]
-fn finish_locked(
-    number: u64,
-    replies: &[Reply],
-    stamp: Stamp,
-    call: &FinishCall,
-    next: Stamp,
-) -> StampPlan
+// Whether the cause is no later than the stamp.
+fn is_early(cause: Stamp, stamp: Stamp) -> bool
+    ensures { MatchBool result (cause ≤ stamp) (stamp < cause) }
+{
+    cause.0 <= stamp.0
+}
+
+// What a Finish is answered where its batch is locked with these replies, under this stamp.
+fn finish_locked(replies: &[Reply], stamp: Stamp, call: &FinishCall, next: Stamp) -> StampPlan
     ensures next { (part : Items Entry) → FitsFinish result
-        (LaneSlot.Locked number part replies.now stamp) call.now.batch.number call.now.decisions }
+        (LaneSlot.Locked call.now.batch.number part replies.now stamp) call.now.batch.number call.now.decisions }
     ensures plan { (J : Items Record) (part : Items Entry)
-        → SlotStands (LaneSlot.Locked number part replies.now stamp) J call.now.batch.lane
+        → SlotStands (LaneSlot.Locked call.now.batch.number part replies.now stamp) J call.now.batch.lane
         → next ≡ next_stamp J call.now.cause
         → core_plan result ≡ next_finish J call.now.batch call.now.decisions call.now.cause }
 {
-    let given = call.batch.number;
-    if given < number {
-        return StampPlan::Refused(Refused::Stale { kept: number });
-    }
-    if number < given {
-        return StampPlan::Refused(Refused::NotLocked { kept: number });
-    }
     match misfit(replies, call.decisions.as_slice()) {
         Some(at) => StampPlan::Refused(Refused::OtherOutcome { at }),
         None if is_early(call.cause, stamp) => {
@@ -159,22 +157,14 @@ fn finish_locked(
     }
 }
 
-// What a Finish is answered where the lane's last batch is finished with these decisions, under this stamp.
-#[tactic(auto, using(crate::proofs::Finishes::finishes))]
-fn finish_again(number: u64, decisions: &[bool], stamp: Stamp, call: &FinishCall) -> StampPlan
+// What a Finish is answered where its batch is finished with these decisions, under this stamp.
+fn finish_again(decisions: &[bool], stamp: Stamp, call: &FinishCall) -> StampPlan
     ensures next { (part : Items Entry) (rs : Items Reply) (t : ℕ) → FitsFinish result
-        (LaneSlot.Finished number part rs decisions.now t stamp) call.now.batch.number call.now.decisions }
+        (LaneSlot.Finished call.now.batch.number part rs decisions.now t stamp) call.now.batch.number call.now.decisions }
     ensures plan { (J : Items Record) (part : Items Entry) (rs : Items Reply) (t : ℕ)
-        → SlotStands (LaneSlot.Finished number part rs decisions.now t stamp) J call.now.batch.lane
+        → SlotStands (LaneSlot.Finished call.now.batch.number part rs decisions.now t stamp) J call.now.batch.lane
         → core_plan result ≡ next_finish J call.now.batch call.now.decisions call.now.cause }
 {
-    let given = call.batch.number;
-    if given < number {
-        return StampPlan::Refused(Refused::Stale { kept: number });
-    }
-    if number < given {
-        return StampPlan::Refused(Refused::NotLocked { kept: number });
-    }
     match other_decisions(decisions, call.decisions.as_slice()) {
         Some(at) => StampPlan::Refused(Refused::OtherOutcome { at }),
         None => StampPlan::Kept(stamp),
@@ -188,32 +178,23 @@ pub fn judge_finish(slot: &LaneSlot, call: &FinishCall, next: Stamp) -> StampPla
         → SlotStands slot.now J call.now.batch.lane → next ≡ next_stamp J call.now.cause
         → core_plan result ≡ next_finish J call.now.batch call.now.decisions call.now.cause }
 {
-    match slot {
-        LaneSlot::Idle(number, _) => finish_idle(*number, call),
-        LaneSlot::Locked(number, _, replies, stamp) => {
-            finish_locked(*number, replies.as_slice(), *stamp, call, next)
-        }
-        LaneSlot::Finished(number, _, _, decisions, _, stamp) => {
-            finish_again(*number, decisions.as_slice(), *stamp, call)
-        }
+    let given = call.batch.number;
+    let number = number_of(slot);
+    if given != number {
+        return StampPlan::Refused(other_number(number, given));
     }
-}
-
-// Whether the cause is no later than the stamp.
-fn is_early(cause: Stamp, stamp: Stamp) -> bool
-    ensures { MatchBool result (cause ≤ stamp) (stamp < cause) }
-{
-    cause.0 <= stamp.0
-}
-
-fn late_enough(stamp: Stamp, cause: Stamp, next: Stamp) -> StampPlan
-    ensures early { cause ≤ stamp → result ≡ StampPlan.Refused (Refused.EarlyStamp stamp) }
-    ensures next { stamp < cause → result ≡ StampPlan.Append next }
-{
-    if cause.0 <= stamp.0 {
-        StampPlan::Refused(Refused::EarlyStamp { kept: stamp })
-    } else {
-        StampPlan::Append(next)
+    match slot {
+        LaneSlot::Idle { .. } => StampPlan::Refused(Refused::Stale { kept: number }),
+        LaneSlot::Locked {
+            replies,
+            locked_at,
+            ..
+        } => finish_locked(replies.as_slice(), *locked_at, call, next),
+        LaneSlot::Finished {
+            decisions,
+            finished_at,
+            ..
+        } => finish_again(decisions.as_slice(), *finished_at, call),
     }
 }
 
@@ -226,15 +207,18 @@ pub fn judge_forget(slot: &LaneSlot, call: &ForgetCall, next: Stamp) -> StampPla
 {
     let given = call.batch.number;
     let number = number_of(slot);
-    if given < number {
-        return StampPlan::Refused(Refused::Stale { kept: number });
-    }
-    if number < given {
-        return StampPlan::Refused(Refused::NotLocked { kept: number });
+    if given != number {
+        return StampPlan::Refused(other_number(number, given));
     }
     match slot {
-        LaneSlot::Idle(_, stamp) => StampPlan::Kept(*stamp),
-        LaneSlot::Locked(_, _, _, _) => StampPlan::Refused(Refused::NotFinished { kept: number }),
-        LaneSlot::Finished(_, _, _, _, _, stamp) => late_enough(*stamp, call.cause, next),
+        LaneSlot::Idle { stamp, .. } => StampPlan::Kept(*stamp),
+        LaneSlot::Locked { .. } => StampPlan::Refused(Refused::NotFinished { kept: number }),
+        LaneSlot::Finished { finished_at, .. } => {
+            if is_early(call.cause, *finished_at) {
+                StampPlan::Refused(Refused::EarlyStamp { kept: *finished_at })
+            } else {
+                StampPlan::Append(next)
+            }
+        }
     }
 }

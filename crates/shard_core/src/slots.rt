@@ -11,11 +11,26 @@ use std::mem;
 #[derive(Debug, PartialEq, Eq, Drop)]
 pub enum LaneSlot {
     /// No batch is remembered. The stamp is that of the lane's last record here.
-    Idle(u64, Stamp),
+    Idle {
+        number: u64,
+        stamp: Stamp,
+    },
     /// The part was locked with these replies, under this stamp.
-    Locked(u64, Part, List<Reply>, Stamp),
+    Locked {
+        number: u64,
+        part: Part,
+        replies: List<Reply>,
+        locked_at: Stamp,
+    },
     /// The part was locked with these replies and finished with these decisions, under these two stamps.
-    Finished(u64, Part, List<Reply>, Decisions, Stamp, Stamp),
+    Finished {
+        number: u64,
+        part: Part,
+        replies: List<Reply>,
+        decisions: Decisions,
+        locked_at: Stamp,
+        finished_at: Stamp,
+    },
 }
 
 /// A slot for each lane.
@@ -40,7 +55,10 @@ impl Slots {
     {
         let mut slots = Vec::with_capacity(alloc, lanes as usize)?;
         for _ in 0..lanes {
-            slots.push(LaneSlot::Idle(0, Stamp(0)))?;
+            slots.push(LaneSlot::Idle {
+                number: 0,
+                stamp: Stamp(0),
+            })?;
         }
         Ok(Slots { slots })
     }
@@ -83,7 +101,10 @@ impl Slots {
     {
         mem::replace(
             &mut self.slots[lane.0 as usize],
-            LaneSlot::Idle(0, Stamp(0)),
+            LaneSlot::Idle {
+                number: 0,
+                stamp: Stamp(0),
+            },
         )
     }
 }

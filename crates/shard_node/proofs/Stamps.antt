@@ -1,5 +1,5 @@
 -- Finish and Forget: the room and the memory that the Lock took are there.
-use Rattle.std.proofs.Common.{◌≡◌, ◌≢◌, ℕ, ◌+◌, ◌-◌, ◌*◌, ◌^◌, ◌≤◌, Bool, List, ◌∷◌, length, vec_capacity, Some, None, sym, ◌∙◌, ap, subst, arith}
+use Rattle.std.proofs.Common.{◌≡◌, ◌≢◌, ℕ, ◌+◌, ◌-◌, ◌*◌, ◌^◌, ◌≤◌, Bool, List, ◌∷◌, length, vec_capacity, Some, None, refl, sym, ap, subst, arith}
 use Rattle.std.specs.Global.{Vec}
 use Rattle.std.specs.Prelude.{slice_get}
 use Rattle.std.proofs.lemmas.List.Sums.{sum_by-cons}
@@ -7,11 +7,11 @@ use Rattle.cbdc_types.specs.declared.calls.FinishCall.{FinishCall}
 use Rattle.cbdc_types.specs.declared.calls.ForgetCall.{ForgetCall}
 use Rattle.cbdc_model.specs.Records.{Header, Record, lock_of, Finish, Forget}
 use Rattle.cbdc_model.specs.After.{After}
-use Rattle.cbdc_model.specs.Room.{kept_room, size_of}
-use Rattle.cbdc_model.specs.Due.{Writes, finish_due, forget_due}
+use Rattle.cbdc_model.specs.Room.{kept_room, size_of, need_of}
+use Rattle.cbdc_model.specs.Due.{Writes, used_of, finish_due, forget_due}
 use Rattle.cbdc_model.specs.Next.{Append, next_finish, next_forget}
 use Rattle.outside.specs.declared.disk.Disk.{Ghosts}
-use Rattle.gate_journal.specs.Shown.{disk_of, gate_of, broken_of}
+use Rattle.gate_journal.specs.Shown.{disk_of, broken_of}
 use Rattle.record_log.specs.Bodies.{body_of}
 use Rattle.record_log.specs.declared.log.RecordLog.{RecordLog}
 use Rattle.record_log.specs.Logs.{HasLogRoom}
@@ -19,11 +19,15 @@ use Rattle.record_log.proofs.LogSizes.{size_is}
 use Rattle.shard_core.proofs.Applies.{Yes, No, same_nat}
 use Rattle.shard_node.specs.declared.parts.Parts.{Parts}
 use Rattle.cbdc_model.specs.Calls.{IsFinishCall, IsForgetCall}
-use Rattle.shard_node.specs.Parts.{HasRecords, IsShardOf, HasWritten, HasFailedAt, journal_of_parts}
+use Rattle.record_grammar.specs.Kinds.{IsShardHeader}
+use Rattle.shard_core.specs.declared.core_state.ShardCore.{ShardCore}
+use Rattle.node_journal.specs.Sound.{IsNode, journal_of}
+use Rattle.node_journal.specs.declared.nodes.Node.{Node}
+use Rattle.shard_node.specs.Parts.{HasRecords, IsShardOf}
 use Rattle.shard_node.proofs.Lanes.{IsLockedWith, same_room, same_lock, past_finish, past_forget, own_finish, own_forget, room_locked, room_finished, finished_room, forgotten_room}
 use Rattle.shard_node.proofs.Rooms.{kept_moves}
 use Rattle.shard_node.proofs.Follows.{FinishFollows, ForgetFollows, finish_appends, finish_after, fits_length, forget_appends, forget_after}
-use Rattle.shard_node.proofs.Keeps.{parts_standing, written_is_shard, failed}
+use Rattle.shard_node.proofs.Keeps.{HasWritten, wrote}
 use Rattle.shard_node.proofs.Owed.{finish_writes, forget_writes}
 
 -- what a Finish and a Forget leave to be kept
@@ -50,92 +54,80 @@ module _ {D : Type 0} {G : Ghosts D} where
 
   -- ---- Finish
 
-  module _ (p : Parts D G) (c : FinishCall) (t : ℕ) (is : IsShardOf p) (call : IsFinishCall p.log.header c) (whole : broken_of p.log.journal ≡ None) (planned : next_finish (journal_of_parts p) c.batch c.decisions c.cause ≡ Append t)
+  module _ (p : Parts D G) (c : FinishCall) (t : ℕ) (is : IsShardOf p) (call : IsFinishCall p.node.log.header c) (whole : broken_of p.node.log.journal ≡ None) (planned : next_finish (journal_of p.node) c.batch c.decisions c.cause ≡ Append t)
       (early : t ≤ 2 ^ 62 + 2 ^ 20) where
-    finish_next : FinishFollows (journal_of_parts p) c.batch c.decisions c.cause t
-    finish_next = finish_appends (journal_of_parts p) c.batch c.decisions c.cause t planned
+    finish_next : FinishFollows (journal_of p.node) c.batch c.decisions c.cause t
+    finish_next = finish_appends (journal_of p.node) c.batch c.decisions c.cause t planned
 
-    finish_fits : After p.log.header (journal_of_parts p) (Finish t c.batch c.decisions)
-    finish_fits = finish_after p.log.header (journal_of_parts p) c t is.shard call finish_next early
+    pub finish_fits : After p.node.log.header (journal_of p.node) (Finish t c.batch c.decisions)
+    finish_fits = finish_after p.node.log.header (journal_of p.node) c t is.node.kind call finish_next early
 
     finish_size : 9 + length (body_of (Finish t c.batch c.decisions)) ≡ 42 + length c.decisions
-    finish_size = size_is p.log.header (Finish t c.batch c.decisions) is.limits finish_fits.0
+    finish_size = size_is p.node.log.header (Finish t c.batch c.decisions) is.node.limits finish_fits.0
 
-    finish_kept : kept_room p.log.header.shape (Finish t c.batch c.decisions ∷ journal_of_parts p) + (42 + length c.decisions) ≡ kept_room p.log.header.shape (journal_of_parts p)
-    finish_kept = finish_keeps p.log.header (journal_of_parts p) c t call finish_next
+    finish_kept : kept_room p.node.log.header.shape (Finish t c.batch c.decisions ∷ journal_of p.node) + (42 + length c.decisions) ≡ kept_room p.node.log.header.shape (journal_of p.node)
+    finish_kept = finish_keeps p.node.log.header (journal_of p.node) c t call finish_next
 
     pub finish_decisions : (m : Vec Bool) → slice_get p.decisions.items c.batch.lane ≡ Some m → length c.decisions ≤ vec_capacity m
     finish_decisions m get =
         let next = finish_next in
-        let old = (is.sound whole).decisions c.batch.lane m get next.locked in
-        let batch : lock_of (journal_of_parts p) (record { lane = c.batch.lane; number = _ }) ≡ lock_of (journal_of_parts p) c.batch = ap (λ (n : ℕ). lock_of (journal_of_parts p) (record { lane = c.batch.lane; number = n })) next.number in
-        omega (arith, old, ap length batch, fits_length (lock_of (journal_of_parts p) c.batch) c.decisions next.fits)
+        let old = (is.memory whole).decisions c.batch.lane m get next.locked in
+        let batch : lock_of (journal_of p.node) (record { lane = c.batch.lane; number = _ }) ≡ lock_of (journal_of p.node) c.batch = ap (λ (n : ℕ). lock_of (journal_of p.node) (record { lane = c.batch.lane; number = n })) next.number in
+        omega (arith, old, ap length batch, fits_length (lock_of (journal_of p.node) c.batch) c.decisions next.fits)
 
-    pub finish_memory : HasLogRoom p.log 1 (length (body_of (Finish t c.batch c.decisions)))
+    pub finish_memory : HasLogRoom p.node.log 1 (length (body_of (Finish t c.batch c.decisions)))
     finish_memory =
-        room_for p.log (kept_room p.log.header.shape (journal_of_parts p)) (length (body_of (Finish t c.batch c.decisions))) (is.sound whole).records (omega (arith, finish_kept)) (omega (arith, finish_size, call.size.1, is.limits.batch))
+        room_for p.node.log (kept_room p.node.log.header.shape (journal_of p.node)) (length (body_of (Finish t c.batch c.decisions))) (is.memory whole).records (omega (arith, finish_kept)) (omega (arith, finish_size, call.size.1, is.node.limits.batch))
 
-    pub finish_room : gate_of p.log.journal + 1 + (9 + length (body_of (Finish t c.batch c.decisions))) ≤ G.limit (disk_of p.log.journal)
-    finish_room = let sound = is.sound whole in omega (arith, sound.used, sound.free, finish_size, finish_kept)
+    pub finish_need : used_of (journal_of p.node) + need_of p.node.log.header.shape (journal_of p.node) (Finish t c.batch c.decisions) ≤ G.limit (disk_of p.node.log.journal)
+    finish_need = omega (arith, is.room, finish_kept)
 
-    pub finish_wrote : (memory : Vec (Vec Bool)) (new : Parts D G) → HasWritten (record p { decisions = memory }) new (Finish t c.batch c.decisions) → length memory.items ≡ length p.decisions.items
-        → ((l : ℕ) (m : Vec Bool) → l ≢ c.batch.lane → slice_get memory.items l ≡ Some m → slice_get p.decisions.items l ≡ Some m) → IsShardOf new
-    finish_wrote memory new w len others =
-        let sound = is.sound whole in
-        let J = journal_of_parts p in
+    pub finish_wrote : (memory : Vec (Vec Bool)) (node : Node ShardCore D G) → IsNode IsShardHeader node → HasWritten p.node node (Finish t c.batch c.decisions) → length memory.items ≡ length p.decisions.items
+        → ((l : ℕ) (m : Vec Bool) → l ≢ c.batch.lane → slice_get memory.items l ≡ Some m → slice_get p.decisions.items l ≡ Some m) → IsShardOf (record { node = node; decisions = memory })
+    finish_wrote memory node now w len others =
+        let old = is.memory whole in
+        let J = journal_of p.node in
         let r : Record = Finish t c.batch c.decisions in
         let kept = finish_kept in
-        written_is_shard (record p { decisions = memory }) new r (record { header = is.header; stands = is.stands; journal = is.journal; shard = is.shard; limits = is.limits; lanes = len ∙ is.lanes; opened = is.opened; room = is.room }) w finish_fits sound.used
-        (omega (arith, sound.free, kept, sum_by-cons size_of r J)) (λ lane m get. elim (same_nat c.batch.lane lane) [
+        wrote p memory node r is len now w (omega (arith, is.room, kept, sum_by-cons size_of r J)) (λ lane m get. elim (same_nat c.batch.lane lane) [
           | Yes e ↦ subst (λ (l : ℕ). IsLockedWith (r ∷ J) l (vec_capacity m)) e (own_finish J t c.batch c.decisions (vec_capacity m))
-          | No apart ↦ same_lock J (r ∷ J) lane (vec_capacity m) (past_finish J t c.batch c.decisions lane apart) (sound.decisions lane m (others lane m (λ e. apart (sym e)) get))
-        ]) (sound.records.count - 1) (one_less p.log (kept_room p.log.header.shape J) sound.records (omega (arith, kept))) (omega (arith, sound.records.enough, kept)) sound.landed
+          | No apart ↦ same_lock J (r ∷ J) lane (vec_capacity m) (past_finish J t c.batch c.decisions lane apart) (old.decisions lane m (others lane m (λ e. apart (sym e)) get))
+        ]) (old.records.count - 1) (one_less p.node.log (kept_room p.node.log.header.shape J) old.records (omega (arith, kept))) (omega (arith, old.records.enough, kept))
 
-    -- the disk failed at it
-    pub finish_left : (memory : Vec (Vec Bool)) (new : Parts D G) → HasFailedAt (record p { decisions = memory }) new (Finish t c.batch c.decisions) → length memory.items ≡ length p.decisions.items → IsShardOf new
-    finish_left memory new f len =
-        failed (record p { decisions = memory }) new (Finish t c.batch c.decisions)
-        (record { header = is.header; stands = is.stands; journal = is.journal; shard = is.shard; limits = is.limits; lanes = len ∙ is.lanes; opened = is.opened; room = is.room }) f finish_fits
-        (let sound = is.sound whole in omega (arith, sound.used, finish_room, finish_size))
-
-    pub finish_owes : finish_due c None (journal_of_parts p) ≡ Writes t (Finish t c.batch c.decisions)
-    finish_owes = finish_writes c (journal_of_parts p) t planned finish_next.is early
+    pub finish_owes : finish_due c None (journal_of p.node) ≡ Writes t (Finish t c.batch c.decisions)
+    finish_owes = finish_writes c (journal_of p.node) t planned finish_next.is early
 
   -- ---- Forget
 
-  module _ (p : Parts D G) (c : ForgetCall) (t : ℕ) (is : IsShardOf p) (call : IsForgetCall p.log.header c) (whole : broken_of p.log.journal ≡ None) (planned : next_forget (journal_of_parts p) c.batch c.cause ≡ Append t) (early : t ≤ 2 ^ 62 + 2 ^ 20) where
-    forget_next : ForgetFollows (journal_of_parts p) c.batch c.cause t
-    forget_next = forget_appends (journal_of_parts p) c.batch c.cause t planned
+  module _ (p : Parts D G) (c : ForgetCall) (t : ℕ) (is : IsShardOf p) (call : IsForgetCall p.node.log.header c) (whole : broken_of p.node.log.journal ≡ None) (planned : next_forget (journal_of p.node) c.batch c.cause ≡ Append t) (early : t ≤ 2 ^ 62 + 2 ^ 20) where
+    forget_next : ForgetFollows (journal_of p.node) c.batch c.cause t
+    forget_next = forget_appends (journal_of p.node) c.batch c.cause t planned
 
-    forget_fits : After p.log.header (journal_of_parts p) (Forget t c.batch)
-    forget_fits = forget_after p.log.header (journal_of_parts p) c t is.shard call forget_next early
+    pub forget_fits : After p.node.log.header (journal_of p.node) (Forget t c.batch)
+    forget_fits = forget_after p.node.log.header (journal_of p.node) c t is.node.kind call forget_next early
 
     forget_size : 9 + length (body_of (Forget t c.batch)) ≡ 34
-    forget_size = size_is p.log.header (Forget t c.batch) is.limits forget_fits.0
+    forget_size = size_is p.node.log.header (Forget t c.batch) is.node.limits forget_fits.0
 
-    forget_kept : kept_room p.log.header.shape (Forget t c.batch ∷ journal_of_parts p) + 34 ≡ kept_room p.log.header.shape (journal_of_parts p)
-    forget_kept = forget_keeps p.log.header (journal_of_parts p) c t call forget_next
+    forget_kept : kept_room p.node.log.header.shape (Forget t c.batch ∷ journal_of p.node) + 34 ≡ kept_room p.node.log.header.shape (journal_of p.node)
+    forget_kept = forget_keeps p.node.log.header (journal_of p.node) c t call forget_next
 
-    pub forget_memory : HasLogRoom p.log 1 (length (body_of (Forget t c.batch)))
-    forget_memory = room_for p.log (kept_room p.log.header.shape (journal_of_parts p)) (length (body_of (Forget t c.batch))) (is.sound whole).records (omega (arith, forget_kept)) (omega (arith, forget_size))
+    pub forget_memory : HasLogRoom p.node.log 1 (length (body_of (Forget t c.batch)))
+    forget_memory = room_for p.node.log (kept_room p.node.log.header.shape (journal_of p.node)) (length (body_of (Forget t c.batch))) (is.memory whole).records (omega (arith, forget_kept)) (omega (arith, forget_size))
 
-    pub forget_room : gate_of p.log.journal + 1 + (9 + length (body_of (Forget t c.batch))) ≤ G.limit (disk_of p.log.journal)
-    forget_room = let sound = is.sound whole in omega (arith, sound.used, sound.free, forget_size, forget_kept)
+    pub forget_need : used_of (journal_of p.node) + need_of p.node.log.header.shape (journal_of p.node) (Forget t c.batch) ≤ G.limit (disk_of p.node.log.journal)
+    forget_need = omega (arith, is.room, forget_kept)
 
-    pub forget_wrote : (new : Parts D G) → HasWritten p new (Forget t c.batch) → IsShardOf new
-    forget_wrote new w =
-        let sound = is.sound whole in
-        let J = journal_of_parts p in
+    pub forget_wrote : (node : Node ShardCore D G) → IsNode IsShardHeader node → HasWritten p.node node (Forget t c.batch) → IsShardOf (record { node = node; decisions = p.decisions })
+    forget_wrote node now w =
+        let old = is.memory whole in
+        let J = journal_of p.node in
         let r : Record = Forget t c.batch in
         let kept = forget_kept in
-        written_is_shard p new r (parts_standing p is) w forget_fits sound.used (omega (arith, sound.free, kept, sum_by-cons size_of r J)) (λ lane m get. elim (same_nat c.batch.lane lane) [
+        wrote p p.decisions node r is refl now w (omega (arith, is.room, kept, sum_by-cons size_of r J)) (λ lane m get. elim (same_nat c.batch.lane lane) [
           | Yes e ↦ subst (λ (l : ℕ). IsLockedWith (r ∷ J) l (vec_capacity m)) e (own_forget J t c.batch (vec_capacity m))
-          | No apart ↦ same_lock J (r ∷ J) lane (vec_capacity m) (past_forget J t c.batch lane apart) (sound.decisions lane m get)
-        ]) (sound.records.count - 1) (one_less p.log (kept_room p.log.header.shape J) sound.records (omega (arith, kept))) (omega (arith, sound.records.enough, kept)) sound.landed
+          | No apart ↦ same_lock J (r ∷ J) lane (vec_capacity m) (past_forget J t c.batch lane apart) (old.decisions lane m get)
+        ]) (old.records.count - 1) (one_less p.node.log (kept_room p.node.log.header.shape J) old.records (omega (arith, kept))) (omega (arith, old.records.enough, kept))
 
-    -- the disk failed at it
-    pub forget_left : (new : Parts D G) → HasFailedAt p new (Forget t c.batch) → IsShardOf new
-    forget_left new f = failed p new (Forget t c.batch) (parts_standing p is) f forget_fits (let sound = is.sound whole in omega (arith, sound.used, forget_room, forget_size))
-
-    pub forget_owes : forget_due c None (journal_of_parts p) ≡ Writes t (Forget t c.batch)
-    forget_owes = forget_writes c (journal_of_parts p) t planned forget_next.is early
+    pub forget_owes : forget_due c None (journal_of p.node) ≡ Writes t (Forget t c.batch)
+    forget_owes = forget_writes c (journal_of p.node) t planned forget_next.is early

@@ -16,7 +16,6 @@ mod node;
 mod opening;
 mod parts;
 mod stamping;
-mod writing;
 
 pub use conditions::{is_finish_call, is_forget_call, is_lock_call};
 pub use node::ShardNode;

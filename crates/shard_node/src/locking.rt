@@ -9,11 +9,12 @@ ghost use Rattle.shard_core.specs.Plans.{core_replies};
 ghost use Rattle.shard_core.specs.Stands.{IsLockReady, IsLaneFree};
 ghost use Rattle.cbdc_model.specs.Calls.{IsLockCall};
 ghost use Rattle.node_journal.specs.Answered.{HasAnswered};
-ghost use Rattle.shard_node.specs.Parts.{IsShardOf, IsLockOf, journal_of_parts, view_of};
+ghost use Rattle.node_journal.specs.Sound.{journal_of, view_of};
+ghost use Rattle.shard_node.specs.Parts.{IsShardOf, IsLockOf};
 
 use crate::parts::Parts;
-use crate::writing::write;
 use cbdc_types::{LaneId, List, LockCall, NodeFault, Record, Replied};
+use node_journal::write;
 use outside::Disk;
 use record_log::{RecordLog, size_of_record};
 use shard_core::{LockPlan, answered};
@@ -80,16 +81,16 @@ fn append_lock<D: Disk>(
     replied: Replied,
 ) -> Result<Replied, NodeFault>
     requires shard { IsShardOf parts.old }
-    requires call { IsLockCall parts.old.log.header call.now }
-    requires whole { broken_of parts.old.log.journal ≡ None }
-    requires next { next_lock (journal_of_parts parts.old) call.now.batch call.now.part call.now.cause
+    requires call { IsLockCall parts.old.node.log.header call.now }
+    requires whole { broken_of parts.old.node.log.journal ≡ None }
+    requires next { next_lock (journal_of parts.old.node) call.now.batch call.now.part call.now.cause
         ≡ Append (core_replies replied) }
-    requires ready { IsLockReady parts.old.core call.now.part replied.replies }
-    requires free { IsLaneFree parts.old.core call.now.batch.lane }
+    requires ready { IsLockReady parts.old.node.core call.now.part replied.replies }
+    requires free { IsLaneFree parts.old.node.core call.now.batch.lane }
     ensures shard { IsShardOf parts.new }
-    ensures answered { HasAnswered D.Disk true (lock_due parts.old.log.header.shape
-        (D.limit (disk_of parts.old.log.journal)) call.now None (journal_of_parts parts.old))
-        (view_of parts.old) (view_of parts.new) result }
+    ensures answered { HasAnswered D.Disk true (lock_due parts.old.node.log.header.shape
+        (D.limit (disk_of parts.old.node.log.journal)) call.now None (journal_of parts.old.node))
+        (view_of parts.old.node) (view_of parts.new.node) result }
 {
     let stamp = replied.stamp;
     if stamp.0 > LAST_LOCK {
@@ -99,10 +100,10 @@ fn append_lock<D: Disk>(
         return Err(NodeFault::Memory);
     };
     let size = size_of_record(&next);
-    let later = BEHIND_LOCK + call.part.len() as u64 + parts.core.kept_room();
-    let used = parts.log.used();
+    let later = BEHIND_LOCK + call.part.len() as u64 + parts.node.core.kept_room();
+    let used = parts.node.log.used();
     let need = size + later;
-    let capacity = parts.log.capacity();
+    let capacity = parts.node.log.capacity();
     if need > capacity - used {
         return Err(NodeFault::Full {
             used,
@@ -112,7 +113,7 @@ fn append_lock<D: Disk>(
     }
     let count = (later / LEAST + 2) as usize;
     match take_memory(
-        &mut parts.log,
+        &mut parts.node.log,
         &mut parts.decisions,
         call.batch.lane,
         call.part.len(),
@@ -122,7 +123,7 @@ fn append_lock<D: Disk>(
         Ok(()) => {}
         Err(_) => return Err(NodeFault::Memory),
     }
-    match write(parts, next) {
+    match write(&mut parts.node, next) {
         Ok(()) => Ok(replied),
         Err(fault) => Err(fault),
     }
@@ -135,17 +136,17 @@ pub(crate) fn lock_parts<D: Disk>(
     call: &LockCall,
 ) -> Result<Replied, NodeFault>
     requires shard { IsShardOf parts.old }
-    requires call { IsLockCall parts.old.log.header call.now }
+    requires call { IsLockCall parts.old.node.log.header call.now }
     ensures shard { IsShardOf parts.new }
-    ensures answered { HasAnswered D.Disk true (lock_due parts.old.log.header.shape
-        (D.limit (disk_of parts.old.log.journal)) call.now
-        (broken_of parts.old.log.journal) (journal_of_parts parts.old))
-        (view_of parts.old) (view_of parts.new) result }
+    ensures answered { HasAnswered D.Disk true (lock_due parts.old.node.log.header.shape
+        (D.limit (disk_of parts.old.node.log.journal)) call.now
+        (broken_of parts.old.node.log.journal) (journal_of parts.old.node))
+        (view_of parts.old.node) (view_of parts.new.node) result }
 {
-    if let Some(since) = parts.log.is_broken() {
+    if let Some(since) = parts.node.log.is_broken() {
         return Err(NodeFault::Broken { since });
     }
-    match parts.core.plan_lock(call) {
+    match parts.node.core.plan_lock(call) {
         Ok(LockPlan::Kept(replied)) => Ok(replied),
         Ok(LockPlan::Refused(why)) => Err(NodeFault::Refused(why)),
         Ok(LockPlan::Append(replied)) => append_lock(alloc, parts, call, replied),

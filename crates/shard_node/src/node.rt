@@ -1,8 +1,6 @@
 // The calls at a shard.
-ghost use Rattle.std.specs.Prelude.{◌≡◌, ◌↔◌, ◌+◌, ◌≤◌, true, false, None, IsTrue, IsSome, IfSome, reverse};
-ghost use Rattle.cbdc_model.specs.Due.{used_of, lock_due, finish_due, forget_due};
-ghost use Rattle.cbdc_model.specs.Room.{kept_room, need_of};
-ghost use Rattle.cbdc_model.specs.Sights.{IsBrokenSince};
+ghost use Rattle.std.specs.Prelude.{◌≡◌, ◌↔◌, true, false, IsTrue, IsSome, IfSome, reverse};
+ghost use Rattle.cbdc_model.specs.Due.{lock_due, finish_due, forget_due};
 ghost use Rattle.cbdc_model.specs.After.{After, IsJournal};
 ghost use Rattle.cbdc_model.specs.Grammar.{IsShard};
 ghost use Rattle.cbdc_model.specs.Status.{status};
@@ -11,6 +9,7 @@ ghost use Rattle.shard_core.specs.Counts.{CountsUnspent};
 ghost use Rattle.shard_core.specs.Remembers.{told_fate};
 ghost use Rattle.cbdc_model.specs.Calls.{IsLockCall, IsFinishCall, IsForgetCall};
 ghost use Rattle.node_journal.specs.Answered.{HasAnswered};
+ghost use Rattle.node_journal.specs.Sound.{IsSoundNode};
 
 use crate::locking::lock_parts;
 use crate::parts::Parts;
@@ -18,6 +17,7 @@ use crate::stamping::{finish_parts, forget_parts};
 use cbdc_types::{
     FinishCall, ForgetCall, Hash, Header, LockCall, NodeFault, Record, Replied, Stamp, Status,
 };
+use node_journal::Node;
 use outside::Disk;
 use shard_core::Remembered;
 use std::alloc::Global;
@@ -35,19 +35,21 @@ impl<D: Disk> Model for ShardNode<D> {
 
     ghost Value = { NodeOf D };
 
-    ghost use Rattle.shard_node.specs.Parts.{IsShardOf, view_of};
+    ghost use Rattle.node_journal.specs.Sound.{view_of};
+    ghost use Rattle.shard_node.specs.Parts.{IsShardOf};
 
-    ghost view = { λ n. view_of n.parts };
+    ghost view = { λ n. view_of n.parts.node };
 
     ghost invariant = { λ n. IsShardOf n.parts };
 }
 
 impl<D: Disk> ShardNode<D> {
-    ghost use Rattle.shard_node.specs.Parts.{IsShardOf, view_of};
+    ghost use Rattle.node_journal.specs.Sound.{view_of};
+    ghost use Rattle.shard_node.specs.Parts.{IsShardOf};
 
     pub(crate) fn of_parts(alloc: Global, parts: Parts<D>) -> ShardNode<D>
         requires { IsShardOf parts }
-        ensures { result ≡ view_of parts }
+        ensures { result ≡ view_of parts.node }
     {
         ShardNode { alloc, parts }
     }
@@ -90,51 +92,38 @@ impl<D: Disk> ShardNode<D> {
     pub fn check_unspent(&self, hash: &Hash) -> Status
         ensures { result ≡ status self.now.journal hash.now }
     {
-        self.parts.core.check_unspent(hash)
+        self.parts.node.core.check_unspent(hash)
     }
 
     /// How many hashes are unspent here. Takes no memory.
     pub fn unspent_len(&self) -> u64
         ensures { CountsUnspent self.now.journal result }
     {
-        self.parts.core.unspent_len()
+        self.parts.node.core.unspent_len()
     }
 
     /// What the shard remembers of a transaction. Takes no memory.
     pub fn check_tx(&self, id: &Hash) -> Option<Remembered>
         ensures { told_fate result ≡ fate self.now.header.shape self.now.journal id.now }
     {
-        self.parts.core.check_tx(id)
+        self.parts.node.core.check_tx(id)
     }
 
     /// The header of its journal. Takes no memory.
     pub fn header(&self) -> &Header
         ensures header { result.now ≡ self.now.header }
 
-        // Its disk's count has not fallen since it was opened, and has risen if an append has failed since.
-        ensures since_opened { self.now.opened ≤ self.now.faults }
-        ensures since_broken { IsBrokenSince self.now.opened self.now.faults self.now.broken }
-        ensures count { self.now.faults ≡ D.count self.now.disk }
-        ensures capacity { self.now.capacity ≡ D.limit self.now.disk }
-
-        // A record is in flight exactly where an append has failed since, and it had room.
-        ensures landed { self.now.broken ≡ None → self.now.flight ≡ None }
-        ensures unbroken { self.now.flight ≡ None → self.now.broken ≡ None }
-        ensures fits { IfSome self.now.flight (λ r.
-            used_of self.now.journal + need_of self.now.header.shape self.now.journal r ≤ self.now.capacity) }
-
-        // What its journal takes, with what is kept for its unfinished batches, lies within the capacity.
-        ensures room { used_of self.now.journal + kept_room self.now.header.shape self.now.journal
-            ≤ self.now.capacity }
+        // Its count of faults, what is in flight and the room of its journal are sound.
+        ensures sound { IsSoundNode D.Disk self.now }
     {
-        &self.parts.log.header
+        &self.parts.node.log.header
     }
 
     /// Whether an append has failed since it was opened: its record is in flight. Takes no memory.
     pub fn is_broken(&self) -> bool
         ensures { IsTrue result ↔ IsSome self.now.flight }
     {
-        self.parts.flight.is_some()
+        self.parts.node.flight.is_some()
     }
 
     /// Its records, the newest last. Takes no memory.
@@ -146,7 +135,7 @@ impl<D: Disk> ShardNode<D> {
         // A record in flight may come next.
         ensures flying { IfSome self.now.flight (After self.now.header self.now.journal) }
     {
-        self.parts.log.records.as_slice()
+        self.parts.node.log.records.as_slice()
     }
 
     /// Gives the disk back. Takes no memory.
@@ -154,13 +143,13 @@ impl<D: Disk> ShardNode<D> {
         ensures { result ≡ self.disk }
     {
         let ShardNode { alloc: _, parts } = self;
-        let Parts {
+        let Parts { node, decisions: _ } = parts;
+        let Node {
             log,
             core: _,
-            decisions: _,
-            flight: _,
             opened: _,
-        } = parts;
+            flight: _,
+        } = node;
         log.into_disk()
     }
 }

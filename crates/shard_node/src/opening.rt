@@ -1,8 +1,7 @@
 // Opening a shard.
-ghost use Rattle.std.specs.Prelude.{◌≡◌, ◌≢◌, ◌+◌, ◌≤◌, ℕ, None, length, vec_capacity, All, IfOk, IfErr, MatchResult};
+ghost use Rattle.std.specs.Prelude.{◌≡◌, ◌≢◌, ◌+◌, ◌≤◌, None, length, vec_capacity, All, IfOk, IfErr, MatchResult};
 ghost use Rattle.outside.specs.Counts.{Rose};
 ghost use Rattle.outside.specs.Images.{Tells, Leaves};
-ghost use Rattle.gate_journal.specs.Shown.{disk_of};
 ghost use Rattle.cbdc_model.specs.After.{IsJournal};
 ghost use Rattle.cbdc_model.specs.Grammar.{IsShard};
 ghost use Rattle.cbdc_model.specs.Room.{kept_room};
@@ -16,7 +15,7 @@ use crate::ShardNode;
 use crate::locking::{LARGEST_FINISH, LEAST};
 use crate::parts::Parts;
 use cbdc_types::NodeOpenFault;
-use node_journal::{Opened, open_node};
+use node_journal::{Node, open_node};
 use outside::Disk;
 use shard_core::ShardCore;
 use std::alloc::{AllocError, Global};
@@ -36,26 +35,19 @@ fn memory_of(alloc: Global, lanes: u32, batch: u32) -> Result<Vec<Vec<bool>>, Al
 // The memory for the decisions of a shard's batches, and for the records of those that are unfinished.
 fn memory_ahead<D: Disk>(
     alloc: Global,
-    opened: &mut Opened<ShardCore, D>,
+    node: &mut Node<ShardCore, D>,
 ) -> Result<Vec<Vec<bool>>, AllocError>
-    requires { IsShardOpened opened.old }
-    ensures shard { IfOk result (λ decisions. (count : ℕ) → count ≤ D.count (disk_of opened.new.log.journal)
-        → IsShardOf (record {
-          log = opened.new.log;
-          core = opened.new.core;
-          decisions = decisions;
-          flight = None;
-          opened = count;
-        })) }
-    ensures untouched { IsUntouched opened.old.log opened.new.log }
-    ensures records { opened.new.log.records.items ≡ opened.old.log.records.items }
-    ensures header { opened.new.log.header ≡ opened.old.log.header }
+    requires { IsShardOpened node.old }
+    ensures shard { IfOk result (λ decisions. IsShardOf (record { node = node.new; decisions = decisions })) }
+    ensures untouched { IsUntouched node.old.log node.new.log }
+    ensures records { node.new.log.records.items ≡ node.old.log.records.items }
+    ensures header { node.new.log.header ≡ node.old.log.header }
+    ensures fresh { (node.new.opened ≡ node.old.opened) × (node.new.flight ≡ node.old.flight) }
 {
-    let need = opened.core.kept_room();
-    let shape = opened.log.header.shape;
+    let need = node.core.kept_room();
+    let shape = node.log.header.shape;
     let decisions = memory_of(alloc, shape.lane_count(), shape.batch())?;
-    opened
-        .log
+    node.log
         .reserve((need / LEAST + 1) as usize, LARGEST_FINISH)?;
     Ok(decisions)
 }
@@ -95,27 +87,19 @@ impl<D: Disk> ShardNode<D> {
             (λ n. Leaves D.tells_past D.moment D.images_since D.images disk n.disk (D.images disk))
             (λ e. Leaves D.tells_past D.moment D.images_since D.images disk e.0 (D.images disk)) }
     {
-        let opened: Result<Opened<ShardCore, D>, (D, NodeOpenFault)> = open_node(alloc, disk);
+        let opened: Result<Node<ShardCore, D>, (D, NodeOpenFault)> = open_node(alloc, disk);
         match opened {
             Ok(found) => {
-                let mut roomy = found;
-                match memory_ahead(alloc, &mut roomy) {
-                    Ok(decisions) => {
-                        let Opened { log, core } = roomy;
-                        let opened = log.faults();
-                        Ok(ShardNode::of_parts(
-                            alloc,
-                            Parts {
-                                log,
-                                core,
-                                decisions,
-                                flight: None,
-                                opened,
-                            },
-                        ))
-                    }
+                let mut node = found;
+                match memory_ahead(alloc, &mut node) {
+                    Ok(decisions) => Ok(ShardNode::of_parts(alloc, Parts { node, decisions })),
                     Err(_) => {
-                        let Opened { log, core: _ } = roomy;
+                        let Node {
+                            log,
+                            core: _,
+                            opened: _,
+                            flight: _,
+                        } = node;
                         Err((log.into_disk(), NodeOpenFault::Memory))
                     }
                 }

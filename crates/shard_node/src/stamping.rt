@@ -8,11 +8,12 @@ ghost use Rattle.shard_core.specs.Admitted.{IsFinishable};
 ghost use Rattle.shard_core.specs.Stands.{IsLanePast};
 ghost use Rattle.cbdc_model.specs.Calls.{IsFinishCall, IsForgetCall};
 ghost use Rattle.node_journal.specs.Answered.{HasAnswered};
-ghost use Rattle.shard_node.specs.Parts.{IsShardOf, journal_of_parts, view_of};
+ghost use Rattle.node_journal.specs.Sound.{journal_of, view_of};
+ghost use Rattle.shard_node.specs.Parts.{IsShardOf};
 
 use crate::parts::Parts;
-use crate::writing::write;
 use cbdc_types::{Decisions, FinishCall, ForgetCall, LaneId, List, NodeFault, Record, Stamp};
+use node_journal::write;
 use outside::Disk;
 use shard_core::StampPlan;
 use std::alloc::Global;
@@ -50,14 +51,14 @@ fn append_finish<D: Disk>(
     stamp: Stamp,
 ) -> Result<Stamp, NodeFault>
     requires shard { IsShardOf parts.old }
-    requires call { IsFinishCall parts.old.log.header call.now }
-    requires whole { broken_of parts.old.log.journal ≡ None }
-    requires next { next_finish (journal_of_parts parts.old) call.now.batch call.now.decisions call.now.cause
+    requires call { IsFinishCall parts.old.node.log.header call.now }
+    requires whole { broken_of parts.old.node.log.journal ≡ None }
+    requires next { next_finish (journal_of parts.old.node) call.now.batch call.now.decisions call.now.cause
         ≡ Append stamp }
-    requires locked { IsFinishable parts.old.core call.now.batch call.now.decisions }
+    requires locked { IsFinishable parts.old.node.core call.now.batch call.now.decisions }
     ensures shard { IsShardOf parts.new }
-    ensures answered { HasAnswered D.Disk false (finish_due call.now None (journal_of_parts parts.old))
-        (view_of parts.old) (view_of parts.new) result }
+    ensures answered { HasAnswered D.Disk false (finish_due call.now None (journal_of parts.old.node))
+        (view_of parts.old.node) (view_of parts.new.node) result }
 {
     if stamp.0 > LAST_STAMP {
         return Err(NodeFault::ClockEnd { stamp });
@@ -73,7 +74,7 @@ fn append_finish<D: Disk>(
         batch: call.batch,
         decisions,
     };
-    match write(parts, next) {
+    match write(&mut parts.node, next) {
         Ok(()) => Ok(stamp),
         Err(fault) => Err(fault),
     }
@@ -86,13 +87,13 @@ fn append_forget<D: Disk>(
     stamp: Stamp,
 ) -> Result<Stamp, NodeFault>
     requires shard { IsShardOf parts.old }
-    requires call { IsForgetCall parts.old.log.header call.now }
-    requires whole { broken_of parts.old.log.journal ≡ None }
-    requires next { next_forget (journal_of_parts parts.old) call.now.batch call.now.cause ≡ Append stamp }
-    requires done { IsLanePast parts.old.core call.now.batch.lane }
+    requires call { IsForgetCall parts.old.node.log.header call.now }
+    requires whole { broken_of parts.old.node.log.journal ≡ None }
+    requires next { next_forget (journal_of parts.old.node) call.now.batch call.now.cause ≡ Append stamp }
+    requires done { IsLanePast parts.old.node.core call.now.batch.lane }
     ensures shard { IsShardOf parts.new }
-    ensures answered { HasAnswered D.Disk false (forget_due call.now None (journal_of_parts parts.old))
-        (view_of parts.old) (view_of parts.new) result }
+    ensures answered { HasAnswered D.Disk false (forget_due call.now None (journal_of parts.old.node))
+        (view_of parts.old.node) (view_of parts.new.node) result }
 {
     if stamp.0 > LAST_STAMP {
         return Err(NodeFault::ClockEnd { stamp });
@@ -101,7 +102,7 @@ fn append_forget<D: Disk>(
         stamp,
         batch: call.batch,
     };
-    match write(parts, next) {
+    match write(&mut parts.node, next) {
         Ok(()) => Ok(stamp),
         Err(fault) => Err(fault),
     }
@@ -114,16 +115,16 @@ pub(crate) fn finish_parts<D: Disk>(
     call: &FinishCall,
 ) -> Result<Stamp, NodeFault>
     requires shard { IsShardOf parts.old }
-    requires call { IsFinishCall parts.old.log.header call.now }
+    requires call { IsFinishCall parts.old.node.log.header call.now }
     ensures shard { IsShardOf parts.new }
     ensures answered { HasAnswered D.Disk false
-        (finish_due call.now (broken_of parts.old.log.journal) (journal_of_parts parts.old))
-        (view_of parts.old) (view_of parts.new) result }
+        (finish_due call.now (broken_of parts.old.node.log.journal) (journal_of parts.old.node))
+        (view_of parts.old.node) (view_of parts.new.node) result }
 {
-    if let Some(since) = parts.log.is_broken() {
+    if let Some(since) = parts.node.log.is_broken() {
         return Err(NodeFault::Broken { since });
     }
-    match parts.core.plan_finish(call) {
+    match parts.node.core.plan_finish(call) {
         StampPlan::Kept(stamp) => Ok(stamp),
         StampPlan::Refused(why) => Err(NodeFault::Refused(why)),
         StampPlan::Append(stamp) => append_finish(alloc, parts, call, stamp),
@@ -136,16 +137,16 @@ pub(crate) fn forget_parts<D: Disk>(
     call: &ForgetCall,
 ) -> Result<Stamp, NodeFault>
     requires shard { IsShardOf parts.old }
-    requires call { IsForgetCall parts.old.log.header call.now }
+    requires call { IsForgetCall parts.old.node.log.header call.now }
     ensures shard { IsShardOf parts.new }
     ensures answered { HasAnswered D.Disk false
-        (forget_due call.now (broken_of parts.old.log.journal) (journal_of_parts parts.old))
-        (view_of parts.old) (view_of parts.new) result }
+        (forget_due call.now (broken_of parts.old.node.log.journal) (journal_of parts.old.node))
+        (view_of parts.old.node) (view_of parts.new.node) result }
 {
-    if let Some(since) = parts.log.is_broken() {
+    if let Some(since) = parts.node.log.is_broken() {
         return Err(NodeFault::Broken { since });
     }
-    match parts.core.plan_forget(call) {
+    match parts.node.core.plan_forget(call) {
         StampPlan::Kept(stamp) => Ok(stamp),
         StampPlan::Refused(why) => Err(NodeFault::Refused(why)),
         StampPlan::Append(stamp) => append_forget(parts, call, stamp),

@@ -60,13 +60,8 @@ fn write_statuses<O: Sink>(
 
 /// Tells what is known of hashes, a line for each in order. No journal changes.
 ///
-/// Where it comes through: a line is printed for each hash, with its status in its shard's journal. Each disk reads as before, and a crash leaves
-/// of one that told its content just the journal that was read.
-///
-/// In full (clause `did` of `process`): there are a shape within its limits and journals to which the disks' contents, where told, open at the
-/// nodes of one ledger, and each disk has room for its journal with what is kept for its open batches; what is printed is a line for each hash, in
-/// order, with its status in the journal of its shard; each disk is back and reads as before, and whatever a crash leaves of one of the ledger that
-/// told its content opens to exactly the journal that was read.
+/// Where it comes through: a line is printed for each hash, with its status in its shard's journal. Each disk reads as before, and a crash leaves of
+/// one that told its content just the journal that was read (clause `did` of `process`).
 pub fn status<W: Threads + Sync, R: Rack, O: Sink>(
     rt: &W,
     alloc: Global,

@@ -3,7 +3,7 @@ use Rattle.outside.specs.Images.{Tells}
 use Rattle.std.proofs.lemmas.Result.{err_from_is_err_and}
 use Rattle.line_text.specs.Lines.{Prints}
 use Rattle.line_text.specs.Reports.{audit_text}
-use Rattle.run_command.specs.Told.{numbers_of}
+use Rattle.run_lines.specs.Told.{numbers_of}
 use Rattle.command_answers.proofs.Parts.{goes_begin, part_more, part_cut, last_part}
 use Rattle.gen_command.specs.Watched.{cut_text}
 use Rattle.gen_command.proofs.lines.write_workload.Goals as goal

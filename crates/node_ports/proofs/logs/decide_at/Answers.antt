@@ -25,11 +25,11 @@ decide-answer-requires-clause-named g c =
 
 pub returns-clause-told : goal.returns-clause-told
 returns-clause-told g c =
-    decide_told c.args.lane c.args.replies.now c.args.log.now.broken (sight c.args.log.now) (sight c.decide-answer.new.self) c.decide-answer.result c.requires.replies c.decide-answer.ensures.meets c.decide-answer.ensures.keeps.journal c.header-header.ensures.since_opened c.header-header.ensures.since_broken c.header-header.ensures.landed c.header-header.ensures.unbroken
+    decide_told c.args.lane c.args.replies.now c.args.log.now.broken (sight c.args.log.now) (sight c.decide-answer.new.self) c.decide-answer.result c.requires.replies c.decide-answer.ensures.meets c.decide-answer.ensures.keeps.journal c.header-header.ensures.sound.since_opened c.header-header.ensures.sound.since_broken c.header-header.ensures.sound.landed c.header-header.ensures.sound.unbroken
 
 pub returns-clause-fault : goal.returns-clause-fault
 returns-clause-fault g c =
-    decide_fault c.args.lane c.args.replies.now c.args.log.now.broken (sight c.args.log.now) (sight c.decide-answer.new.self) c.decide-answer.result c.decide-answer.ensures.fault c.decide-answer.ensures.keeps.journal c.header-header.ensures.since_opened c.header-header.ensures.since_broken c.header-header.ensures.landed c.header-header.ensures.unbroken
+    decide_fault c.args.lane c.args.replies.now c.args.log.now.broken (sight c.args.log.now) (sight c.decide-answer.new.self) c.decide-answer.result c.decide-answer.ensures.fault c.decide-answer.ensures.keeps.journal c.header-header.ensures.sound.since_opened c.header-header.ensures.sound.since_broken c.header-header.ensures.sound.landed c.header-header.ensures.sound.unbroken
 
 pub returns-clause-stamp : goal.returns-clause-stamp
 returns-clause-stamp g c =
@@ -53,7 +53,7 @@ returns-clause-others g c =
 
 pub returns-clause-node : goal.returns-clause-node
 returns-clause-node g c =
-    still_decided false c.args.log.now.broken (λ r. commit_due c.args.log.now.header.shape c.args.replies.now r None c.args.log.now.journal) (sight c.args.log.now) (sight c.decide-answer.new.self) c.decide-answer.result c.decide-answer.ensures.keeps.node c.decide-answer.ensures.fault c.decide-answer.ensures.whole c.header-header.ensures.landed
+    still_decided false c.args.log.now.broken (λ r. commit_due c.args.log.now.header.shape c.args.replies.now r None c.args.log.now.journal) (sight c.args.log.now) (sight c.decide-answer.new.self) c.decide-answer.result c.decide-answer.ensures.keeps.node c.decide-answer.ensures.fault c.decide-answer.ensures.whole c.header-header.ensures.sound.landed
 
 pub returns-clause-later : goal.returns-clause-later
 returns-clause-later g c =
@@ -66,4 +66,4 @@ returns-clause-holds g c =
 pub returns-clause-moves : goal.returns-clause-moves
 returns-clause-moves g c =
     decided_moves c.args.lane c.args.log.now.header.shape c.args.replies.now (sight c.args.log.now) (sight c.decide-answer.new.self) c.args.log.now.broken c.decide-answer.new.self.broken c.decide-answer.new.out.items
-    c.header-header.ensures.landed c.header-after.ensures.landed c.decide-answer.ensures.own c.decide-answer.result c.decide-answer.ensures.appended c.decide-answer.ensures.whole c.decide-answer.ensures.keeps.broken c.decide-answer.ensures.fault
+    c.header-header.ensures.sound.landed c.header-after.ensures.sound.landed c.decide-answer.ensures.own c.decide-answer.result c.decide-answer.ensures.appended c.decide-answer.ensures.whole c.decide-answer.ensures.keeps.broken c.decide-answer.ensures.fault

@@ -26,7 +26,7 @@ prepare-requires-clause-short g c =
 
 pub returns-clause-told : goal.returns-clause-told
 returns-clause-told g c =
-    told_alone c.args.lane true (prepare_due c.args.log.now.header.shape c.args.log.now.capacity c.args.lane c.args.txs.now) c.args.log.now.broken (sight c.args.log.now) (sight c.prepare.new.self) c.prepare.result c.prepare.ensures.meets c.prepare.ensures.keeps.journal c.header-header.ensures.since_opened c.header-header.ensures.since_broken c.header-header.ensures.landed c.header-header.ensures.unbroken
+    told_alone c.args.lane true (prepare_due c.args.log.now.header.shape c.args.log.now.capacity c.args.lane c.args.txs.now) c.args.log.now.broken (sight c.args.log.now) (sight c.prepare.new.self) c.prepare.result c.prepare.ensures.meets c.prepare.ensures.keeps.journal c.header-header.ensures.sound.since_opened c.header-header.ensures.sound.since_broken c.header-header.ensures.sound.landed c.header-header.ensures.sound.unbroken
 
 pub returns-clause-prepared : goal.returns-clause-prepared
 returns-clause-prepared g c =
@@ -46,7 +46,7 @@ returns-clause-others g c =
 
 pub returns-clause-node : goal.returns-clause-node
 returns-clause-node g c =
-    still_node true c.args.log.now.broken (prepare_due c.args.log.now.header.shape c.args.log.now.capacity c.args.lane c.args.txs.now None c.args.log.now.journal) (sight c.args.log.now) (sight c.prepare.new.self) c.prepare.result c.prepare.ensures.meets c.header-header.ensures.landed
+    still_node true c.args.log.now.broken (prepare_due c.args.log.now.header.shape c.args.log.now.capacity c.args.lane c.args.txs.now None c.args.log.now.journal) (sight c.args.log.now) (sight c.prepare.new.self) c.prepare.result c.prepare.ensures.meets c.header-header.ensures.sound.landed
 
 pub returns-clause-later : goal.returns-clause-later
 returns-clause-later g c =

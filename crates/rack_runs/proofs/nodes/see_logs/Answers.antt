@@ -7,7 +7,7 @@ use Rattle.rack_runs.proofs.nodes.see_logs.Goals as goal
 
 pub logs-preserved : goal.logs-preserved
 logs-preserved g c =
-    let told = c.header-header.ensures in
+    let told = c.header-header.ensures.sound in
     let n = c.log-item.result in
     All-more (IsSeen g.D.Disk) c.args.logs.now c.logs.log-index n c.logs-test.true c.logs.invariant
     (subst (IsSeen g.D.Disk) c.log-item.is (record {

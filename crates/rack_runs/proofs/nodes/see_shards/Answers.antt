@@ -7,7 +7,7 @@ use Rattle.rack_runs.proofs.nodes.see_shards.Goals as goal
 
 pub shards-preserved : goal.shards-preserved
 shards-preserved g c =
-    let told = c.header-header.ensures in
+    let told = c.header-header.ensures.sound in
     let n = c.shard-item.result in
     All-more (IsSeen g.D.Disk) c.args.shards.now c.shards.shard-index n c.shards-test.true c.shards.invariant
     (subst (IsSeen g.D.Disk) c.shard-item.is (record {

@@ -8,10 +8,10 @@ returns g c =
     let answered = c.finish-answer.ensures in
     record {
       answered = answered;
-      room = c.header-seen.ensures.capacity;
+      room = c.header-seen.ensures.sound.capacity;
       steps = λ backups.
           goes _ _ _ old new backups answered.keeps.node.header c.records-before.ensures.journal c.records-behind.ensures.journal c.records-behind.ensures.flying
-          (λ a r owes. c.header-seen.ensures.landed (owes_whole old.broken _ a r owes)) _ c.finish-answer.result answered.meets;
+          (λ a r owes. c.header-seen.ensures.sound.landed (owes_whole old.broken _ a r owes)) _ c.finish-answer.result answered.meets;
       members = λ held k d is b image. (answered.keeps.holds held).each b (k, d, is, image);
-      failed = member_failed g.D.Disk _ _ old new c.header-after.ensures.count c.finish-answer.result answered;
+      failed = member_failed g.D.Disk _ _ old new c.header-after.ensures.sound.count c.finish-answer.result answered;
     }

@@ -7,42 +7,38 @@ use Rattle.coord_log.specs.Inside.{IsDue}
 use Rattle.coord_log.proofs.Owed.{gave_ok, gave_err, own_lane, own_phase, discard_owed, discard_ready}
 use Rattle.coord_log.proofs.log.CoordLog.discard.Goals as goal
 
-pub write-requires : goal.write-requires
-write-requires g c =
-    let l = c.self.inside.log in
-    let core = c.self.inside.core in
+pub write_due-requires : goal.write_due-requires
+write_due-requires g c =
     let sound = c.self.invariant in
-    let whole : broken_of c.self.inside.log.journal ≡ None = sym c.is_broken.ensures ∙ c.in-None.is in
-    let own : IsOwnLane c.self.inside.core.header c.args.lane = own_lane l core c.self.inside.opened c.self.inside.flight c.args.self.now c.args.lane c.self.view_is sound.on.header c.requires.own in
-    let phase = own_phase l c.self.inside.opened c.self.inside.flight c.args.self.now c.args.lane InCommit c.self.view_is c.requires.committed in
-    let late : suc (max c.self.inside.core.last c.args.cause) ≤ last_late = omega (arith, c.after-stamp.ensures.value, c.stamp.view_is, c.if-stamp-gt-LAST_STAMP.false) in
+    let whole : broken_of c.self.inside.node.log.journal ≡ None = sym c.is_broken.ensures ∙ c.in-None.is in
+    let own : IsOwnLane c.self.inside.node.core.header c.args.lane = own_lane c.self.inside.node c.args.self.now c.args.lane c.self.view_is sound.on.header c.requires.own in
+    let phase = own_phase c.self.inside.node c.args.self.now c.args.lane InCommit c.self.view_is c.requires.committed in
+    let late : suc (max c.self.inside.node.core.last c.args.cause) ≤ last_late = omega (arith, c.after-stamp.ensures.value, c.stamp.view_is, c.if-stamp-gt-LAST_STAMP.false) in
     let N : CoordOf → Type 0 = λ x. CoordAdmits x c.discard-next.result in
     let next = subst N c.discard-next.ensures.same (c.discard-next.ensures.next late) in
-    let P : CoordOf → Type 0 = λ x. IsDue c.self.inside.log x c.self.inside.flight c.discard-next.result in
+    let P : CoordOf → Type 0 = λ x. IsDue (record c.self.inside.node { core = x }) c.discard-next.result in
     subst P (sym c.discard-next.ensures.same)
-    (discard_ready l core c.self.inside.flight c.args.lane (suc (max c.self.inside.core.last c.args.cause)) c.discard-next.result c.after-stamp.ensures.whole sound.on whole (sound.ready whole) own phase (omega arith) late
+    (discard_ready c.self.inside.node c.args.lane (suc (max c.self.inside.node.core.last c.args.cause)) c.discard-next.result c.after-stamp.ensures.whole sound whole own phase (omega arith) late
     c.discard-next.ensures.«record» next)
 
 pub returns-in-Err : goal.returns-in-Err
 returns-in-Err g c =
-    let l = c.self.inside.log in
-    let core = c.self.inside.core in
-    let whole : broken_of c.self.inside.log.journal ≡ None = sym c.is_broken.ensures ∙ c.in-None.is in
-    let own : IsOwnLane c.self.inside.core.header c.args.lane = own_lane l core c.self.inside.opened c.self.inside.flight c.args.self.now c.args.lane c.self.view_is c.self.invariant.on.header c.requires.own in
-    gave_err false (λ broken J. discard_due c.args.lane c.args.cause broken J) l c.write.new.log c.self.inside.opened c.self.inside.flight c.write.new.flight c.args.self.now c.after-stamp.result c.discard-next.result c.in-Err.fault
+    let core = c.self.inside.node.core in
+    let whole : broken_of c.self.inside.node.log.journal ≡ None = sym c.is_broken.ensures ∙ c.in-None.is in
+    let own : IsOwnLane c.self.inside.node.core.header c.args.lane = own_lane c.self.inside.node c.args.self.now c.args.lane c.self.view_is c.self.invariant.on.header c.requires.own in
+    gave_err false (λ broken J. discard_due c.args.lane c.args.cause broken J) c.self.inside.node c.write_due.new.node c.args.self.now c.after-stamp.result c.discard-next.result c.in-Err.fault
     c.self.view_is
     (discard_owed core _ _ c.args.lane c.args.cause c.after-stamp.result c.discard-next.result c.self.invariant.on.stands own whole c.after-stamp.ensures.value
     (omega (arith, c.stamp.view_is, c.if-stamp-gt-LAST_STAMP.false)) c.discard-next.ensures.«record»)
-    (c.in-Err.ensures.answered c.self.inside.opened)
+    c.in-Err.ensures.answered
 
 pub returns : goal.returns
 returns g c =
-    let l = c.self.inside.log in
-    let core = c.self.inside.core in
-    let whole : broken_of c.self.inside.log.journal ≡ None = sym c.is_broken.ensures ∙ c.in-None.is in
-    let own : IsOwnLane c.self.inside.core.header c.args.lane = own_lane l core c.self.inside.opened c.self.inside.flight c.args.self.now c.args.lane c.self.view_is c.self.invariant.on.header c.requires.own in
-    gave_ok false (λ broken J. discard_due c.args.lane c.args.cause broken J) l c.write.new.log c.self.inside.opened c.self.inside.flight c.write.new.flight c.args.self.now c.after-stamp.result c.discard-next.result tt
+    let core = c.self.inside.node.core in
+    let whole : broken_of c.self.inside.node.log.journal ≡ None = sym c.is_broken.ensures ∙ c.in-None.is in
+    let own : IsOwnLane c.self.inside.node.core.header c.args.lane = own_lane c.self.inside.node c.args.self.now c.args.lane c.self.view_is c.self.invariant.on.header c.requires.own in
+    gave_ok false (λ broken J. discard_due c.args.lane c.args.cause broken J) c.self.inside.node c.write_due.new.node c.args.self.now c.after-stamp.result c.discard-next.result tt
     c.self.view_is
     (discard_owed core _ _ c.args.lane c.args.cause c.after-stamp.result c.discard-next.result c.self.invariant.on.stands own whole c.after-stamp.ensures.value
     (omega (arith, c.stamp.view_is, c.if-stamp-gt-LAST_STAMP.false)) c.discard-next.ensures.«record»)
-    (c.in-Ok.ensures.answered c.self.inside.opened)
+    c.in-Ok.ensures.answered

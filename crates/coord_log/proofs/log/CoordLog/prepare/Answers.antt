@@ -18,34 +18,34 @@ use Rattle.coord_log.proofs.log.CoordLog.prepare.Goals as goal
 
 pub make_room-requires-clause-size : goal.make_room-requires-clause-size
 make_room-requires-clause-size g c =
-    let shape : c.args.self.now.header ≡ c.self.inside.log.header = ap (λ x. x.header) (sym c.self.view_is) in
+    let shape : c.args.self.now.header ≡ c.self.inside.node.log.header = ap (λ x. x.header) (sym c.self.view_is) in
     let B : Header → Type 0 = λ h. length c.args.txs.now ≤ h.shape.batch in
-    let count : length c.args.txs.now ≤ c.self.inside.log.header.shape.batch = subst B shape c.requires.limit in
-    let small = prepare_small (c.self.inside.core.last + 1) (next_core_batch c.self.inside.core c.args.lane) c.args.txs.now c.requires.short (omega (arith, count, c.self.invariant.on.limits.batch)) in
-    let is : size_of c.in-Ok.next ≡ size_of (Prepare (c.self.inside.core.last + 1) (next_core_batch c.self.inside.core c.args.lane) c.args.txs.now) = ap size_of c.in-Ok.ensures.«record» in
+    let count : length c.args.txs.now ≤ c.self.inside.node.log.header.shape.batch = subst B shape c.requires.limit in
+    let small = prepare_small (c.self.inside.node.core.last + 1) (next_core_batch c.self.inside.node.core c.args.lane) c.args.txs.now c.requires.short (omega (arith, count, c.self.invariant.on.node.limits.batch)) in
+    let is : size_of c.in-Ok.next ≡ size_of (Prepare (c.self.inside.node.core.last + 1) (next_core_batch c.self.inside.node.core c.args.lane) c.args.txs.now) = ap size_of c.in-Ok.ensures.«record» in
     omega (arith, small, is, c.size_of_record.ensures)
 
 pub invariant_of-self-in-Err : goal.invariant_of-self-in-Err
 invariant_of-self-in-Err g c =
-    sound_kept c.self.inside.log c.make_room.new.log c.self.inside.core c.prepare.new.self c.self.inside.opened c.self.inside.flight c.make_room.ensures.untouched c.make_room.ensures.records c.make_room.ensures.header
+    sound_kept c.self.inside.node c.make_room.new.log c.prepare.new.self c.make_room.ensures.untouched c.make_room.ensures.records c.make_room.ensures.header
     c.make_room.ensures.keeps c.prepare.ensures.same c.prepare.ensures.grown c.self.invariant
 
 pub returns-in-Err : goal.returns-in-Err
 returns-in-Err g c =
-    let shape : c.args.self.now.header ≡ c.self.inside.log.header = ap (λ x. x.header) (sym c.self.view_is) in
+    let shape : c.args.self.now.header ≡ c.self.inside.node.log.header = ap (λ x. x.header) (sym c.self.view_is) in
     let B : Header → Type 0 = λ h. length c.args.txs.now ≤ h.shape.batch in
-    let count : length c.args.txs.now ≤ c.self.inside.log.header.shape.batch = subst B shape c.requires.limit in
+    let count : length c.args.txs.now ≤ c.self.inside.node.log.header.shape.batch = subst B shape c.requires.limit in
     let sound = c.self.invariant in
-    let whole : broken_of c.self.inside.log.journal ≡ None = sym c.is_broken.ensures ∙ c.in-None.is in
-    let own : IsOwnLane c.self.inside.core.header c.args.lane = own_lane c.self.inside.log c.self.inside.core c.self.inside.opened c.self.inside.flight c.args.self.now c.args.lane c.self.view_is sound.on.header c.requires.own in
+    let whole : broken_of c.self.inside.node.log.journal ≡ None = sym c.is_broken.ensures ∙ c.in-None.is in
+    let own : IsOwnLane c.self.inside.node.core.header c.args.lane = own_lane c.self.inside.node c.args.self.now c.args.lane c.self.view_is sound.on.header c.requires.own in
     let size : c.size_of_record.result ≡ size_of c.in-Ok.next =
-    exact_size c.self.inside.core c.args.lane c.size_of_record.result c.self.inside.log.header.shape.batch c.args.txs.now c.in-Ok.next c.in-Ok.ensures.«record» c.requires.short count sound.on.limits.batch c.size_of_record.ensures in
-    let p : Prepares c.self.inside.core c.prepare.new.self c.args.self.now.header.shape (reverse c.self.inside.log.records.items) (broken_of c.self.inside.log.journal) c.args.lane c.size_of_record.result
-    (gate_of c.self.inside.log.journal + 1) c.in-Prepare.stamp c.in-Prepare.batch c.args.txs.now c.in-Prepare.txs c.in-Ok.next = record {
+    exact_size c.self.inside.node.core c.args.lane c.size_of_record.result c.self.inside.node.log.header.shape.batch c.args.txs.now c.in-Ok.next c.in-Ok.ensures.«record» c.requires.short count sound.on.node.limits.batch c.size_of_record.ensures in
+    let p : Prepares c.self.inside.node.core c.prepare.new.self c.args.self.now.header.shape (reverse c.self.inside.node.log.records.items) (broken_of c.self.inside.node.log.journal) c.args.lane c.size_of_record.result
+    (gate_of c.self.inside.node.log.journal + 1) c.in-Prepare.stamp c.in-Prepare.batch c.args.txs.now c.in-Prepare.txs c.in-Ok.next = record {
       whole = c.make_room.ensures.whole;
       same = c.prepare.ensures.same;
       stands = sound.on.stands;
-      journal = let Q : Header → Type 0 = λ h. IsJournal h (reverse c.self.inside.log.records.items) in subst Q (sym sound.on.header) sound.on.journal;
+      journal = let Q : Header → Type 0 = λ h. IsJournal h (reverse c.self.inside.node.log.records.items) in subst Q (sym sound.on.header) sound.on.node.journal;
       shape = ap (λ h. h.shape) (shape ∙ sym sound.on.header);
       own = own;
       sound = whole;
@@ -53,68 +53,65 @@ returns-in-Err g c =
       record_is = c.in-Ok.ensures.«record»;
       answer = c.in-Prepare.is;
       size_is = size;
-      used_is = (sound.ready whole).used;
+      used_is = sound.on.node.used whole;
     } in
-    let limit : g.D.Disk.limit (disk_of c.self.inside.log.journal) ≡ c.args.self.now.capacity = ap (λ x. x.capacity) c.self.view_is in
-    let now : shown c.make_room.new.log c.self.inside.opened c.self.inside.flight ≡ c.args.self.now =
-    shown_same c.self.inside.log c.make_room.new.log c.self.inside.opened c.self.inside.flight c.make_room.ensures.untouched c.make_room.ensures.records c.make_room.ensures.header ∙ c.self.view_is in
+    let limit : g.D.Disk.limit (disk_of c.self.inside.node.log.journal) ≡ c.args.self.now.capacity = ap (λ x. x.capacity) c.self.view_is in
+    let now : shown c.make_room.new.log c.self.inside.node.opened c.self.inside.node.flight ≡ c.args.self.now =
+    shown_same c.self.inside.node.log c.make_room.new.log c.self.inside.node.opened c.self.inside.node.flight c.make_room.ensures.untouched c.make_room.ensures.records c.make_room.ensures.header ∙ c.self.view_is in
     let S : NodeOf g.row.D.Denot → Type 0 = λ x. Stays (sight c.args.self.now) (sight x) c.args.self.now.journal in
     let stays = subst S (sym now) (record { node = record { header = refl; opened = refl; capacity = refl; later = omega arith }; seen = refl; flight = refl }) in
-    let used = gate_of c.self.inside.log.journal + 1 in
+    let used = gate_of c.self.inside.node.log.journal + 1 in
     let need = c.size_of_record.result + room_behind_prepare (length c.args.txs.now) + kept_of c.prepare.new.self.lanes in
     let O : NodeOf g.row.D.Denot → Type 0 = λ x. prepare_due c.args.self.now.header.shape c.args.self.now.capacity c.args.lane c.args.txs.now x.broken x.journal
-    ≡ Answers (Err (Full (gate_of c.self.inside.log.journal + 1) (c.size_of_record.result + room_behind_prepare (length c.args.txs.now) + kept_of c.prepare.new.self.lanes) (g.D.Disk.limit (disk_of c.self.inside.log.journal)))) in
-    let meets = room_refused _ _ _ _ used need (g.D.Disk.limit (disk_of c.self.inside.log.journal)) c.in-Err.fault c.in-Err.ensures.refusal
+    ≡ Answers (Err (Full (gate_of c.self.inside.node.log.journal + 1) (c.size_of_record.result + room_behind_prepare (length c.args.txs.now) + kept_of c.prepare.new.self.lanes) (g.D.Disk.limit (disk_of c.self.inside.node.log.journal)))) in
+    let meets = room_refused _ _ _ _ used need (g.D.Disk.limit (disk_of c.self.inside.node.log.journal)) c.in-Err.fault c.in-Err.ensures.refusal
     (λ lt. subst O c.self.view_is
-    (prepare_full c.self.inside.core c.prepare.new.self c.args.self.now.header.shape _ _ c.args.self.now.capacity c.args.lane c.size_of_record.result used c.in-Prepare.stamp c.in-Prepare.batch c.args.txs.now c.in-Prepare.txs c.in-Ok.next p
+    (prepare_full c.self.inside.node.core c.prepare.new.self c.args.self.now.header.shape _ _ c.args.self.now.capacity c.args.lane c.size_of_record.result used c.in-Prepare.stamp c.in-Prepare.batch c.args.txs.now c.in-Prepare.txs c.in-Ok.next p
     (omega (arith, lt, limit)) ∙ ap (λ x. Answers (Err (Full used need x))) (sym limit)))
     stays in
     let kept =
-    sound_kept c.self.inside.log c.make_room.new.log c.self.inside.core c.prepare.new.self c.self.inside.opened c.self.inside.flight c.make_room.ensures.untouched c.make_room.ensures.records c.make_room.ensures.header
+    sound_kept c.self.inside.node c.make_room.new.log c.prepare.new.self c.make_room.ensures.untouched c.make_room.ensures.records c.make_room.ensures.header
     c.make_room.ensures.keeps c.prepare.ensures.same c.prepare.ensures.grown c.self.invariant in
-    let left = shown c.make_room.new.log c.self.inside.opened c.self.inside.flight in
+    let left = shown c.make_room.new.log c.self.inside.node.opened c.self.inside.node.flight in
     answered {A = Batch × ℕ} g.D.Disk true (prepare_due c.args.self.now.header.shape c.args.self.now.capacity c.args.lane c.args.txs.now c.args.self.now.broken c.args.self.now.journal) c.args.self.now left (Err c.in-Err.fault) meets
-    (ap (λ x. x.broken) now ∙ room_unbroken (Batch × ℕ) used need (g.D.Disk.limit (disk_of c.self.inside.log.journal)) left.faults c.args.self.now.broken c.in-Err.fault c.in-Err.ensures.refusal)
-    kept.on.journal (λ h. let H : NodeOf g.row.D.Denot → Type 0 = λ x. HoldsJournal g.D.Disk x in subst H (sym now) h) (leaves_as_seen g.D.Disk c.args.self.now left now (g.met.D.Disk.only_now c.args.self.now.disk))
+    (ap (λ x. x.broken) now ∙ room_unbroken (Batch × ℕ) used need (g.D.Disk.limit (disk_of c.self.inside.node.log.journal)) left.faults c.args.self.now.broken c.in-Err.fault c.in-Err.ensures.refusal)
+    kept.on.node.journal (λ h. let H : NodeOf g.row.D.Denot → Type 0 = λ x. HoldsJournal g.D.Disk x in subst H (sym now) h) (leaves_as_seen g.D.Disk c.args.self.now left now (g.met.D.Disk.only_now c.args.self.now.disk))
 
-pub write-requires : goal.write-requires
-write-requires g c =
-    let shape : c.args.self.now.header ≡ c.self.inside.log.header = ap (λ x. x.header) (sym c.self.view_is) in
+pub write_due-requires : goal.write_due-requires
+write_due-requires g c =
+    let shape : c.args.self.now.header ≡ c.self.inside.node.log.header = ap (λ x. x.header) (sym c.self.view_is) in
     let B : Header → Type 0 = λ h. length c.args.txs.now ≤ h.shape.batch in
-    let count : length c.args.txs.now ≤ c.self.inside.log.header.shape.batch = subst B shape c.requires.limit in
+    let count : length c.args.txs.now ≤ c.self.inside.node.log.header.shape.batch = subst B shape c.requires.limit in
     let sound = c.self.invariant in
-    let whole : broken_of c.self.inside.log.journal ≡ None = sym c.is_broken.ensures ∙ c.in-None.is in
-    let own : IsOwnLane c.self.inside.core.header c.args.lane = own_lane c.self.inside.log c.self.inside.core c.self.inside.opened c.self.inside.flight c.args.self.now c.args.lane c.self.view_is sound.on.header c.requires.own in
+    let whole : broken_of c.self.inside.node.log.journal ≡ None = sym c.is_broken.ensures ∙ c.in-None.is in
+    let own : IsOwnLane c.self.inside.node.core.header c.args.lane = own_lane c.self.inside.node c.args.self.now c.args.lane c.self.view_is sound.on.header c.requires.own in
     let size : c.size_of_record.result ≡ size_of c.in-Ok.next =
-    exact_size c.self.inside.core c.args.lane c.size_of_record.result c.self.inside.log.header.shape.batch c.args.txs.now c.in-Ok.next c.in-Ok.ensures.«record» c.requires.short count sound.on.limits.batch c.size_of_record.ensures in
-    let count' : length c.args.txs.now ≤ c.self.inside.core.header.shape.batch = subst B (sym sound.on.header) count in
-    let both : Prepare c.in-Prepare.stamp c.in-Prepare.batch c.in-Prepare.txs ≡ Prepare (c.self.inside.core.last + 1) (next_core_batch c.self.inside.core c.args.lane) c.args.txs.now = sym c.in-Prepare.is ∙ c.in-Ok.ensures.«record» in
-    let stamp : c.in-Prepare.stamp ≡ c.self.inside.core.last + 1 = cc in
-    let early : c.self.inside.core.last + 1 ≤ last_early = omega (arith, stamp, c.stamp.view_is, c.if-stamp-gt-LAST_PREPARE.false) in
-    prepare_ready c.self.inside.log c.make_room.new.log c.self.inside.core c.prepare.new.self c.self.inside.flight c.args.lane c.size_of_record.result c.args.txs.now c.in-Ok.next
-    c.make_room.ensures.whole c.prepare.ensures.same c.prepare.ensures.grown sound.on whole (sound.ready whole) c.make_room.ensures.untouched c.make_room.ensures.records c.make_room.ensures.header
+    exact_size c.self.inside.node.core c.args.lane c.size_of_record.result c.self.inside.node.log.header.shape.batch c.args.txs.now c.in-Ok.next c.in-Ok.ensures.«record» c.requires.short count sound.on.node.limits.batch c.size_of_record.ensures in
+    let count' : length c.args.txs.now ≤ c.self.inside.node.core.header.shape.batch = subst B (sym sound.on.header) count in
+    let both : Prepare c.in-Prepare.stamp c.in-Prepare.batch c.in-Prepare.txs ≡ Prepare (c.self.inside.node.core.last + 1) (next_core_batch c.self.inside.node.core c.args.lane) c.args.txs.now = sym c.in-Prepare.is ∙ c.in-Ok.ensures.«record» in
+    let stamp : c.in-Prepare.stamp ≡ c.self.inside.node.core.last + 1 = cc in
+    let early : c.self.inside.node.core.last + 1 ≤ last_early = omega (arith, stamp, c.stamp.view_is, c.if-stamp-gt-LAST_PREPARE.false) in
+    prepare_ready c.self.inside.node c.make_room.new.log c.prepare.new.self c.args.lane c.size_of_record.result c.args.txs.now c.in-Ok.next
+    c.make_room.ensures.whole c.prepare.ensures.same c.prepare.ensures.grown sound whole c.make_room.ensures.untouched c.make_room.ensures.records c.make_room.ensures.header
     own c.requires.some count' c.requires.short c.in-Ok.ensures.hashes early c.in-Ok.ensures.«record» (c.in-Ok.ensures.next (omega (arith, early))) size
     c.in-Ok-make_room.ensures.room.0 c.in-Ok-make_room.ensures.room.1 c.in-Ok-make_room.ensures.space
 
-pub invariant_of-self-in-Err-write : goal.invariant_of-self-in-Err-write
-invariant_of-self-in-Err-write g c = c.write.ensures.sound c.self.inside.opened (rw c.make_room.ensures.untouched.disk c.self.invariant.since_opened)
-
-pub returns-in-Err-write : goal.returns-in-Err-write
-returns-in-Err-write g c =
-    let shape : c.args.self.now.header ≡ c.self.inside.log.header = ap (λ x. x.header) (sym c.self.view_is) in
+pub returns-in-Err-write_due : goal.returns-in-Err-write_due
+returns-in-Err-write_due g c =
+    let shape : c.args.self.now.header ≡ c.self.inside.node.log.header = ap (λ x. x.header) (sym c.self.view_is) in
     let B : Header → Type 0 = λ h. length c.args.txs.now ≤ h.shape.batch in
-    let count : length c.args.txs.now ≤ c.self.inside.log.header.shape.batch = subst B shape c.requires.limit in
+    let count : length c.args.txs.now ≤ c.self.inside.node.log.header.shape.batch = subst B shape c.requires.limit in
     let sound = c.self.invariant in
-    let whole : broken_of c.self.inside.log.journal ≡ None = sym c.is_broken.ensures ∙ c.in-None.is in
-    let own : IsOwnLane c.self.inside.core.header c.args.lane = own_lane c.self.inside.log c.self.inside.core c.self.inside.opened c.self.inside.flight c.args.self.now c.args.lane c.self.view_is sound.on.header c.requires.own in
+    let whole : broken_of c.self.inside.node.log.journal ≡ None = sym c.is_broken.ensures ∙ c.in-None.is in
+    let own : IsOwnLane c.self.inside.node.core.header c.args.lane = own_lane c.self.inside.node c.args.self.now c.args.lane c.self.view_is sound.on.header c.requires.own in
     let size : c.size_of_record.result ≡ size_of c.in-Ok.next =
-    exact_size c.self.inside.core c.args.lane c.size_of_record.result c.self.inside.log.header.shape.batch c.args.txs.now c.in-Ok.next c.in-Ok.ensures.«record» c.requires.short count sound.on.limits.batch c.size_of_record.ensures in
-    let p : Prepares c.self.inside.core c.prepare.new.self c.args.self.now.header.shape (reverse c.self.inside.log.records.items) (broken_of c.self.inside.log.journal) c.args.lane c.size_of_record.result
-    (gate_of c.self.inside.log.journal + 1) c.in-Prepare.stamp c.in-Prepare.batch c.args.txs.now c.in-Prepare.txs c.in-Ok.next = record {
+    exact_size c.self.inside.node.core c.args.lane c.size_of_record.result c.self.inside.node.log.header.shape.batch c.args.txs.now c.in-Ok.next c.in-Ok.ensures.«record» c.requires.short count sound.on.node.limits.batch c.size_of_record.ensures in
+    let p : Prepares c.self.inside.node.core c.prepare.new.self c.args.self.now.header.shape (reverse c.self.inside.node.log.records.items) (broken_of c.self.inside.node.log.journal) c.args.lane c.size_of_record.result
+    (gate_of c.self.inside.node.log.journal + 1) c.in-Prepare.stamp c.in-Prepare.batch c.args.txs.now c.in-Prepare.txs c.in-Ok.next = record {
       whole = c.make_room.ensures.whole;
       same = c.prepare.ensures.same;
       stands = sound.on.stands;
-      journal = let Q : Header → Type 0 = λ h. IsJournal h (reverse c.self.inside.log.records.items) in subst Q (sym sound.on.header) sound.on.journal;
+      journal = let Q : Header → Type 0 = λ h. IsJournal h (reverse c.self.inside.node.log.records.items) in subst Q (sym sound.on.header) sound.on.node.journal;
       shape = ap (λ h. h.shape) (shape ∙ sym sound.on.header);
       own = own;
       sound = whole;
@@ -122,36 +119,33 @@ returns-in-Err-write g c =
       record_is = c.in-Ok.ensures.«record»;
       answer = c.in-Prepare.is;
       size_is = size;
-      used_is = (sound.ready whole).used;
+      used_is = sound.on.node.used whole;
     } in
-    let limit : g.D.Disk.limit (disk_of c.self.inside.log.journal) ≡ c.args.self.now.capacity = ap (λ x. x.capacity) c.self.view_is in
-    let now : shown c.make_room.new.log c.self.inside.opened c.self.inside.flight ≡ c.args.self.now =
-    shown_same c.self.inside.log c.make_room.new.log c.self.inside.opened c.self.inside.flight c.make_room.ensures.untouched c.make_room.ensures.records c.make_room.ensures.header ∙ c.self.view_is in
-    let owed = prepare_owed c.self.inside.core c.prepare.new.self c.args.self.now.header.shape (reverse c.self.inside.log.records.items) (broken_of c.self.inside.log.journal) c.args.self.now.capacity c.args.lane c.size_of_record.result
-    (gate_of c.self.inside.log.journal + 1) c.in-Prepare.stamp c.in-Prepare.batch c.args.txs.now c.in-Prepare.txs c.in-Ok.next p (omega (arith, limit, c.in-Ok-make_room.ensures.space)) in
+    let limit : g.D.Disk.limit (disk_of c.self.inside.node.log.journal) ≡ c.args.self.now.capacity = ap (λ x. x.capacity) c.self.view_is in
+    let now : shown c.make_room.new.log c.self.inside.node.opened c.self.inside.node.flight ≡ c.args.self.now =
+    shown_same c.self.inside.node.log c.make_room.new.log c.self.inside.node.opened c.self.inside.node.flight c.make_room.ensures.untouched c.make_room.ensures.records c.make_room.ensures.header ∙ c.self.view_is in
+    let owed = prepare_owed c.self.inside.node.core c.prepare.new.self c.args.self.now.header.shape (reverse c.self.inside.node.log.records.items) (broken_of c.self.inside.node.log.journal) c.args.self.now.capacity c.args.lane c.size_of_record.result
+    (gate_of c.self.inside.node.log.journal + 1) c.in-Prepare.stamp c.in-Prepare.batch c.args.txs.now c.in-Prepare.txs c.in-Ok.next p (omega (arith, limit, c.in-Ok-make_room.ensures.space)) in
     let O : NodeOf g.row.D.Denot → Type 0 = λ x. prepare_due c.args.self.now.header.shape c.args.self.now.capacity c.args.lane c.args.txs.now x.broken x.journal ≡ Writes (c.in-Prepare.batch, c.in-Prepare.stamp) c.in-Ok.next in
-    gave_err true (λ broken J. prepare_due c.args.self.now.header.shape c.args.self.now.capacity c.args.lane c.args.txs.now broken J) c.make_room.new.log c.write.new.log c.self.inside.opened c.self.inside.flight c.write.new.flight
-    c.args.self.now (c.in-Prepare.batch, c.in-Prepare.stamp) c.in-Ok.next c.in-Err-write.fault now (subst O (c.self.view_is ∙ sym now) owed) (c.in-Err-write.ensures.answered c.self.inside.opened)
-
-pub invariant_of-self-2 : goal.invariant_of-self-2
-invariant_of-self-2 g c = c.write.ensures.sound c.self.inside.opened (rw c.make_room.ensures.untouched.disk c.self.invariant.since_opened)
+    gave_err true (λ broken J. prepare_due c.args.self.now.header.shape c.args.self.now.capacity c.args.lane c.args.txs.now broken J) (record c.self.inside.node { log = c.make_room.new.log }) c.write_due.new.node
+    c.args.self.now (c.in-Prepare.batch, c.in-Prepare.stamp) c.in-Ok.next c.in-Err-write_due.fault now (subst O (c.self.view_is ∙ sym now) owed) c.in-Err-write_due.ensures.answered
 
 pub returns : goal.returns
 returns g c =
-    let shape : c.args.self.now.header ≡ c.self.inside.log.header = ap (λ x. x.header) (sym c.self.view_is) in
+    let shape : c.args.self.now.header ≡ c.self.inside.node.log.header = ap (λ x. x.header) (sym c.self.view_is) in
     let B : Header → Type 0 = λ h. length c.args.txs.now ≤ h.shape.batch in
-    let count : length c.args.txs.now ≤ c.self.inside.log.header.shape.batch = subst B shape c.requires.limit in
+    let count : length c.args.txs.now ≤ c.self.inside.node.log.header.shape.batch = subst B shape c.requires.limit in
     let sound = c.self.invariant in
-    let whole : broken_of c.self.inside.log.journal ≡ None = sym c.is_broken.ensures ∙ c.in-None.is in
-    let own : IsOwnLane c.self.inside.core.header c.args.lane = own_lane c.self.inside.log c.self.inside.core c.self.inside.opened c.self.inside.flight c.args.self.now c.args.lane c.self.view_is sound.on.header c.requires.own in
+    let whole : broken_of c.self.inside.node.log.journal ≡ None = sym c.is_broken.ensures ∙ c.in-None.is in
+    let own : IsOwnLane c.self.inside.node.core.header c.args.lane = own_lane c.self.inside.node c.args.self.now c.args.lane c.self.view_is sound.on.header c.requires.own in
     let size : c.size_of_record.result ≡ size_of c.in-Ok.next =
-    exact_size c.self.inside.core c.args.lane c.size_of_record.result c.self.inside.log.header.shape.batch c.args.txs.now c.in-Ok.next c.in-Ok.ensures.«record» c.requires.short count sound.on.limits.batch c.size_of_record.ensures in
-    let p : Prepares c.self.inside.core c.prepare.new.self c.args.self.now.header.shape (reverse c.self.inside.log.records.items) (broken_of c.self.inside.log.journal) c.args.lane c.size_of_record.result
-    (gate_of c.self.inside.log.journal + 1) c.in-Prepare.stamp c.in-Prepare.batch c.args.txs.now c.in-Prepare.txs c.in-Ok.next = record {
+    exact_size c.self.inside.node.core c.args.lane c.size_of_record.result c.self.inside.node.log.header.shape.batch c.args.txs.now c.in-Ok.next c.in-Ok.ensures.«record» c.requires.short count sound.on.node.limits.batch c.size_of_record.ensures in
+    let p : Prepares c.self.inside.node.core c.prepare.new.self c.args.self.now.header.shape (reverse c.self.inside.node.log.records.items) (broken_of c.self.inside.node.log.journal) c.args.lane c.size_of_record.result
+    (gate_of c.self.inside.node.log.journal + 1) c.in-Prepare.stamp c.in-Prepare.batch c.args.txs.now c.in-Prepare.txs c.in-Ok.next = record {
       whole = c.make_room.ensures.whole;
       same = c.prepare.ensures.same;
       stands = sound.on.stands;
-      journal = let Q : Header → Type 0 = λ h. IsJournal h (reverse c.self.inside.log.records.items) in subst Q (sym sound.on.header) sound.on.journal;
+      journal = let Q : Header → Type 0 = λ h. IsJournal h (reverse c.self.inside.node.log.records.items) in subst Q (sym sound.on.header) sound.on.node.journal;
       shape = ap (λ h. h.shape) (shape ∙ sym sound.on.header);
       own = own;
       sound = whole;
@@ -159,13 +153,13 @@ returns g c =
       record_is = c.in-Ok.ensures.«record»;
       answer = c.in-Prepare.is;
       size_is = size;
-      used_is = (sound.ready whole).used;
+      used_is = sound.on.node.used whole;
     } in
-    let limit : g.D.Disk.limit (disk_of c.self.inside.log.journal) ≡ c.args.self.now.capacity = ap (λ x. x.capacity) c.self.view_is in
-    let now : shown c.make_room.new.log c.self.inside.opened c.self.inside.flight ≡ c.args.self.now =
-    shown_same c.self.inside.log c.make_room.new.log c.self.inside.opened c.self.inside.flight c.make_room.ensures.untouched c.make_room.ensures.records c.make_room.ensures.header ∙ c.self.view_is in
-    let owed = prepare_owed c.self.inside.core c.prepare.new.self c.args.self.now.header.shape (reverse c.self.inside.log.records.items) (broken_of c.self.inside.log.journal) c.args.self.now.capacity c.args.lane c.size_of_record.result
-    (gate_of c.self.inside.log.journal + 1) c.in-Prepare.stamp c.in-Prepare.batch c.args.txs.now c.in-Prepare.txs c.in-Ok.next p (omega (arith, limit, c.in-Ok-make_room.ensures.space)) in
+    let limit : g.D.Disk.limit (disk_of c.self.inside.node.log.journal) ≡ c.args.self.now.capacity = ap (λ x. x.capacity) c.self.view_is in
+    let now : shown c.make_room.new.log c.self.inside.node.opened c.self.inside.node.flight ≡ c.args.self.now =
+    shown_same c.self.inside.node.log c.make_room.new.log c.self.inside.node.opened c.self.inside.node.flight c.make_room.ensures.untouched c.make_room.ensures.records c.make_room.ensures.header ∙ c.self.view_is in
+    let owed = prepare_owed c.self.inside.node.core c.prepare.new.self c.args.self.now.header.shape (reverse c.self.inside.node.log.records.items) (broken_of c.self.inside.node.log.journal) c.args.self.now.capacity c.args.lane c.size_of_record.result
+    (gate_of c.self.inside.node.log.journal + 1) c.in-Prepare.stamp c.in-Prepare.batch c.args.txs.now c.in-Prepare.txs c.in-Ok.next p (omega (arith, limit, c.in-Ok-make_room.ensures.space)) in
     let O : NodeOf g.row.D.Denot → Type 0 = λ x. prepare_due c.args.self.now.header.shape c.args.self.now.capacity c.args.lane c.args.txs.now x.broken x.journal ≡ Writes (c.in-Prepare.batch, c.in-Prepare.stamp) c.in-Ok.next in
-    gave_ok true (λ broken J. prepare_due c.args.self.now.header.shape c.args.self.now.capacity c.args.lane c.args.txs.now broken J) c.make_room.new.log c.write.new.log c.self.inside.opened c.self.inside.flight c.write.new.flight
-    c.args.self.now (c.in-Prepare.batch, c.in-Prepare.stamp) c.in-Ok.next tt now (subst O (c.self.view_is ∙ sym now) owed) (c.in-Ok-write.ensures.answered c.self.inside.opened)
+    gave_ok true (λ broken J. prepare_due c.args.self.now.header.shape c.args.self.now.capacity c.args.lane c.args.txs.now broken J) (record c.self.inside.node { log = c.make_room.new.log }) c.write_due.new.node
+    c.args.self.now (c.in-Prepare.batch, c.in-Prepare.stamp) c.in-Ok.next tt now (subst O (c.self.view_is ∙ sym now) owed) c.in-Ok-write_due.ensures.answered

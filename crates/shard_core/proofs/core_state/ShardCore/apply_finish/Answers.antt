@@ -8,7 +8,7 @@ use Rattle.shard_core.proofs.core_state.ShardCore.apply_finish.Goals as goal
 pub return_others-requires-clause-room : goal.return_others-requires-clause-room
 return_others-requires-clause-room c =
     let self = c.args.self.now in
-    let is : slice_get self.slots c.in-Finish.batch.lane ≡ Some (Taken c.in-Locked.number c.in-Locked.part c.in-Locked.replies c.in-Locked.at) = c.take.ensures.value ∙ ap Some c.in-Locked.is in
+    let is : slice_get self.slots c.in-Finish.batch.lane ≡ Some (Taken c.in-Locked.number c.in-Locked.part c.in-Locked.replies c.in-Locked.locked_at) = c.take.ensures.value ∙ ap Some c.in-Locked.is in
     let owed = owed_at self.slots c.in-Finish.batch.lane _ is in
     let few = parts_few c.in-Locked.part in
     let room = self.room in let owes = self.owes in
@@ -18,7 +18,7 @@ return_others-requires-clause-room c =
 pub make_committed-requires-clause-room : goal.make_committed-requires-clause-room
 make_committed-requires-clause-room c =
     let self = c.args.self.now in
-    let is : slice_get self.slots c.in-Finish.batch.lane ≡ Some (Taken c.in-Locked.number c.in-Locked.part c.in-Locked.replies c.in-Locked.at) = c.take.ensures.value ∙ ap Some c.in-Locked.is in
+    let is : slice_get self.slots c.in-Finish.batch.lane ≡ Some (Taken c.in-Locked.number c.in-Locked.part c.in-Locked.replies c.in-Locked.locked_at) = c.take.ensures.value ∙ ap Some c.in-Locked.is in
     let owed = owed_at self.slots c.in-Finish.batch.lane _ is in
     let few = parts_few c.in-Locked.part in
     let room = self.room in let owes = self.owes in
@@ -29,7 +29,7 @@ make_committed-requires-clause-room c =
 pub overflow_sub-self : goal.overflow_sub-self
 overflow_sub-self c =
     let self = c.args.self.now in
-    let is : slice_get self.slots c.in-Finish.batch.lane ≡ Some (Taken c.in-Locked.number c.in-Locked.part c.in-Locked.replies c.in-Locked.at) = c.take.ensures.value ∙ ap Some c.in-Locked.is in
+    let is : slice_get self.slots c.in-Finish.batch.lane ≡ Some (Taken c.in-Locked.number c.in-Locked.part c.in-Locked.replies c.in-Locked.locked_at) = c.take.ensures.value ∙ ap Some c.in-Locked.is in
     let owed = owed_at self.slots c.in-Finish.batch.lane _ is in
     let owes = self.owes in
     let n = rw c.as_slice-5.ensures at c.hash_count.ensures in
@@ -39,7 +39,7 @@ pub decided-kept-requires : goal.decided-kept-requires
 decided-kept-requires c =
     let self = c.args.self.now in
     let q = rw c.in-Finish.is at c.requires in
-    let is : slice_get self.slots c.in-Finish.batch.lane ≡ Some (Taken c.in-Locked.number c.in-Locked.part c.in-Locked.replies c.in-Locked.at) = c.take.ensures.value ∙ ap Some c.in-Locked.is in
+    let is : slice_get self.slots c.in-Finish.batch.lane ≡ Some (Taken c.in-Locked.number c.in-Locked.part c.in-Locked.replies c.in-Locked.locked_at) = c.take.ensures.value ∙ ap Some c.in-Locked.is in
     let same = taken_part _ _ _ _ _ _ _ _ (known self.slots c.in-Finish.batch.lane _ _ is q.1.slot) in
     let n : length c.in-Finish.decisions ≡ length c.in-Locked.part = q.1.decisions ∙ ap length (sym same) in
     let room = self.memory c.in-Finish.batch.lane _ _ is c.swap_memory-memory.ensures.value in
@@ -50,8 +50,8 @@ invariant_of-self c =
     let self = c.args.self.now in
     let q = rw c.in-Finish.is at c.requires in
     let lane = c.in-Finish.batch.lane in
-    let is : slice_get self.slots lane ≡ Some (Taken c.in-Locked.number c.in-Locked.part c.in-Locked.replies c.in-Locked.at) = c.take.ensures.value ∙ ap Some c.in-Locked.is in
-    let new = Finished c.in-Locked.number c.in-Locked.part c.in-Locked.replies c.decided-kept.result c.in-Locked.at c.in-Finish.stamp in
+    let is : slice_get self.slots lane ≡ Some (Taken c.in-Locked.number c.in-Locked.part c.in-Locked.replies c.in-Locked.locked_at) = c.take.ensures.value ∙ ap Some c.in-Locked.is in
+    let new = Finished c.in-Locked.number c.in-Locked.part c.in-Locked.replies c.decided-kept.result c.in-Locked.locked_at c.in-Finish.stamp in
     let slots : c.put.new.self ≡ set self.slots lane new = rw c.take.ensures.after at c.put.ensures ∙ set_set self.slots lane (Free 0 0) new in
     record {
       lanes = rw slots (set_length self.slots lane new ∙ self.lanes);
@@ -86,20 +86,20 @@ returns-clause-stands c = λ J old.
     let ds = c.in-Finish.decisions in
     let part = c.in-Locked.part in
     let rs = c.in-Locked.replies in
-    let is : slice_get self.slots b.lane ≡ Some (Taken c.in-Locked.number part rs c.in-Locked.at) = c.take.ensures.value ∙ ap Some c.in-Locked.is in
+    let is : slice_get self.slots b.lane ≡ Some (Taken c.in-Locked.number part rs c.in-Locked.locked_at) = c.take.ensures.value ∙ ap Some c.in-Locked.is in
     let num : c.in-Locked.number ≡ b.number = taken_number _ _ _ _ _ _ _ _ (known self.slots b.lane _ _ is q.1.slot) in
     let kept : c.decided-kept.result ≡ ds = c.decided-kept.ensures ∙ c.as_slice-ds.ensures in
-    let here : SlotStands (Taken b.number part rs c.in-Locked.at) J b.lane = rw num at (old.lanes b.lane _ is) in
-    let slots : c.put.new.self ≡ set self.slots b.lane (Finished b.number part rs ds c.in-Locked.at c.in-Finish.stamp) =
+    let here : SlotStands (Taken b.number part rs c.in-Locked.locked_at) J b.lane = rw num at (old.lanes b.lane _ is) in
+    let slots : c.put.new.self ≡ set self.slots b.lane (Finished b.number part rs ds c.in-Locked.locked_at c.in-Finish.stamp) =
     rw c.take.ensures.after at c.put.ensures ∙ set_set self.slots b.lane (Free 0 0) _
-    ∙ ap (λ (n : ℕ). set self.slots b.lane (Finished n part rs c.decided-kept.result c.in-Locked.at c.in-Finish.stamp)) num
-    ∙ ap (λ (k : List Bool). set self.slots b.lane (Finished b.number part rs k c.in-Locked.at c.in-Finish.stamp)) kept in
+    ∙ ap (λ (n : ℕ). set self.slots b.lane (Finished n part rs c.decided-kept.result c.in-Locked.locked_at c.in-Finish.stamp)) num
+    ∙ ap (λ (k : List Bool). set self.slots b.lane (Finished b.number part rs k c.in-Locked.locked_at c.in-Finish.stamp)) kept in
     let gone = rw (c.as_slice.ensures, c.as_slice-ds.ensures) at c.take_committed.ensures in
     let back = rw (c.as_slice-2.ensures, c.as_slice-3.ensures, c.as_slice-ds.ensures) at c.return_others.ensures in
     let made = rw (c.as_slice-4.ensures, c.as_slice-ds.ensures) at c.make_committed.ensures in
     rw c.in-Finish.is
     (record {
-      lanes = rw slots (finish_stands self.slots J c.in-Finish.stamp b ds part rs c.in-Locked.at old.lanes here);
+      lanes = rw slots (finish_stands self.slots J c.in-Finish.stamp b ds part rs c.in-Locked.locked_at old.lanes here);
       last = refl;
       hashes = agrees_finish J c.in-Finish.stamp b ds part rs self.unspent.hashes c.take_committed.new.unspent.hashes c.return_others.new.unspent.hashes c.make_committed.new.unspent.hashes
           self.locks.held c.take_committed.new.locks.held c.return_others.new.locks.held c.make_committed.new.locks.held here.2 here.3 old.hashes
