@@ -1,6 +1,5 @@
 -- What was seen beside the first file is taken of a kept ledger.
-use Rattle.std.proofs.Common.{◌≡◌, ◌⊎◌, inl, inr, ℕ, zero, suc, ◌<◌, ◌≤◌, ◌++◌, Bool, true, false, List, [], ◌∷◌, length, reverse, map, Option, Some, None, refl, sym, ap, ◌∙◌, subst, arith}
-use Rattle.std.specs.Prelude.{slice_index_or}
+use Rattle.std.proofs.Common.{◌≡◌, inl, inr, ℕ, zero, suc, ◌<◌, ◌≤◌, Bool, true, false, List, [], ◌∷◌, length, reverse, Option, Some, None, refl, sym, ap, ◌∙◌, subst, arith}
 use Rattle.std.specs.Global.{Vec}
 use Rattle.std.proofs.lemmas.Bool.{cases_lt}
 use Rattle.std.proofs.lemmas.List.{append-nil, length-map, length-reverse}
@@ -28,7 +27,7 @@ use Rattle.lane_waves.proofs.Looking.{saw_by}
 use Rattle.file_runs.specs.Looking.{AreLooks}
 use Rattle.file_runs.specs.Telling.{TellFiles}
 use Rattle.file_runs.specs.declared.waves.Wave.{Wave}
-use Rattle.workload.specs.Generator.{mint_of, splits_of, joins_of}
+use Rattle.workload.specs.Generator.{mint_of, joins_of}
 use Rattle.gen_command.specs.Generated.{all_good, files_of, all_submissions}
 use Rattle.gen_command.specs.Watched.{IsCutVerdict, HasCut, IsCutValue, told_if, lists_in, IsSeen, IsSeenFirst, IfSeenFirst, IsCutTold}
 

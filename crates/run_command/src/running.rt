@@ -70,6 +70,7 @@ where
         &inputs.files,
         &inputs.verdicts,
         options,
+        false,
         gate,
     ) {
         Ok(ran) => Ok(FilesRan { inputs, ran }),

@@ -24,8 +24,8 @@ cut-requires-clause-full g c n inside =
     let same = ap read c.deref.ensures.value ∙ c.in_ok-all.ensures in
     subst (λ ls. 0 < length (journal_in ls n)) (sym same) (c.requires.full n (subst (λ m. n < m) (as_many c.deref.result.now c.args.lists.now same) inside))
 
-pub audit_part-requires : goal.audit_part-requires
-audit_part-requires g c κs k =
+pub audit_part-requires-clause-places : goal.audit_part-requires-clause-places
+audit_part-requires-clause-places g c κs k =
     let slices : c.deref.result.now ≡ c.deref-2.result.now = c.deref.ensures.value ∙ sym c.deref-2.ensures.value in
     subst (λ (l : List Place). All (IsRecordPlace (read c.deref-2.result.now)) l) (sym c.as_slice.ensures)
     (subst (λ s. All (IsRecordPlace (read s)) c.in_ok-history.field-0.history) slices c.in_ok-history.ensures.places)
