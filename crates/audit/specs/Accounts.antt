@@ -26,11 +26,11 @@ abbrev pub EachSpends : List Row → Type 0
 EachSpends past = All (λ form. 0 < length form.inputs) (committed past)
 
 -- the journals have a history on top of the mint's first records, in which each record is caused by those before it and each Prepare's batch is
--- done; each committed transaction was handed in, and folding them from the mint in the order of their Commits, where each found all its
--- inputs, leaves a book; the shards together hold exactly the hashes of its coins, none was spent twice, every batch is finished alike on all
--- its shards; by any measure of outputs the book and what was taken come to what was minted and what was made, so where no transaction makes other
--- than it takes, the coins' value is the value minted, and where each keeps the money, money is what was minted plus issued less redeemed; the totals
--- are those of this book and these transactions
+-- done. Each committed transaction was handed in, and folding them from the mint in the order of their Commits, where each found all its inputs,
+-- leaves a book. The shards together hold exactly the hashes of its coins, none was spent twice, every batch is finished alike on all its shards.
+-- By any measure of outputs the book and what was taken come to what was minted and what was made. So where no transaction makes other than it
+-- takes, the coins' value is the value minted, and where each keeps the money, money is what was minted plus issued less redeemed. The totals are
+-- those of this book and these transactions
 pub record IsAccounted (K : Shape) (mint : List Output) (handed : List FullTx) (J : ℕ → List Record) (totals : Totals) : Type 0 where
   pub later : List Row
   pub history : IsHistory K (minted mint) J later

@@ -13,11 +13,11 @@ FitsReplies [] (d ∷ ds) = ⊥
 FitsReplies (a ∷ es) [] = ⊥
 FitsReplies (a ∷ es) (d ∷ ds) = (d ≡ true → is_held a.reply ≡ true) × FitsReplies es ds
 
--- the record follows the node's journal `past`: a Genesis and a Start follow an empty one; any other has a stamp above the last one; a Lock is on
+-- the record follows the node's journal `past`: a Genesis and a Start follow an empty one; any other has a stamp above the last one. A Lock is on
 -- an idle lane, with a greater number and the replies that the journal gives; a Finish is of the slot's number, which is locked, with as many
--- decisions as entries and commit only for Held; a Forget is of the slot's number, which is finished; a Prepare is on an idle lane, with the
--- slot's number and one more; a Commit, a Discard and a Done are of the slot's number, which is prepared, committed and discarded, the Commit with
--- as many outcomes as transactions; these last four are of the coordinator's own lanes only
+-- decisions as entries and commit only for Held; a Forget is of the slot's number, which is finished. A Prepare is on an idle lane, with the slot's
+-- number and one more; a Commit, a Discard and a Done are of the slot's number, which is prepared, committed and discarded, the Commit with as many
+-- outcomes as transactions; these last four are of the coordinator's own lanes only
 abbrev pub Follows : Header → List Record → Record → Type 0
 Follows h past (Genesis header hs) = past ≡ []
 Follows h past (Start header) = past ≡ []

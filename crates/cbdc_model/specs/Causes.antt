@@ -31,11 +31,11 @@ IsStamped stamp own cause = stamp ≡ next_stamp own cause
 abbrev pub last_of : Shape → (ℕ → List Record) → ℕ → Batch → ℕ
 last_of K journals kind b = greatest (λ s. stamp_in (at_shards K journals kind b s)) K.shards
 
--- the record's causes stand in these journals, it agrees with them, and its stamp is one more than the greatest of its node's last one and
--- theirs (a Prepare has none, and of a first record nothing is asked): a Lock with its Prepare, of which it has the part for its shard, a Commit
--- with all Locks, whose replies make its outcomes, a Finish with its Commit, whose decisions it has for the entries of the shard's own Lock, a
--- Discard with all Finishes, a Forget with its Discard, a Done with all Forgets. Each concerned shard has its Lock, Finish or Forget; replies and
--- stamps are looked for at all shards, of which the others have no record of the batch in kept journals
+-- the record's causes stand in these journals, it agrees with them, and its stamp is one more than the greatest of its node's last one and theirs
+-- (a Prepare has none, and of a first record nothing is asked). The cause of a Lock is its Prepare, of which it has the part for its shard; of a
+-- Commit all Locks, whose replies make its outcomes; of a Finish its Commit, whose decisions it has for the entries of the shard's own Lock. The
+-- cause of a Discard is all Finishes, of a Forget its Discard, of a Done all Forgets. Each concerned shard has its Lock, Finish or Forget; replies
+-- and stamps are looked for at all shards, of which the others have no record of the batch in kept journals
 abbrev pub IsCaused : Shape → (ℕ → List Record) → ℕ → Record → Type 0
 IsCaused K journals node (Genesis header hs) = Unit {0}
 IsCaused K journals node (Start header) = Unit {0}

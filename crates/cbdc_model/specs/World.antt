@@ -107,7 +107,7 @@ abbrev pub IsQuiet : World → ℕ → Type 0
 IsQuiet w n = (n < length w) × ((node_at w n).up ≡ true) × ((node_at w n).flight ≡ None)
 
 -- where an event changes something: a record is begun at a node that is up with nothing in flight, where it is after the journal and caused; one
--- ends at a node that is up and has one in flight; a node that is up crashes, and one that is down is opened again; a call is made again at a node
+-- ends at a node that is up and has one in flight; a node that is up crashes, and one that is down is opened again. A call is made again at a node
 -- that is up with nothing in flight, a shard that the batch concerns, where the call's cause stands and the shard appends a record for it, which is
 -- in the grammar
 abbrev pub Allowed : Shape → Minted → World → Event → Type 0

@@ -20,8 +20,8 @@ impl<D: Disk> CoordLog<D> {
     /// Opens a coordinator's disk. A refusal hands the disk back.
     ///
     /// At Ok the coordinator's journal is that of the disk's bytes, each record after those before it, with nothing in flight, and its bytes with
-    /// those kept for its open batches lie within the capacity; else which refusal it is: no whole first record, a shard's journal, damaged at the
-    /// first open gate with no whole next record, or too full, with its numbers; DiskFault only where the count rose; unless the disk failed, it
+    /// those kept for its open batches lie within the capacity. Else which refusal it is: no whole first record, a shard's journal, damaged at the
+    /// first open gate with no whole next record, or too full, with its numbers; DiskFault only where the count rose. Unless the disk failed, it
     /// reads as before; a crash leaves nothing new.
     ///
     /// Out of memory: the disk comes back as it was read.

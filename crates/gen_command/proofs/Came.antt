@@ -45,7 +45,7 @@ use Rattle.printed_lines.specs.Unspent.{IsUnspentCount}
 use Rattle.workload.specs.Generator.{mint_of, minted_of, joined_of, split_of, join_of}
 use Rattle.audit_command.specs.Audits.{IsUnsoundBy}
 use Rattle.command_answers.specs.Causes.{IsAnswerToRequest}
-use Rattle.run_command.specs.Told.{IsCountable, numbers_of}
+use Rattle.run_lines.specs.Told.{IsCountable, numbers_of}
 use Rattle.gen_command.specs.Generated.{all_good, files_of, all_submissions, made_for, IsWorkloadRun, HasVerdictOf, EndsWorkload, batches_for, IsWorkloadText, StandsOnMirrors, IsUnsoundWorkload, WhyNoWorkload}
 use Rattle.submission_laws.specs.Files.{mint_journals}
 use Rattle.gen_command.specs.InMemory.{AreDisksReady, AreMirrorsEmpty, HaveRoomForFiles, TellsRunOf, IsWorkloadResult, IsCheckedSound, IsUnchecked, mirror_disks}
@@ -58,7 +58,7 @@ use Rattle.rack_runs.proofs.Lanes.{run_none}
 use Rattle.rack_laws.proofs.Openings.{unopened_none}
 use Rattle.rack_laws.proofs.KeptRooms.{ample_rooms, idle_rooms, more_room, used_within}
 use Rattle.rack_laws.proofs.Sound.{never_unsound}
-use Rattle.run_command.proofs.Numbers.{run_numbers, countable}
+use Rattle.run_lines.proofs.Numbers.{run_numbers, countable}
 use Rattle.gen_command.proofs.Cut.{batches_are_cut}
 use Rattle.gen_command.proofs.Refused.{none_open, none_refused, all_decided}
 use Rattle.gen_command.proofs.Workloads.{few}

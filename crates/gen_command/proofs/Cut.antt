@@ -24,7 +24,7 @@ use Rattle.file_runs.specs.declared.ran.Ran.{Ran}
 use Rattle.printed_lines.specs.Decided.{added, batches_below, new_batches}
 use Rattle.workload.specs.Generator.{mint_of, minted_of, joined_of, splits_of, joins_of, split_of, join_of}
 use Rattle.gen_command.specs.Generated.{all_good, files_of, made_for, rounded_up, sent_of, cut_below, batches_for}
-use Rattle.run_command.proofs.Decisions.{added_is}
+use Rattle.run_lines.proofs.Decisions.{added_is}
 use Rattle.submission_laws.proofs.Sound.{IsGood, splits_sound, joins_sound}
 
 -- ---- pieces

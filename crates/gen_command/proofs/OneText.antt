@@ -24,7 +24,7 @@ use Rattle.submission_laws.specs.Whole.{left_of, totals_of, IsWorkloadWhole}
 use Rattle.submission_laws.proofs.Sound.{IsGood, two_sum, splits_sound, joins_sound}
 use Rattle.submission_laws.proofs.Whole.{whole_law}
 use Rattle.gen_command.specs.Generated.{all_good, files_of, all_submissions, made_for, HasVerdictOf, EndsWorkload, batches_for, clean_text}
-use Rattle.run_command.proofs.Numbers.{lanes_there}
+use Rattle.run_lines.proofs.Numbers.{lanes_there}
 use Rattle.gen_command.proofs.Refused.{none_in}
 
 module _ (K : Shape) (seed n : ℕ) (X : ℕ → List Record) (all_won : (k j : ℕ) (t : FullTx) (it : IsSent all_good (files_of seed n) k j t) → IsSubmissionConfirmed K all_good (files_of seed n) (made_for K seed n) X k it.file j t) where

@@ -23,7 +23,7 @@ use Rattle.rack_runs.specs.Telling.{IsRunTold}
 use Rattle.file_runs.specs.declared.ran.Ran.{Ran}
 use Rattle.workload.specs.Generator.{mint_of}
 use Rattle.audit_command.specs.Audits.{IsUnsoundBy, WhyUnopened}
-use Rattle.run_command.specs.Told.{IsCountable, numbers_of}
+use Rattle.run_lines.specs.Told.{IsCountable, numbers_of}
 use Rattle.gen_command.specs.Generated.{all_good, all_submissions, IsWorkloadRun, HasVerdictOf, EndsWorkload, StandsOnMirrors}
 use Rattle.submission_laws.specs.Files.{mint_journals}
 

@@ -21,7 +21,7 @@ use outside::{Gate, Sink};
 use rack_ledgers::audit_on;
 use rack_runs::run_on;
 use requests::{GenOptions, RunOptions};
-use run_command::write_generated;
+use run_lines::write_generated;
 use sentinel::AllGood;
 use std::alloc::{AllocError, Global};
 use std::sync::Wait;

@@ -29,10 +29,9 @@ pub fn plain_law()
     ensures { PlainLaw }
 {}
 
-/// From the first world, whatever records are begun and ended, whichever nodes crash, with or
-/// without what was in flight, and are opened again, and whichever calls are made again however
-/// old: the journals always have one history by stamp and node in which each record follows its
-/// journal and is caused by records before it, and what is in flight follows and is caused too.
+/// From the first world: whatever records are begun and ended, whichever nodes crash, with or without what was in flight, and are opened again, and
+/// whichever calls are made again however old. The journals always have one history by stamp and node in which each record follows its journal and
+/// is caused by records before it, and what is in flight follows and is caused too.
 pub fn kept_law()
     ensures { KeptLaw }
 {}

@@ -60,9 +60,9 @@ impl<'a> Plan<'a> {
         requires ledger { AreShardsOf self.shape (S.sights ports.old.shards) }
         requires mine { All (λ o. S.serves ports.old.shards o.batch.lane) self.lanes }
 
-        // Each batch is at its end, and is told with the phase in which it stood and the outcomes of its Commit; or one stopped, at the least shard's
-        // fault of a phase all of whose calls were made, or at its coordinator's: those before it are at their end, and each of those behind it was
-        // taken up still, to its end or until it stopped too.
+        // Each batch is at its end, and is told with the phase in which it stood and the outcomes of its Commit. Or one stopped, at the least
+        // shard's fault of a phase all of whose calls were made, or at its coordinator's: those before it are at their end, and each of those
+        // behind it was taken up still, to its end or until it stopped too.
         ensures outcome { PortsTell L.LogPort S.PortSet ports.old ports.new
             (OpenLanesResult self.entry.shape L.alone self.entry.lanes result) }
         ensures idle { OnOk result (All (λ o. L.phase ports.new.log o.batch.lane ≡ Idle) self.entry.lanes) }

@@ -37,7 +37,7 @@ pub fn resume<S: PortSet<G>, L: LogPort, G: Gate>(
     requires ledger { AreShardsOf shape.now (S.sights ports.old.shards) }
     requires mine { All (λ o. S.serves ports.old.shards o.batch.lane) lanes.now }
 
-    // Each batch is at its end, and is told with the phase in which it stood and the outcomes of its Commit; or one stopped, at the least shard's
+    // Each batch is at its end, and is told with the phase in which it stood and the outcomes of its Commit. Or one stopped, at the least shard's
     // fault of a phase all of whose calls were made, or at its coordinator's: those before it are at their end, and each of those behind it was
     // taken up still, to its end or until it stopped too.
     ensures outcome { PortsTell L.LogPort S.PortSet ports.old ports.new

@@ -18,8 +18,8 @@ use Rattle.rack_laws.specs.Shown.{OfShown}
 use Rattle.file_runs.specs.declared.ran.Ran.{Ran}
 use Rattle.rack_runs.specs.Telling.{IsRunTold}
 use Rattle.run_command.specs.Outcomes.{DidRun, PrintsRun, WasRun}
-use Rattle.run_command.specs.Told.{IsCountable, ran_text}
-use Rattle.run_command.proofs.Numbers.{lanes_there, run_text, countable}
+use Rattle.run_lines.specs.Told.{IsCountable, ran_text}
+use Rattle.run_lines.proofs.Numbers.{lanes_there, run_text, countable}
 
 pub prints_run : {D : Type 0} (device : Ghosts D) (before now : ℕ → Option D) (printed : Text → Type 0) (verdicts : VerdictsOf) (files : List (List FullTx)) (ran : Ran) → all_txs files ≤ 1000000
     → OfShown device before (IsRunTold device now verdicts files ran) → (IsCountable ran → printed (ran_text ran)) → PrintsRun device before now printed verdicts files

@@ -22,7 +22,7 @@ use Rattle.rack_runs.specs.Telling.{IsRunTold}
 use Rattle.rack_runs.proofs.Ledgers.{recovered}
 use Rattle.run_command.specs.RecoverOutcomes.{PrintsRecovery}
 use Rattle.run_command.specs.Texts.{batch_text, batch_texts}
-use Rattle.run_command.proofs.Resumed.{phase_open, count_below}
+use Rattle.run_lines.proofs.Resumed.{phase_open, count_below}
 
 abbrev won : List Outcome → List Outcome
 won os = filter is_won os

@@ -1,7 +1,7 @@
 // `run`: the transactions of client files, file by file.
 ghost use Rattle.std.specs.Prelude.{◌≡◌, ◌⊎◌, ℕ, IfOk, IfErr};
 ghost use Rattle.outside.specs.Counts.{HasCause};
-ghost use Rattle.run_command.specs.Reports.{Reports};
+ghost use Rattle.run_lines.specs.Reports.{Reports};
 ghost use Rattle.command_answers.specs.Causes.{IsReadOrNodeFault};
 ghost use Rattle.command_answers.specs.Promises.{HasKept};
 ghost use Rattle.run_command.specs.Promises.{run_promise, run_needs};
@@ -11,7 +11,7 @@ ghost use Rattle.rack_ledgers.specs.Racked.{disks_in};
 ghost use Rattle.line_text.specs.Lines.{Text};
 ghost use Rattle.command_answers.specs.Left.{IsBeforeDisks};
 
-use crate::write_report;
+use run_lines::write_report;
 use cbdc_types::{Answer, FullTx, List};
 use file_runs::Ran;
 use input_files::{Inputs, inputs_in};

@@ -110,9 +110,9 @@ pub fn grant_law()
 /// In checked journals a lane stops with Full or ClockEnd only at the record that it needs next, by its numbers there, with a disk's fault
 /// only where that node's disk has failed since it was opened, and never because a shard refuses.
 ///
-/// In checked journals a lane stops with Full or ClockEnd only at the record that it needs next at that node (its next Prepare, or the Lock of a
-/// concerned shard that has not come to the batch), with the numbers of the journal there; with a disk's fault only where that node's disk has
-/// failed since it was opened; and never because a shard refuses.
+/// In checked journals a lane stops with Full or ClockEnd only at the record that it needs next at that node, with the numbers of the journal
+/// there: its next Prepare, or the Lock of a concerned shard that has not come to the batch. It stops with a disk's fault only where that node's
+/// disk has failed since it was opened, and never because a shard refuses.
 pub fn stop_law()
     ensures { StopLaw }
 {}

@@ -1,5 +1,5 @@
-//! What a sentinel makes of a transaction, without the ledger: its id, the hashes of its coins, and its compact form, which is what coordinators and
-//! shards see of it; a mint as a transaction, with its id; and whether its form, its sums and the verdicts on its witnesses let it pass, with the
+//! What a sentinel makes of a transaction, without the ledger: its id, the hashes of its coins, and its compact form, which is what coordinators
+//! and shards see of it; a mint as a transaction, with its id. Whether its form, its sums and the verdicts on its witnesses let it pass, with the
 //! verifier that is asked for these and the file that has them.
 //!
 //! - `check`: It takes no memory. A repeated outpoint is sought by comparing each input with those before it, at most 255 * 254 / 2 comparisons.
@@ -33,11 +33,12 @@ use steps::{
 };
 pub use verifier::{AllGood, Verdict, Verifier};
 
-/// Checks a transaction with this id. The refusal is the first reason that applies: no inputs, no outputs,
-/// another number of witnesses than of inputs, a repeated outpoint, an input of value 0, an output of value
-/// 0, a sum of the inputs or of the outputs past 2^64 - 1, unlike sums, an input that claims a burn output,
-/// permits that are neither none and none nor one and one, a permit of more value than the one that is
-/// spent, a bad witness, a witness of which nothing is known. A place is always the least.
+/// Checks a transaction with this id. The refusal is the first reason that applies, and a place is always the least:
+///
+/// - no inputs, no outputs, another number of witnesses than of inputs, a repeated outpoint;
+/// - an input of value 0, an output of value 0, a sum of the inputs or of the outputs past 2^64 - 1, unlike sums;
+/// - an input that claims a burn output, permits that are neither none and none nor one and one, a permit of more value than the one that is spent;
+/// - a bad witness, a witness of which nothing is known.
 pub fn check<V: Verifier>(tx: &FullTx, id: &Hash, verifier: &V) -> Result<(), Refusal>
     ensures { MatchResult result
         (λ _. IsSoundTx tx.now (V.verdict_of verifier.now id.now))

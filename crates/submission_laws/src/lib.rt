@@ -13,9 +13,9 @@ pub use workload_run::whole_law;
 /// every shard held it, else with the least shard that refused it, and the hash and the cause of that shard's reply.
 ///
 /// Behind a run from kept journals to kept journals: each sound submission has its one place in one new Prepare of its lane, which has its compact
-/// form there, and nothing else has one; its coordinator wrote down the outcome that the shards' replies give, Held exactly where every shard that
-/// it concerns held it, else naming the least that did not, with the hash and cause of its reply; each Lock has the replies that the journal before
-/// it gives; and what is reported of the submission is that place's batch and outcome.
+/// form there, and nothing else has one. Its coordinator wrote down the outcome that the shards' replies give: Held exactly where every shard that
+/// it concerns held it, else naming the least that did not, with the hash and cause of its reply. Each Lock has the replies that the journal before
+/// it gives, and what is reported of the submission is that place's batch and outcome.
 pub fn settled_law()
     ensures { SubmissionSettledLaw }
 {}

@@ -49,7 +49,7 @@ abbrev pub are_paired : ℕ → ℕ → Bool
 are_paired ins outs = (ins == outs) && nat_lt ins 2
 
 -- some inputs; some outputs; as many witnesses as inputs; no outpoint twice; no input of value 0; no output of value 0; a sum of the inputs below
--- 2^64, and one of the outputs; equal sums; no input that claims a burn output; permits that are none and none or one and one, the one that is made
+-- 2^64, and one of the outputs; equal sums. No input that claims a burn output; permits that are none and none or one and one, the one that is made
 -- with no greater value; no witness of an input that is bad, and none of which nothing is known
 abbrev pub is_sound : FullTx → Verdicts → Bool
 is_sound t verdicts =

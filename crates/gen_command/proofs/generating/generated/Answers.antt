@@ -2,7 +2,7 @@ use Rattle.std.proofs.Common.{◌++◌}
 use Rattle.outside.specs.Counts.{Rose}
 use Rattle.line_text.specs.Reports.{audit_text}
 use Rattle.gen_command.specs.Generated.{WhyNoWorkload}
-use Rattle.run_command.specs.Told.{numbers_of}
+use Rattle.run_lines.specs.Told.{numbers_of}
 use Rattle.command_answers.proofs.Answers.{told}
 use Rattle.command_answers.proofs.Silent.{silent_same}
 use Rattle.gen_command.proofs.Came.{why_done, text_of}
