@@ -1,4 +1,4 @@
-use Rattle.std.proofs.Common.{◌≡◌, ◌≤◌, ◌∙◌, ◌++◌, ◌∷◌, [], ℕ, List, Some, IsSome, length, subst, sym, ap, refl, arith}
+use Rattle.std.proofs.Common.{◌∷◌, [], ℕ, List, IsSome, length, subst, sym, ap, refl, arith}
 use Rattle.std.proofs.lemmas.List.{length-append}
 use Rattle.mem_devices.specs.declared.fault_disk.FaultDisk.{FaultDisk}
 use Rattle.mirror_rows.proofs.Alike.{AreFresh, none_fresh, one_fresh, fresh_even, fresh_told, none_failed}
