@@ -11,7 +11,6 @@ ghost use Rattle.rack_ledgers.specs.Racked.{disks_in};
 ghost use Rattle.line_text.specs.Lines.{Text};
 ghost use Rattle.command_answers.specs.Left.{IsBeforeDisks};
 
-use run_lines::write_report;
 use cbdc_types::{Answer, FullTx, List};
 use file_runs::Ran;
 use input_files::{Inputs, inputs_in};
@@ -19,6 +18,7 @@ use line_text::WriteFault;
 use outside::{Gate, Inbox, Rack, Sink};
 use rack_runs::run_on;
 use requests::{FileWord, RunOptions};
+use run_lines::write_report;
 use std::alloc::Global;
 use std::sync::Wait;
 use std::thread::{Threads, join_mut};
