@@ -2,7 +2,7 @@
 //!
 //! - Its `main` calls `process` with the real devices and ends with its status. The gate runs it on all that README.md, the tutorial and the
 //!   examples show; the system calls of a run on its journals, syncs of files and of folders among them, are traced and compared with docs/FORMATS.md
-//!   (`tools/trace-syncs`).
+//!   (`tools/gate/trace-syncs`).
 #![tactic(auto)]
 
 use cbdc_types::Answer;

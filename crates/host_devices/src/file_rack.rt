@@ -13,7 +13,7 @@ use std::{fs, io};
 /// until its disk is put back or the program ends, and a file that another program holds can't be taken. There is one count of faults for all.
 ///
 /// `take` takes a node's file under a lock, so that a file which another program has is a counted fault. Tested: in the rows of `device_rows`, and
-/// by two programs at once over one rack (`tools/two-at-once`).
+/// by two programs at once over one rack (`tools/gate/two-at-once`).
 #[derive(Drop)]
 pub struct FileRack<R: Files<File = File> + Drop> {
     rt: R,
