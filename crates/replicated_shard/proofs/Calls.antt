@@ -1,5 +1,5 @@
 -- A shard's call as a list of a group's steps.
-use Rattle.std.proofs.Common.{◌≡◌, inl, inr, ℕ, ◌≤◌, Bool, true, false, List, [], ◌∷◌, length, map, reverse, Option, Some, None, IfSome, Result, Ok, Err, refl, sym, ap, ◌∙◌, subst, arith}
+use Rattle.std.proofs.Common.{◌≡◌, inl, inr, ℕ, ◌+◌, ◌-◌, ◌<◌, ◌≤◌, Bool, true, false, List, [], ◌∷◌, length, map, reverse, Option, Some, None, IfSome, Result, Ok, Err, slice_get, refl, sym, ap, ◌∙◌, subst, arith}
 use Rattle.std.proofs.lemmas.List.{reverse-append, reverse-reverse, length-reverse}
 use Rattle.cbdc_types.specs.declared.calls.NodeFault.{NodeFault}
 use Rattle.cbdc_types.specs.declared.calls.NodeFault.TheVariants.{Broken, Refused as Refuses, ClockEnd, Full, DiskFault, Memory}
@@ -18,12 +18,16 @@ use Rattle.shard_replica.specs.Groups.{member_at, held}
 use Rattle.shard_replica.specs.Steps.{Allowed, effect}
 use Rattle.shard_replica.specs.Rounds.{IsAtRest, round}
 use Rattle.shard_replica.proofs.Proved.{round_law}
-use Rattle.replicated_shard.specs.Groups.{StandsFor, GoesBySteps, GroupNode, MemberFailed}
+use Rattle.replicated_shard.specs.Groups.{StandsFor, GoesBySteps, GroupNode, MemberFailed, EachHolds}
+use Rattle.record_log.specs.Held.{OpensTo, OpensToEither}
+use Rattle.node_journal.specs.Nodes.{HoldsJournal}
+use Rattle.std.proofs.lemmas.Option.{slice_get_within}
+use Rattle.shard_replica.specs.Groups.{Group}
 
 -- a call that writes nothing
 stays : (h : Header) (backups : ℕ) (was now : List Record) (flying flight : Option Record) → now ≡ was → flight ≡ flying → GoesBySteps h backups was flying now flight
 stays h backups was now flying flight e f =
-    λ g s. ([], g, refl, subst (λ J. StandsFor h backups J flight g) (sym e) (subst (λ o. StandsFor h backups was o g) (sym f) s))
+    λ g s. ([], g, inl refl, refl, subst (λ J. StandsFor h backups J flight g) (sym e) (subst (λ o. StandsFor h backups was o g) (sym f) s))
 
 -- a record that is written goes round
 appends : (h : Header) (backups : ℕ) (was : List Record) (r : Record) → IsJournal h was → IsJournal h (r ∷ was) → GoesBySteps h backups was None (r ∷ was) None
@@ -31,7 +35,7 @@ appends h backups [] r w n = absurd w
 appends h backups (q ∷ past) r w n = λ g s.
     let some : 1 ≤ length (reverse (q ∷ past)) = (let l : length (reverse (q ∷ past)) ≡ length (q ∷ past) = length-reverse (q ∷ past) in omega (arith, l)) in
     let k = round_law h backups (reverse (q ∷ past)) r g some s (subst (λ J. After h J r) (sym (reverse-reverse (q ∷ past))) n.0) in
-    (round backups g r, k.0, k.1, subst (λ xs. IsAtRest h backups xs k.0) (sym (reverse-append (r ∷ []) (q ∷ past))) k.2)
+    (round backups g r, k.0, inr (inl (r, refl)), k.1, subst (λ xs. IsAtRest h backups xs k.0) (sym (reverse-append (r ∷ []) (q ∷ past))) k.2)
 
 -- a record at which a disk fails was taken
 fails : (h : Header) (backups : ℕ) (was : List Record) (r : Record) → After h was r → GoesBySteps h backups was None was (Some r)
@@ -42,7 +46,7 @@ fails h backups was r next = λ g s.
       ap length held_g ∙ sym s.answered,
       subst (λ J. After g.header J r) (sym past) (subst (λ x. After x was r) (sym s.header) next),
     ) in
-    (Take r ∷ [], effect g (Take r), (effect g (Take r), inl (may, refl), refl), (g, s, refl))
+    (Take r ∷ [], effect g (Take r), inr (inr (r, refl)), (effect g (Take r), inl (may, refl), refl), (g, s, refl))
 
 -- a broken node writes nothing
 pub owes_whole : {A : Type 0} (o : Option ℕ) (due : Due A) (a : A) (r : Record) → unless_broken o due ≡ Writes a r → o ≡ None
@@ -105,3 +109,12 @@ module _ {A D : Type 0} (device : Ghosts D) (memory : Bool) (due : Due A) (old n
         rose = rose;
         member = blamed (omega (arith, rose, count));
       }
+
+-- with nothing in flight each member's disk opens to the member's list
+module _ {D : Type 0} (device : Ghosts D) (new : GroupNode device) (quiet : new.flight ≡ None) (held_by : EachHolds device new) (g : Group)
+    (rest : IsAtRest new.header (length new.disk.disks.items - 1) (reverse new.journal) g) where
+  pub opens_list : (k : ℕ) (d : D) → slice_get new.disk.disks.items k ≡ Some d → (c : List ℕ) → device.images d c → OpensTo (member_at g k).records c
+  opens_list k d is c image =
+      let lt : k < length new.disk.disks.items = slice_get_within new.disk.disks.items k d is in
+      let own : (member_at g k).records ≡ reverse new.journal = ap (λ m. m.records) (rest.members k (omega (arith, lt))) in
+      subst (λ rs. OpensTo rs c) (sym own) (subst (λ o. OpensToEither (reverse new.journal) o c) quiet (held_by k d is c image))

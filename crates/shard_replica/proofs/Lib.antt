@@ -9,3 +9,4 @@ pub mod Runs
 pub mod Standing
 pub mod Rounds
 pub mod Proved
+pub mod Journals

@@ -12,7 +12,7 @@ use Rattle.shard_replica.specs.Steps.{Allowed, copied, delivered, effect, Step, 
 use Rattle.shard_replica.specs.Rounds.{IsAtRest, sendings, round}
 use Rattle.shard_replica.proofs.Lists.{get_push}
 
-run_more : (g k l : Group) (es fs : List GroupEvent) → Run g es k → Run k fs l → Run g (es ++ fs) l
+pub run_more : (g k l : Group) (es fs : List GroupEvent) → Run g es k → Run k fs l → Run g (es ++ fs) l
 run_more g k l [] fs same run = subst (λ x. Run x fs l) same run
 run_more g k l (e ∷ es) fs run more = (run.0, run.1, run_more run.0 k l es fs run.2 more)
 

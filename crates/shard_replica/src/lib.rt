@@ -8,5 +8,5 @@
 mod laws;
 mod packets;
 
-pub use laws::{answered_law, promoted_law, replica_law, round_law};
+pub use laws::{answered_law, journal_law, promoted_law, replica_law, round_law};
 pub use packets::{GroupEvent, Packet};
